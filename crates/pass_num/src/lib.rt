@@ -1,0 +1,11 @@
+//! Number fields, big-endian: taken off the front of bytes, and put at the end of a vector.
+#![tactic(auto)]
+
+mod cursor;
+mod put;
+
+pub use cursor::{Cursor, Short};
+pub use put::{put_u8, put_u16, put_u32, put_u64};
+
+#[cfg(test)]
+mod tests;

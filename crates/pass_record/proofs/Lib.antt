@@ -1,0 +1,5 @@
+pub mod Parts
+pub mod Steps
+pub mod RecordFields
+pub mod Records
+pub mod Spellings

@@ -1,0 +1,5 @@
+pub mod Heaps
+pub mod Jobs
+pub mod Passes
+pub mod Shared
+pub mod Turns

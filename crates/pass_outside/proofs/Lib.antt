@@ -1,0 +1,4 @@
+pub mod Dues
+pub mod Flat
+pub mod Kept
+pub mod Steps

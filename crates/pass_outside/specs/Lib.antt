@@ -1,0 +1,14 @@
+pub mod Faults
+pub mod Areas
+pub mod Moments
+pub mod Runs
+pub mod NoDisk
+pub mod Scripts
+pub mod Blocks
+pub mod Codes
+pub mod History
+pub mod Keeping
+pub mod Memory
+pub mod Streams
+pub mod Images
+pub mod Laws

@@ -1,0 +1,35 @@
+//! The outside of the store: sources, sinks, a disk of two areas, gates, and forms of them in memory.
+#![tactic(auto)]
+
+mod areas;
+mod blocks;
+mod change;
+mod changes;
+mod content;
+#[cfg(test)]
+mod crash_tests;
+mod disk;
+mod due;
+mod fault;
+mod gate;
+mod keep;
+mod memory;
+mod no_disk;
+mod plan;
+mod sink;
+mod source;
+mod stream;
+mod synced;
+#[cfg(test)]
+mod tests;
+
+pub use disk::{Area, Disk};
+pub use fault::Failed;
+pub use gate::{Gate, OpenGate};
+pub use keep::Keep;
+pub use memory::MemDisk;
+pub use no_disk::NoDisk;
+pub use sink::MemSink;
+pub use source::MemSource;
+pub use stream::{Sink, Source};
+pub use synced::{sync_both, write_synced};

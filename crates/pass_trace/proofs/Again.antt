@@ -1,0 +1,207 @@
+-- The text that is written of a trace that was read is the text of the same trace.
+use Rattle.std.proofs.Common.{◌≡◌, ℕ, suc, ◌+◌, ◌<◌, ◌≤◌, Bool, true, false, not, ◌&&◌, ◌||◌, cond, eqb, leb, ltb, List, [], ◌∷◌, ◌++◌, length, get_or, fold, map, Option, Some, None, Result, Ok, Err, refl, sym, ap, ◌∙◌, subst, inl, inr, arith, append_assoc, append-nil, length-append}
+use Rattle.std.specs.List.{list_all, list_any, onto_first}
+use Rattle.std.proofs.Math.Seq.{take-append_seam, get_or-append_seam}
+use Rattle.std.proofs.lemmas.Bool.{and_parts, cases_eq, ne_eqb, leb-true, ltb-false}
+use Rattle.pass_entry.specs.Texts.{is_line_byte}
+use Rattle.pass_trace.specs.declared.trace.Command.{Command}
+use Rattle.pass_trace.specs.declared.trace.Command.TheVariants.{Fork, Wait}
+use Rattle.pass_trace.specs.declared.trace.TraceLine.{TraceLine}
+use Rattle.pass_trace.specs.declared.trace.TraceReason.{TraceReason}
+use Rattle.pass_trace.specs.declared.trace.TraceReason.TheVariants as reason
+use Rattle.pass_trace.specs.Lines.{lines_of, words_of}
+use Rattle.pass_trace.specs.Rules.{is_fork_of, is_there, may_call, creates, count_created, rule_of}
+use Rattle.pass_trace.specs.Commands.{◌>>=◌}
+use Rattle.pass_trace.specs.Traces.{line_of, text_line_of, said, lines_from, reason_behind, fault_at, trace_of, IsTraceText}
+use Rattle.pass_trace.specs.Texts.{line_text, text_of, renumbered_from}
+use Rattle.pass_trace.proofs.LinesLemmas.{lines_from-push}
+use Rattle.pass_trace.proofs.Good.{IsGoodLine, text_line_is}
+use Rattle.pass_trace.proofs.Written.{renumbered, text_line_of-text, is_printable-text}
+
+-- no line has a fault, where the first has this number and stands behind these lines of the trace
+abbrev Sound : ℕ → List TraceLine → List (List ℕ) → Type 0
+Sound number earlier [] = Unit {0}
+Sound number earlier (text ∷ texts) = (reason_behind earlier (text_line_of number text) ≡ None) × Sound (number + 1) (earlier ++ said (text_line_of number text)) texts
+
+abbrev NoFault : List (List ℕ) → Type 0
+NoFault texts = (k : ℕ) → k < length texts → fault_at texts k ≡ None
+
+-- what stands at the place behind some lines
+fault_at-seam : (before : List (List ℕ)) (text : List ℕ) (texts : List (List ℕ)) → fault_at (before ++ text ∷ texts) (length before) ≡ reason_behind (lines_from 1 before) (text_line_of (1 + length before) text)
+fault_at-seam before text texts =
+    let next : length before + 1 ≡ 1 + length before = omega arith in
+    ap (λ b. reason_behind (lines_from 1 b) (text_line_of (length before + 1) (get_or (before ++ text ∷ texts) (length before) []))) (take-append_seam before (text ∷ texts))
+    ∙ ap (λ t. reason_behind (lines_from 1 before) (text_line_of (length before + 1) t)) (get_or-append_seam before text texts [])
+    ∙ ap (λ n. reason_behind (lines_from 1 before) (text_line_of n text)) next
+
+Sound-at : (number n : ℕ) (earlier e : List TraceLine) (texts : List (List ℕ)) → number ≡ n → earlier ≡ e → Sound n e texts → Sound number earlier texts
+Sound-at number n earlier e texts same lines s =
+    subst (λ m. Sound m earlier texts) (sym same) (subst (λ ls. Sound n ls texts) (sym lines) s)
+
+Sound-from : (before texts : List (List ℕ)) → NoFault (before ++ texts) → Sound (1 + length before) (lines_from 1 before) texts
+Sound-from before [] h = tt
+Sound-from before (text ∷ texts) h =
+    let whole = append_assoc before (text ∷ []) texts in
+    let here = sym (fault_at-seam before text texts) ∙ h (length before) (omega (arith, length-append before (text ∷ texts))) in
+    let next = Sound-from (before ++ text ∷ []) texts (subst NoFault (sym whole) h) in
+    let size = length-append before (text ∷ []) in
+    (here, Sound-at ((1 + length before) + 1) (1 + length (before ++ text ∷ [])) (lines_from 1 before ++ said (text_line_of (1 + length before) text)) (lines_from 1 (before ++ text ∷ [])) texts (omega (arith, size)) (sym (lines_from-push 1 before text)) next)
+
+NoFault-from : (before texts : List (List ℕ)) → Sound (1 + length before) (lines_from 1 before) texts → (k : ℕ) → length before ≤ k → k < length (before ++ texts) → fault_at (before ++ texts) k ≡ None
+NoFault-from before [] s k from to = absurd (omega (arith, length-append before [], from, to))
+NoFault-from before (text ∷ texts) s k from to =
+    elim (cases_eq k (length before)) [
+      | inl here ↦ ap (fault_at (before ++ text ∷ texts)) here ∙ fault_at-seam before text texts ∙ s.0
+      | inr other ↦
+          let whole = append_assoc before (text ∷ []) texts in
+          let size = length-append before (text ∷ []) in
+          let rest = Sound-at (1 + length (before ++ text ∷ [])) ((1 + length before) + 1) (lines_from 1 (before ++ text ∷ [])) (lines_from 1 before ++ said (text_line_of (1 + length before) text)) texts (omega (arith, size)) (lines_from-push 1 before text) s.1 in
+          let at = NoFault-from (before ++ text ∷ []) texts rest k (omega (arith, size, from, other)) (subst (λ ts. k < length ts) (sym whole) to) in
+          subst (λ ts. fault_at ts k ≡ None) whole at
+    ]
+
+-- lines of a trace that may follow each other behind these
+abbrev Follow : List TraceLine → List TraceLine → Type 0
+Follow earlier [] = Unit {0}
+Follow earlier (line ∷ lines) = IsGoodLine line × (rule_of earlier line ≡ None) × Follow (earlier ++ line ∷ []) lines
+
+Follow-step : (earlier : List TraceLine) (read : Result (Option TraceLine) TraceReason) (rest : List TraceLine) → ((line : TraceLine) → read ≡ Ok (Some line) → IsGoodLine line) → reason_behind earlier read ≡ None → Follow (earlier ++ said read) rest → Follow earlier (said read ++ rest)
+Follow-step earlier (Ok (Some line)) rest good fits f = (good line refl, fits, f)
+Follow-step earlier (Ok None) rest good fits f = subst (λ e. Follow e rest) (append-nil earlier) f
+Follow-step earlier (Err reason) rest good fits f = cc
+
+Follow-from : (number : ℕ) (earlier : List TraceLine) (texts : List (List ℕ)) → Sound number earlier texts → Follow earlier (lines_from number texts)
+Follow-from number earlier [] s = tt
+Follow-from number earlier (text ∷ texts) s =
+    Follow-step earlier (text_line_of number text) (lines_from (number + 1) texts) (text_line_is number text) s.0 (Follow-from (number + 1) (earlier ++ said (text_line_of number text)) texts s.1)
+
+-- a text has no more lines than are allowed
+within_cases : (a b c : Bool) (read : Result TraceLine TraceReason) (earlier : List TraceLine) → reason_behind earlier (cond a (Err reason.Many) (cond b (Err reason.Length) (cond c (Ok None) (read >>= λ l. Ok (Some l))))) ≡ None → a ≡ false
+within_cases true b c read earlier h = cc
+within_cases false b c read earlier h = refl
+
+number_within : (number : ℕ) (earlier : List TraceLine) (text : List ℕ) → reason_behind earlier (text_line_of number text) ≡ None → number ≤ 100000
+unfolding text_line_of
+number_within number earlier text h =
+    let fits = within_cases (ltb 100000 number) _ _ (line_of number (words_of text)) earlier h in
+    omega (arith, ltb-false 100000 number fits)
+
+texts_within : (number : ℕ) (earlier : List TraceLine) (texts : List (List ℕ)) → number ≤ 100001 → Sound number earlier texts → number + length texts ≤ 100001
+texts_within number earlier [] h s = omega arith
+texts_within number earlier (text ∷ texts) h s =
+    let here = number_within number earlier text s.0 in
+    let rest = texts_within (number + 1) (earlier ++ said (text_line_of number text)) texts (omega (arith, here)) s.1 in
+    omega (arith, rest)
+
+length-said : (read : Result (Option TraceLine) TraceReason) → length (said read) ≤ 1
+length-said (Ok (Some line)) = omega arith
+length-said (Ok None) = omega arith
+length-said (Err reason) = omega arith
+
+length-lines_from : (number : ℕ) (texts : List (List ℕ)) → length (lines_from number texts) ≤ length texts
+length-lines_from number [] = omega arith
+length-lines_from number (text ∷ texts) =
+    omega (arith, length-append (said (text_line_of number text)) (lines_from (number + 1) texts), length-said (text_line_of number text), length-lines_from (number + 1) texts)
+
+-- lists of lines with the same processes and commands
+abbrev Same : List TraceLine → List TraceLine → Type 0
+Same [] [] = Unit {0}
+Same [] (b ∷ ys) = ⊥
+Same (a ∷ xs) [] = ⊥
+Same (a ∷ xs) (b ∷ ys) = (a.process ≡ b.process) × (a.command ≡ b.command) × Same xs ys
+
+Same-push : (xs ys : List TraceLine) (a b : TraceLine) → Same xs ys → a.process ≡ b.process → a.command ≡ b.command → Same (xs ++ a ∷ []) (ys ++ b ∷ [])
+Same-push [] [] a b s p c = (p, c, tt)
+Same-push [] (y ∷ ys) a b s p c = absurd s
+Same-push (x ∷ xs) [] a b s p c = absurd s
+Same-push (x ∷ xs) (y ∷ ys) a b s p c = (s.0, s.1, Same-push xs ys a b s.2 p c)
+
+list_any-Same : (t : ℕ → Command → Bool) (xs ys : List TraceLine) → Same xs ys → list_any (λ l. t l.process l.command) xs ≡ list_any (λ l. t l.process l.command) ys
+list_any-Same t [] [] s = refl
+list_any-Same t [] (b ∷ ys) s = absurd s
+list_any-Same t (a ∷ xs) [] s = absurd s
+list_any-Same t (a ∷ xs) (b ∷ ys) s =
+    ap (λ p. t p a.command || list_any (λ l. t l.process l.command) xs) s.0
+    ∙ ap (λ c. t b.process c || list_any (λ l. t l.process l.command) xs) s.1
+    ∙ ap (λ r. t b.process b.command || r) (list_any-Same t xs ys s.2)
+
+fold-Same : (n : ℕ) (xs ys : List TraceLine) → Same xs ys → fold (λ n l. n + cond (creates l.command) 1 0) n xs ≡ fold (λ n l. n + cond (creates l.command) 1 0) n ys
+fold-Same n [] [] s = refl
+fold-Same n [] (b ∷ ys) s = absurd s
+fold-Same n (a ∷ xs) [] s = absurd s
+fold-Same n (a ∷ xs) (b ∷ ys) s =
+    ap (λ c. fold (λ n l. n + cond (creates l.command) 1 0) (n + cond (creates c) 1 0) xs) s.1 ∙ fold-Same (n + cond (creates b.command) 1 0) xs ys s.2
+
+is_there-Same : (xs ys : List TraceLine) (p : ℕ) → Same xs ys → is_there xs p ≡ is_there ys p
+is_there-Same xs ys p s = ap (λ r. eqb p 1 || r) (list_any-Same (λ q c. is_fork_of p c) xs ys s)
+
+may_call-Same : (xs ys : List TraceLine) (p : ℕ) (c : Command) → Same xs ys → may_call xs p c ≡ may_call ys p c
+may_call-Same xs ys p (Fork child) s = ap not (is_there-Same xs ys child s)
+may_call-Same xs ys p (Wait child) s = list_any-Same (λ q c. eqb q p && is_fork_of child c) xs ys s
+may_call-Same xs ys p _ s = refl
+
+rule_of-Same : (xs ys : List TraceLine) (line : TraceLine) (number : ℕ) → Same xs ys → rule_of xs line ≡ rule_of ys (renumbered number line)
+rule_of-Same xs ys line number s =
+    ap (λ t. cond (not (t && may_call xs line.process line.command)) (Some reason.Process) (cond (creates line.command && leb 8191 (count_created xs)) (Some reason.Many) None)) (is_there-Same xs ys line.process s)
+    ∙ ap (λ t. cond (not (is_there ys line.process && t)) (Some reason.Process) (cond (creates line.command && leb 8191 (count_created xs)) (Some reason.Many) None)) (may_call-Same xs ys line.process line.command s)
+    ∙ ap (λ n. cond (not (is_there ys line.process && may_call ys line.process line.command)) (Some reason.Process) (cond (creates line.command && leb 8191 n) (Some reason.Many) None)) (fold-Same 0 xs ys s)
+
+-- the texts of lines
+abbrev line_texts : List TraceLine → List (List ℕ)
+line_texts lines = map line_text lines
+
+length-line_texts : (lines : List TraceLine) → length (line_texts lines) ≡ length lines
+length-line_texts [] = refl
+length-line_texts (line ∷ lines) = ap suc (length-line_texts lines)
+
+Sound-texts : (number : ℕ) (xs ys lines : List TraceLine) → Same xs ys → Follow xs lines → number + length lines ≤ 100001 → Sound number ys (line_texts lines)
+Sound-texts number xs ys [] s f within = tt
+Sound-texts number xs ys (line ∷ lines) s f within =
+    let read = text_line_of-text number line (omega (arith, within)) f.0 in
+    let rule = sym (rule_of-Same xs ys line number s) ∙ f.1 in
+    let next = Same-push xs ys line (renumbered number line) s refl refl in
+    let rest = Sound-texts (number + 1) (xs ++ line ∷ []) (ys ++ renumbered number line ∷ []) lines next f.2 (omega (arith, within)) in
+    (ap (reason_behind ys) read ∙ rule, subst (λ r. Sound (number + 1) (ys ++ said r) (line_texts lines)) (sym read) rest)
+
+lines_from-texts : (number : ℕ) (earlier lines : List TraceLine) → Follow earlier lines → number + length lines ≤ 100001 → lines_from number (line_texts lines) ≡ renumbered_from number lines
+lines_from-texts number earlier [] f within = refl
+lines_from-texts number earlier (line ∷ lines) f within =
+    let read = text_line_of-text number line (omega (arith, within)) f.0 in
+    ap (λ r. said r ++ lines_from (number + 1) (line_texts lines)) read ∙ ap (λ ls. renumbered number line ∷ ls) (lines_from-texts (number + 1) (earlier ++ line ∷ []) lines f.2 (omega (arith, within)))
+
+-- the lines of what is written
+lines_of-line : (text rest : List ℕ) → list_all is_line_byte text ≡ true → lines_of (text ++ 10 ∷ rest) ≡ text ∷ lines_of rest
+lines_of-line [] rest h = refl
+lines_of-line (b ∷ text) rest h =
+    let parts = and_parts (is_line_byte b) (list_all is_line_byte text) h in
+    let other = ne_eqb b 10 (λ e. omega (arith, e, leb-true 32 b (and_parts (leb 32 b) (leb b 126) parts.0).0)) in
+    ap (λ t. cond t ([] ∷ lines_of (text ++ 10 ∷ rest)) (onto_first b (lines_of (text ++ 10 ∷ rest)))) other ∙ ap (onto_first b) (lines_of-line text rest parts.1)
+
+lines_of-text : (earlier lines : List TraceLine) → Follow earlier lines → lines_of (text_of lines) ≡ line_texts lines
+lines_of-text earlier [] f = refl
+lines_of-text earlier (line ∷ lines) f =
+    let whole = append_assoc (line_text line) (10 ∷ []) (text_of lines) in
+    ap lines_of whole ∙ lines_of-line (line_text line) (text_of lines) (is_printable-text line f.0) ∙ ap (λ ts. line_text line ∷ ts) (lines_of-text (earlier ++ line ∷ []) lines f.2)
+
+-- what a text of a trace says of its lines
+follows : (bytes : List ℕ) → IsTraceText bytes → Follow [] (trace_of bytes)
+follows bytes h = Follow-from 1 [] (lines_of bytes) (Sound-from [] (lines_of bytes) h)
+
+within : (bytes : List ℕ) → IsTraceText bytes → 1 + length (trace_of bytes) ≤ 100001
+within bytes h =
+    let texts = texts_within 1 [] (lines_of bytes) (omega arith) (Sound-from [] (lines_of bytes) h) in
+    omega (arith, texts, length-lines_from 1 (lines_of bytes))
+
+pub IsTraceText-text_of : (bytes : List ℕ) → IsTraceText bytes → IsTraceText (text_of (trace_of bytes))
+IsTraceText-text_of bytes h =
+    let lines = trace_of bytes in
+    let f = follows bytes h in
+    let sound = Sound-texts 1 [] [] lines tt f (within bytes h) in
+    let none : NoFault (line_texts lines) = λ k to. NoFault-from [] (line_texts lines) sound k (omega arith) to in
+    subst NoFault (sym (lines_of-text [] lines f)) none
+
+pub trace_of-text_of : (bytes : List ℕ) → IsTraceText bytes → trace_of (text_of (trace_of bytes)) ≡ renumbered_from 1 (trace_of bytes)
+trace_of-text_of bytes h =
+    let lines = trace_of bytes in
+    let f = follows bytes h in
+    ap (lines_from 1) (lines_of-text [] lines f) ∙ lines_from-texts 1 [] lines f (within bytes h)

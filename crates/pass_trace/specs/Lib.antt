@@ -1,0 +1,9 @@
+pub mod Calls
+pub mod Commands
+pub mod Gives
+pub mod Lines
+pub mod Rules
+pub mod Tables
+pub mod Texts
+pub mod Traces
+pub mod Words

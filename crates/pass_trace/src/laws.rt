@@ -1,0 +1,24 @@
+//! What holds of texts and traces.
+ghost use Rattle.std.specs.Prelude.{◌≡◌, ◌⊎◌, ℕ, List};
+ghost use Rattle.pass_trace.specs.declared.trace.TraceReason.{TraceReason};
+ghost use Rattle.pass_trace.specs.Traces.{trace_of, IsTraceText, IsFirstFault};
+ghost use Rattle.pass_trace.specs.Texts.{text_of, renumbered_from};
+
+/// A text is one of a trace, or has one first fault with one reason.
+pub fn text_or_one_fault()
+    ensures either { (bytes : List ℕ) → IsTraceText bytes
+        ⊎ ((line : ℕ) × (reason : TraceReason) × IsFirstFault bytes line reason) }
+    ensures apart { (bytes : List ℕ) (line : ℕ) (reason : TraceReason) →
+        IsFirstFault bytes line reason → ¬ IsTraceText bytes }
+    ensures alone { (bytes : List ℕ) (line other : ℕ) (reason another : TraceReason) →
+        IsFirstFault bytes line reason → IsFirstFault bytes other another →
+        (line ≡ other) × (reason ≡ another) }
+{}
+
+/// What is written of the trace of a text is a text with the same processes and commands, whose
+/// lines are numbered from 1.
+pub fn written_is_read_again()
+    ensures text { (bytes : List ℕ) → IsTraceText bytes → IsTraceText (text_of (trace_of bytes)) }
+    ensures trace { (bytes : List ℕ) → IsTraceText bytes →
+        trace_of (text_of (trace_of bytes)) ≡ renumbered_from 1 (trace_of bytes) }
+{}

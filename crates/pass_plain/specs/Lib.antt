@@ -20,3 +20,8 @@ pub mod Graphs
 pub mod Joined
 pub mod WellLogged
 pub mod PipeEnds
+pub mod NextSteps
+pub mod CallLaws
+pub mod States
+pub mod Seen
+pub mod Lineages

@@ -1,5 +1,5 @@
 -- Which histories are runs of a trace, and which of its processes are open and can move. This project's own rule.
-use Rattle.std.specs.Prelude.{ℕ, ◌+◌, ◌-◌, ◌≤◌, ◌<◌, ◌==◌, ◌≡◌, Bool, true, not, List, [], ◌∷◌, ◌++◌, Option, Some, None, find, map, take, length, slice_get, if◌then◌else◌, Contains, option_map}
+use Rattle.std.specs.Prelude.{ℕ, ◌+◌, ◌-◌, ◌≤◌, ◌<◌, ◌==◌, ◌≡◌, Bool, true, not, List, [], ◌∷◌, ◌++◌, Option, Some, find, map, take, length, slice_get, if◌then◌else◌, Contains, option_map}
 use Rattle.std.specs.Option.{option_map_or}
 use Rattle.pass_entry.specs.declared.entry.Entry.{Entry}
 use Rattle.pass_entry.specs.declared.entry.Reply.{Reply}
@@ -8,9 +8,9 @@ use Rattle.pass_plain.specs.Histories.{call_entries}
 use Rattle.pass_plain.specs.Sessions.{Session}
 use Rattle.pass_plain.specs.Processes.{has_begun}
 use Rattle.pass_plain.specs.Replies.{reply_to}
-use Rattle.pass_plain.specs.Calls.{Step, Made, call_steps, pnode_at}
+use Rattle.pass_plain.specs.Calls.{Step, call_steps, pnode_at}
 use Rattle.pass_plain.specs.Legal.{IsLegal, before_call, is_over, last_number, step_of}
-use Rattle.pass_plain.specs.Traces.{Line, LineCall, given, write_last, fork_as, wait_for, request_of, lines_of, calls_of}
+use Rattle.pass_plain.specs.Traces.{Line, LineCall, fork_as, request_of, lines_of, calls_of}
 
 -- the processes of a trace that have begun: each with its number in the trace and its pnode
 abbrev pub Begun : Type 0

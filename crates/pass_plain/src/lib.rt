@@ -1,9 +1,26 @@
 //! The plain definitions of a history.
 #![tactic(auto)]
 
+#[cfg(test)]
+mod call_tests;
+mod callers;
+mod equality;
+mod file;
 pub mod laws;
+mod names;
+pub mod next;
+mod pipe;
+pub mod process;
+pub mod reference;
+mod registry;
+mod replies;
 pub mod request;
+mod seen;
 pub mod start;
+pub mod steps;
 
+pub use callers::LastCall;
+pub use process::ProcessState;
+pub use reference::Plain;
 pub use request::Request;
 pub use start::{Start, StartFile};

@@ -1,0 +1,119 @@
+//! The content of a file.
+ghost use Rattle.std.specs.Prelude.{◌≡◌, ◌<◌, ◌≤◌, ◌+◌, ◌^◌, IfOk, OnOk, length, take, drop, option_copied, ℕ, List};
+ghost use Rattle.pass_plain.specs.Sessions.{opening_bytes, opened_file as opened_file_of};
+ghost use Rattle.pass_plain.specs.Files.{written, resized, file_act};
+ghost use Rattle.pass_plain.specs.States.{file_from};
+
+use crate::registry::is_own;
+use crate::start::{Start, StartFile};
+use pass_entry::{Act, Bytes, Entry, Pnode};
+use std::alloc::{AllocError, Global};
+
+/// Puts bytes at a place of a content, with zeros in a gap before it.
+fn overwrite(alloc: Global, content: &mut Vec<u8>, at: u64, bytes: &[u8]) -> Result<(), AllocError>
+    requires { length bytes.now ≤ 4096 }
+    ensures { OnOk result (content.new.items ≡ written content.old.items at bytes.now) }
+{
+    if bytes.is_empty() {
+        return Ok(());
+    }
+    let at = at as usize;
+    let rest = rest_after(alloc, content, at, bytes.len())?;
+    if content.len() < at {
+        content.resize(at, 0)?;
+    }
+    content.truncate(at);
+    content.extend_from_slice(bytes)?;
+    content.extend_from_slice(&rest)
+}
+
+/// What stands behind the bytes from `at` on.
+fn rest_after(alloc: Global, content: &[u8], at: usize, len: usize) -> Result<Vec<u8>, AllocError>
+    requires { len ≤ 4096 }
+    ensures { IfOk result (λ v. v.items ≡ drop (at + len) content.now) }
+{
+    if at < content.len() && at + len < content.len() {
+        Vec::from_slice(alloc, &content[at + len..])
+    } else {
+        Ok(Vec::new(alloc))
+    }
+}
+
+fn set_size(content: &mut Vec<u8>, size: u64) -> Result<(), AllocError>
+    ensures { OnOk result (content.new.items ≡ resized content.old.items size) }
+{
+    content.resize(size as usize, 0)
+}
+
+fn apply(alloc: Global, content: &mut Vec<u8>, act: &Act) -> Result<(), AllocError>
+    ensures { OnOk result (content.new.items ≡ file_act content.old.items act.now) }
+{
+    match act {
+        Act::Put { out: _, at, bytes } => overwrite(alloc, content, *at, bytes.as_bytes()),
+        Act::Cut { out: _, size } => set_size(content, *size),
+        _ => Ok(()),
+    }
+}
+
+pub fn opened_file(start: &Start, object: Pnode) -> Option<&StartFile>
+    ensures { option_copied result ≡ opened_file_of start.now object }
+{
+    start.files.iter().find(|f| f.node.pnode == object)
+}
+
+/// The content with which a file was opened.
+pub fn opening_content(alloc: Global, start: &Start, object: Pnode) -> Result<Vec<u8>, AllocError>
+    ensures { IfOk result (λ v. v.items ≡ opening_bytes start.now object) }
+{
+    match opened_file(start, object) {
+        Some(file) => Vec::from_slice(alloc, file.bytes.as_slice()),
+        None => Ok(Vec::new(alloc)),
+    }
+}
+
+/// The content of a file after a history, from that after its first entries.
+pub fn content_later(
+    alloc: Global,
+    mut content: Vec<u8>,
+    from: usize,
+    history: &[Entry],
+    object: Pnode,
+) -> Result<Vec<u8>, AllocError>
+    requires { from ≤ length history.now }
+    ensures { IfOk result (λ v. (opening : List ℕ) → content.items ≡ file_from opening object (take from history.now) → v.items ≡ file_from opening object history.now) }
+{
+    for i in from..history.len() {
+        let e = &history[i];
+        if is_own(object, e) {
+            apply(alloc, &mut content, &e.act)?;
+        }
+    }
+    Ok(content)
+}
+
+fn bytes_of(alloc: Global, bytes: &[u8]) -> Result<Bytes, AllocError>
+    requires { length bytes.now ≤ 4096 }
+    ensures { IfOk result (λ b. b ≡ bytes.now) }
+{
+    match Bytes::of(alloc, bytes) {
+        Ok(bytes) => Ok(bytes),
+        Err(_) => Err(AllocError),
+    }
+}
+
+/// The bytes of a content from a place, at most so many.
+pub fn bytes_from(alloc: Global, content: &[u8], at: u64, len: u32) -> Result<Bytes, AllocError>
+    requires { len ≤ 4096 }
+    ensures { IfOk result (λ b. b ≡ take len (drop at content.now)) }
+{
+    if at >= content.len() as u64 {
+        return bytes_of(alloc, &[]);
+    }
+    let rest = &content[at as usize..];
+    let len = len as usize;
+    if len < rest.len() {
+        bytes_of(alloc, &rest[..len])
+    } else {
+        bytes_of(alloc, rest)
+    }
+}

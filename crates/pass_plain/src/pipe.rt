@@ -1,0 +1,108 @@
+//! The state of a pipe.
+ghost use Rattle.std.specs.Prelude.{◌≡◌, ◌<◌, ◌≤◌, ◌+◌, ◌^◌, OnOk, IfOk, length, take, drop};
+ghost use Rattle.pass_plain.specs.Pipes.{new_pipe, joined_by, left_by, pipe_act, pipe_after};
+ghost use Rattle.pass_plain.specs.States.{pipe_of};
+
+use crate::registry::is_own;
+use pass_entry::{Act, End, Entry, Pnode};
+use std::alloc::{AllocError, Global};
+
+/// The bytes that are not read yet, the oldest first, and how many descriptors each end has.
+#[derive(Drop)]
+pub struct PipeState {
+    pub bytes: Vec<u8>,
+    pub readers: u64,
+    pub writers: u64,
+}
+
+impl PipeState {
+    pub fn new(alloc: Global) -> PipeState
+        ensures { pipe_of result ≡ new_pipe }
+    {
+        PipeState {
+            bytes: Vec::new(alloc),
+            readers: 1,
+            writers: 1,
+        }
+    }
+
+    fn join(&mut self, end: End)
+        requires readers { self.old.readers < 2 ^ 63 }
+        requires writers { self.old.writers < 2 ^ 63 }
+        ensures after { pipe_of self.new ≡ joined_by (pipe_of self.old) end }
+        ensures readers { self.new.readers ≤ self.old.readers + 1 }
+        ensures writers { self.new.writers ≤ self.old.writers + 1 }
+    {
+        match end {
+            End::Reader => self.readers += 1,
+            End::Writer => self.writers += 1,
+        }
+    }
+
+    fn leave(&mut self, end: End)
+        ensures after { pipe_of self.new ≡ left_by (pipe_of self.old) end }
+        ensures readers { self.new.readers ≤ self.old.readers }
+        ensures writers { self.new.writers ≤ self.old.writers }
+    {
+        match end {
+            End::Reader => self.readers = self.readers.saturating_sub(1),
+            End::Writer => self.writers = self.writers.saturating_sub(1),
+        }
+    }
+
+    /// What an entry with this act makes of the pipe.
+    pub fn apply(&mut self, alloc: Global, act: &Act) -> Result<(), AllocError>
+        requires readers { self.old.readers < 2 ^ 63 }
+        requires writers { self.old.writers < 2 ^ 63 }
+        ensures ok { OnOk result (pipe_of self.new ≡ pipe_act (pipe_of self.old) act.now) }
+        ensures readers { self.new.readers ≤ self.old.readers + 1 }
+        ensures writers { self.new.writers ≤ self.old.writers + 1 }
+    {
+        match act {
+            Act::Take { len } => {
+                let rest = bytes_after(alloc, &self.bytes, *len as usize)?;
+                self.bytes = rest;
+            }
+            Act::Push { bytes, .. } => self.bytes.extend_from_slice(bytes.as_bytes())?,
+            Act::Join { end } => self.join(*end),
+            Act::Leave { end } => self.leave(*end),
+            _ => {}
+        }
+        Ok(())
+    }
+}
+
+fn bytes_after(alloc: Global, bytes: &[u8], len: usize) -> Result<Vec<u8>, AllocError>
+    ensures { IfOk result (λ v. v.items ≡ drop len bytes.now) }
+{
+    if len < bytes.len() {
+        Vec::from_slice(alloc, &bytes[len..])
+    } else {
+        Ok(Vec::new(alloc))
+    }
+}
+
+/// A pipe after a history, from that after its first entries.
+pub fn pipe_later(
+    alloc: Global,
+    mut state: PipeState,
+    from: usize,
+    history: &[Entry],
+    object: Pnode,
+) -> Result<PipeState, AllocError>
+    requires seen { from ≤ length history.now }
+    requires after { pipe_of state ≡ pipe_after (take from history.now) object }
+    requires readers { state.readers ≤ from + 1 }
+    requires writers { state.writers ≤ from + 1 }
+    ensures after { IfOk result (λ p. pipe_of p ≡ pipe_after history.now object) }
+    ensures readers { IfOk result (λ p. p.readers ≤ length history.now + 1) }
+    ensures writers { IfOk result (λ p. p.writers ≤ length history.now + 1) }
+{
+    for i in from..history.len() {
+        let e = &history[i];
+        if is_own(object, e) {
+            state.apply(alloc, &e.act)?;
+        }
+    }
+    Ok(state)
+}

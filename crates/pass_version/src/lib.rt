@@ -1,0 +1,9 @@
+//! The version, the mark and the known ancestors of one object.
+#![tactic(auto)]
+
+pub mod laws;
+#[cfg(test)]
+mod tests;
+mod versions;
+
+pub use versions::{Taken, Versions};

@@ -1,0 +1,5 @@
+pub mod Openings
+pub mod Places
+pub mod Ranks
+pub mod Lawful
+pub mod Words

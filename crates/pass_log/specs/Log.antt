@@ -1,0 +1,53 @@
+-- An open log on its disk, and the frame of a batch (this project's own rule).
+use Rattle.std.specs.Prelude.{◌≡◌, ◌⊎◌, ℕ, ◌-◌, ◌<◌, ◌≤◌, ◌^◌, List, length, take, drop, Result, IsTrue}
+use Rattle.std.specs.List.{All}
+use Rattle.pass_entry.specs.declared.record.Record.{Record}
+use Rattle.pass_entry.specs.Ranges.{IsInRange}
+use Rattle.pass_outside.specs.Areas.{Image}
+use Rattle.pass_outside.specs.Moments.{Moment, IsAtEnd}
+use Rattle.pass_log.specs.declared.log.Log.{Log}
+use Rattle.pass_log.specs.Frames.{Frames, with_frame, staged, longest, Rests}
+use Rattle.pass_log.specs.Records.{spellings}
+
+-- the place of the closed gate at its end, in bytes
+abbrev pub log_end : Log → ℕ
+log_end log = log.end
+
+-- the disk's count of faults at its opening
+abbrev pub log_opened : Log → ℕ
+log_opened log = log.opened
+
+-- the log area is at rest, all of it on the disk
+pub record Stands (log : Log) (m : Moment) : Type 0 where
+  pub list : List (List ℕ)
+  pub rests : Rests list log.end m.seen.log
+  pub fits : length m.seen.log ≤ longest
+  pub only : (c : Image) → m.may_leave c → c.log ≡ m.seen.log
+
+-- This log was opened on that disk, and no one else has written to its area since. After a fault nothing more is known.
+pub record IsSettled (log : Log) (m : Moment) : Type 0 where
+  pub opened : log.opened ≤ m.faults
+  pub stands : IsTrue m.tells → m.faults ≡ log.opened → (IsAtEnd m → ⊥) → Stands log m
+
+-- the records' bytes in what the first write of a frame has
+abbrev pub batch_of : List ℕ → List ℕ
+batch_of frame = take (length frame - 5) (drop 4 frame)
+
+-- these are the bytes that the first write of a frame has
+pub record IsStaged (frame : List ℕ) : Type 0 where
+  pub is : frame ≡ staged (batch_of frame)
+  pub fits : length (batch_of frame) < 2 ^ 32
+
+-- these are the bytes that the first write of the frame of that batch has
+pub record IsFrameOf (batch : List Record) (frame : List ℕ) : Type 0 where
+  pub in_range : All IsInRange batch
+  pub fits : length (spellings batch) < 2 ^ 32
+  pub is : frame ≡ staged (spellings batch)
+
+-- the frames as they were, or with one more
+abbrev pub IsBeforeOrAfter : List ℕ → Result Frames ℕ → Result Frames ℕ → Type 0
+IsBeforeOrAfter frame old new = (new ≡ old) ⊎ (new ≡ with_frame frame old)
+
+-- the store area stays
+abbrev pub SameStore : Image → Image → Type 0
+SameStore old new = new.store ≡ old.store

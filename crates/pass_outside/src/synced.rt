@@ -10,6 +10,7 @@ pub fn write_synced<D: Disk>(disk: &mut D, area: Area, at: u64, bytes: &[u8]) ->
     ensures written { OnOk result (IsTrue (D.view disk.old).tells → area_of area (D.view disk.new).seen ≡ written (area_of area (D.view disk.old).seen) at bytes.now) }
     ensures durable { OnOk result ((c : Image) → (D.view disk.new).may_leave c → area_of area c ≡ area_of area (D.view disk.new).seen) }
     ensures elsewhere { IsTrue (D.view disk.old).tells → area_of (other area) (D.view disk.new).seen ≡ area_of (other area) (D.view disk.old).seen }
+    ensures two { OnOk result ((D.view disk.new).calls ≡ (D.view disk.old).calls + 2) }
     ensures crash { Follows (OnArea area (Torn at (length bytes.now))) (D.view disk.old) (D.view disk.new) }
     ensures run { IsRun (D.view disk.old) (D.view disk.new) result (AfterStep (OnArea area (Torn at (length bytes.now))) (D.view disk.old)) }
     ensures stands { IsAtEnd (D.view disk.old) → disk.new ≡ disk.old }

@@ -51,3 +51,7 @@ IsBeforeOrAfter frame old new = (new ≡ old) ⊎ (new ≡ with_frame frame old)
 -- the store area stays
 abbrev pub SameStore : Image → Image → Type 0
 SameStore old new = new.store ≡ old.store
+
+-- the log area stays
+abbrev pub SameLog : Image → Image → Type 0
+SameLog old new = new.log ≡ old.log

@@ -30,6 +30,9 @@ pub fn read_image<D: Disk>(alloc: Global, disk: &mut D) -> Result<LogImage, LogF
     ensures content { (D.view disk.new).seen ≡ (D.view disk.old).seen }
     ensures crash { (c : Image) → (D.view disk.new).may_leave c → (D.view disk.old).may_leave c }
     ensures run { Adds (D.view disk.old) (D.view disk.new) (D.view disk.old).may_leave }
+    ensures later { (D.view disk.old).calls ≤ (D.view disk.new).calls }
+    ensures no_fault { (IsErrOf result LogFault.DiskFault → ⊥) → (D.view disk.new).faults ≡ (D.view disk.old).faults }
+    ensures stands { IsAtEnd (D.view disk.old) → disk.new ≡ disk.old }
 {
     let size = disk.len(Area::Log)?;
     if size > LONGEST {
@@ -60,6 +63,9 @@ fn read_area<D: Disk>(alloc: Global, disk: &mut D, size: usize) -> Result<Vec<u8
     ensures content { (D.view disk.new).seen ≡ (D.view disk.old).seen }
     ensures crash { (c : Image) → (D.view disk.new).may_leave c → (D.view disk.old).may_leave c }
     ensures run { Adds (D.view disk.old) (D.view disk.new) (D.view disk.old).may_leave }
+    ensures later { (D.view disk.old).calls ≤ (D.view disk.new).calls }
+    ensures no_fault { (IsErrOf result LogFault.DiskFault → ⊥) → (D.view disk.new).faults ≡ (D.view disk.old).faults }
+    ensures stands { IsAtEnd (D.view disk.old) → disk.new ≡ disk.old }
 {
     let mut bytes = Vec::new(alloc);
     let mut piece = buffer(alloc, PIECE)?;

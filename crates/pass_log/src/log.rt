@@ -14,7 +14,7 @@ pub struct Log {
 }
 
 impl Log {
-    ghost use Rattle.std.specs.Prelude.{◌≡◌, ◌⊎◌, ◌+◌, ◌<◌, ◌≤◌, ◌^◌, IsTrue, List, length, OnOk, OnErr, IfOk, IfErr, IsErrOf, Err};
+    ghost use Rattle.std.specs.Prelude.{◌≡◌, ◌⊎◌, ◌+◌, ◌<◌, ◌≤◌, ◌^◌, true, false, IsTrue, List, length, IsOk, OnOk, OnErr, IfOk, IfErr, IsErrOf, Err};
     ghost use Rattle.std.specs.List.{All};
     ghost use Rattle.pass_entry.specs.declared.record.Record.{Record};
     ghost use Rattle.pass_entry.specs.Ranges.{IsInRange};
@@ -35,6 +35,8 @@ impl Log {
         ensures place { IfOk result (λ log. log_end log ≡ image.now.end) }
         ensures opened { IfOk result (λ log. log_opened log ≡ (D.view disk.new).faults) }
         ensures same { OnOk result (IsTrue (D.view disk.old).tells → image_of (D.view disk.new).seen.log ≡ image_of (D.view disk.old).seen.log) }
+        // From then on each crash leaves what the log area reads.
+        ensures durable { OnOk result (IsTrue (D.view disk.old).tells → (c : Image) → (D.view disk.new).may_leave c → c.log ≡ (D.view disk.new).seen.log) }
         // A crash at any moment leaves the image that was read.
         ensures any_moment { IsTrue (D.view disk.old).tells → Adds (D.view disk.old) (D.view disk.new) (λ c. image_of c.log ≡ image_of (D.view disk.old).seen.log) }
         // On each of these images the store area is one that a crash might have left before.
@@ -43,7 +45,14 @@ impl Log {
         ensures store { IsTrue (D.view disk.old).tells → (D.view disk.new).seen.store ≡ (D.view disk.old).seen.store }
         ensures tells { (D.view disk.new).tells ≡ (D.view disk.old).tells }
         ensures rises { (D.view disk.old).faults ≤ (D.view disk.new).faults }
+        ensures later { (D.view disk.old).calls ≤ (D.view disk.new).calls }
+        // The gate is a write and a sync; a log that has one makes no device call.
+        ensures calls { OnOk result (image.now.short ≡ true → (D.view disk.new).calls ≡ (D.view disk.old).calls + 2) }
+        ensures untouched { image.now.short ≡ false → disk.new ≡ disk.old }
+        ensures opens { image.now.short ≡ false → IsOk result }
+        ensures healthy { OnOk result ((D.view disk.new).faults ≡ (D.view disk.old).faults) }
         ensures failed { IfErr result (λ e. (e ≡ LogFault.DiskFault) × (((D.view disk.old).faults < (D.view disk.new).faults) ⊎ IsAtEnd (D.view disk.new))) }
+        ensures stands { IsAtEnd (D.view disk.old) → disk.new ≡ disk.old }
     {
         if !image.short {
             return Ok(Log {
@@ -101,6 +110,7 @@ impl Log {
         ensures store_then { Adds (D.view disk.old) (D.view disk.new) (AfterStep SameStore (D.view disk.old)) }
         ensures store_now { Follows SameStore (D.view disk.old) (D.view disk.new) }
         ensures reads { OnOk result (IsTrue (D.view disk.old).tells → frames_of (D.view disk.new).seen.log ≡ with_frame (batch_of frame.now) (frames_of (D.view disk.old).seen.log)) }
+        ensures calls { OnOk result ((D.view disk.new).calls ≡ (D.view disk.old).calls + 4) }
         ensures healthy { OnOk result (((D.view disk.old).faults ≡ self.old.opened) × ((D.view disk.new).faults ≡ self.old.opened) × (IsAtEnd (D.view disk.old) → ⊥)) }
         ensures settled { IsSettled self.new (D.view disk.new) }
         ensures end { OnOk result (self.new ≡ record self.old { end = self.old.end + length frame.now }) }
@@ -141,9 +151,12 @@ impl Log {
         ensures end { OnOk result (log_end self.new ≡ log_end self.old + length frame.now) }
         ensures opened { log_opened self.new ≡ log_opened self.old }
         ensures err { OnErr result (self.new ≡ self.old) }
+        ensures calls { OnOk result ((D.view disk.new).calls ≡ (D.view disk.old).calls + 4) }
         ensures healthy { OnOk result (((D.view disk.old).faults ≡ log_opened self.old) × ((D.view disk.new).faults ≡ log_opened self.old) × (IsAtEnd (D.view disk.old) → ⊥)) }
         ensures tells { (D.view disk.new).tells ≡ (D.view disk.old).tells }
         ensures rises { (D.view disk.old).faults ≤ (D.view disk.new).faults }
+        ensures later { (D.view disk.old).calls ≤ (D.view disk.new).calls }
+        ensures no_fault { (IsErrOf result LogFault.DiskFault → ⊥) → (D.view disk.new).faults ≡ (D.view disk.old).faults }
         // After a fault it leaves the disk alone until the log is opened again.
         ensures broken { log_opened self.old < (D.view disk.old).faults → (result ≡ Err (LogFault.Broken (log_opened self.old) (D.view disk.old).faults)) × (disk.new ≡ disk.old) }
         ensures unbroken { (D.view disk.old).faults ≤ log_opened self.old → IfErr result (λ e. (e ≡ LogFault.DiskFault) × (((D.view disk.old).faults < (D.view disk.new).faults) ⊎ IsAtEnd (D.view disk.new))) }
@@ -186,9 +199,12 @@ impl Log {
         ensures end { OnOk result (0 < length batch.now → log_end self.new ≡ log_end self.old + (5 + length (spellings batch.now))) }
         ensures opened { log_opened self.new ≡ log_opened self.old }
         ensures err { OnErr result (self.new ≡ self.old) }
+        ensures calls { OnOk result (0 < length batch.now → (D.view disk.new).calls ≡ (D.view disk.old).calls + 4) }
         ensures healthy { OnOk result (0 < length batch.now → ((D.view disk.old).faults ≡ log_opened self.old) × ((D.view disk.new).faults ≡ log_opened self.old) × (IsAtEnd (D.view disk.old) → ⊥)) }
         ensures tells { (D.view disk.new).tells ≡ (D.view disk.old).tells }
         ensures rises { (D.view disk.old).faults ≤ (D.view disk.new).faults }
+        ensures later { (D.view disk.old).calls ≤ (D.view disk.new).calls }
+        ensures no_fault { (IsErrOf result LogFault.DiskFault → ⊥) → (D.view disk.new).faults ≡ (D.view disk.old).faults }
         // After a fault it leaves the disk alone until the log is opened again.
         ensures broken { log_opened self.old < (D.view disk.old).faults → (result ≡ Err (LogFault.Broken (log_opened self.old) (D.view disk.old).faults)) × (disk.new ≡ disk.old) }
         ensures unbroken { (D.view disk.old).faults ≤ log_opened self.old → IfErr result (λ e. ((e ≡ LogFault.DiskFault) × (((D.view disk.old).faults < (D.view disk.new).faults) ⊎ IsAtEnd (D.view disk.new))) ⊎ ((e ≡ LogFault.NoMemory) × (disk.new ≡ disk.old))) }

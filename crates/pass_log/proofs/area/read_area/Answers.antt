@@ -1,5 +1,6 @@
-use Rattle.std.proofs.Common.{◌≡◌, ◌≤◌, ◌<◌, ◌∙◌, ◌++◌, List, ℕ, length, take, drop, arith, ap, sym, rules, subst, IsTrue}
+use Rattle.std.proofs.Common.{◌≡◌, ◌≤◌, ◌<◌, ◌∙◌, ◌++◌, List, ℕ, length, take, drop, arith, ap, sym, rules, refl, subst, IsTrue}
 use Rattle.pass_outside.specs.Areas.{Image}
+use Rattle.pass_outside.specs.Moments.{Moment, IsAtEnd}
 use Rattle.pass_outside.specs.Runs.{adds_both}
 use Rattle.pass_log.proofs.Pieces.{more_piece, put_back, size_more}
 use Rattle.pass_log.proofs.area.read_area.Goals as goal
@@ -30,8 +31,11 @@ pieces-preserved g c =
       size = size_more bytes c.extend_from_slice.new.self.items (take c.pieces.piece.len (into ++ rest)) count c.args.size pushed below (omega (arith, within, long, size));
       piece = ap length back ∙ whole ∙ long ∙ size;
       tells = c.in_ok-count.ensures.call.tells ∙ c.pieces.invariant.tells;
-      rises = omega (arith, c.in_ok-count.ensures.call.rises, c.pieces.invariant.rises);
+      faults = (c.in_ok-count.ensures.call.ok refl).0 ∙ c.pieces.invariant.faults;
       content = c.in_ok-count.ensures.content ∙ c.pieces.invariant.content;
       crash = λ i may. c.pieces.invariant.crash i (c.in_ok-count.ensures.crash i may);
       run = adds_both first.may_leave first old new c.pieces.invariant.run c.in_ok-count.ensures.call.adds (λ i x. x) (λ i may. c.pieces.invariant.crash i (c.in_ok-count.ensures.crash i may));
+      stands = λ ended.
+          let before : IsAtEnd old = subst (λ (m : Moment). IsAtEnd m) (sym (ap g.D.Disk.view (c.pieces.invariant.stands ended))) ended in
+          absurd ((c.in_ok-count.ensures.call.ok refl).1 before);
     }

@@ -1,6 +1,6 @@
 use Rattle.std.proofs.Common.{◌≡◌, ◌≤◌, ◌+◌, ◌-◌, IsTrue, length, take}
 use Rattle.pass_outside.specs.Areas.{Image}
-use Rattle.pass_outside.specs.Moments.{Adds}
+use Rattle.pass_outside.specs.Moments.{Adds, IsAtEnd}
 use Rattle.pass_log.proofs.area.read_area.Given as goal
 
 abbrev pub invariant-pieces : goal.invariant-pieces
@@ -9,10 +9,11 @@ invariant-pieces g l = record {
   size : length l.bytes.items ≤ l.size + 65536;
   piece : length l.piece.items ≡ 65536;
   tells : (g.D.Disk.view l.disk).tells ≡ (g.D.Disk.view l.fn.disk).tells;
-  rises : (g.D.Disk.view l.fn.disk).faults ≤ (g.D.Disk.view l.disk).faults;
+  faults : (g.D.Disk.view l.disk).faults ≡ (g.D.Disk.view l.fn.disk).faults;
   content : (g.D.Disk.view l.disk).seen ≡ (g.D.Disk.view l.fn.disk).seen;
   crash : (c : Image) → (g.D.Disk.view l.disk).may_leave c → (g.D.Disk.view l.fn.disk).may_leave c;
   run : Adds (g.D.Disk.view l.fn.disk) (g.D.Disk.view l.disk) (g.D.Disk.view l.fn.disk).may_leave;
+  stands : IsAtEnd (g.D.Disk.view l.fn.disk) → l.disk ≡ l.fn.disk;
 }
 
 abbrev pub decreases-pieces : goal.decreases-pieces

@@ -10,8 +10,8 @@ use pass_entry::Record;
 use pass_record::encode;
 use std::alloc::{AllocError, Global};
 
-// The bytes of records, one behind the other.
-fn spell(alloc: Global, batch: &[Record]) -> Result<Vec<u8>, AllocError>
+/// The bytes of records, one behind the other.
+pub fn spell(alloc: Global, batch: &[Record]) -> Result<Vec<u8>, AllocError>
     requires { All IsInRange batch.now }
     ensures { IfOk result (λ v. v.items ≡ spellings batch.now) }
 {

@@ -6,6 +6,8 @@ mod fault;
 mod frame;
 mod image;
 mod log;
+#[cfg(test)]
+mod tests;
 
 pub use area::read_image;
 pub use fault::LogFault;

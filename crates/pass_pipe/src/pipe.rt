@@ -1,0 +1,140 @@
+//! The state of one pipe.
+ghost use Rattle.std.specs.Prelude.{◌≡◌, ◌<◌, ◌≤◌, ◌-◌, ◌^◌, ◌++◌, ◌↔◌, ℕ, [], length, take, drop, min, OnOk, OnErr, IfOk, IsErrOf};
+ghost use Rattle.pass_entry.specs.declared.entry.Act.TheVariants as act;
+ghost use Rattle.pass_plain.specs.Pipes.{new_pipe, pipe_act};
+ghost use Rattle.pass_plain.specs.Replies.{pushed, taken, pipe_capacity};
+ghost use Rattle.pass_pipe.specs.Ends.{count_at};
+
+use circular_buffer::HeapCircularBuffer;
+use pass_entry::End;
+use std::alloc::{AllocError, Global};
+use std::marker::Model;
+
+/// The greatest number of bytes that a pipe holds, as in Linux.
+const CAPACITY: usize = 65_536;
+
+/// Why a transfer didn't come about.
+#[derive(Clone, Copy, Debug, PartialEq, Eq)]
+pub enum PipeEnd {
+    /// Nobody can read what would be given, as POSIX's EPIPE.
+    BrokenPipe,
+    /// There is too little room, or nothing to take yet, as POSIX's EAGAIN.
+    Again,
+}
+
+/// The bytes that were given and not taken yet, the oldest first, and how many descriptors each end has.
+#[derive(Drop)]
+pub struct PipeState {
+    buffer: HeapCircularBuffer<u8>,
+    readers: u32,
+    writers: u32,
+}
+
+impl Model for PipeState {
+    ghost use Rattle.std.specs.Prelude.{◌≡◌};
+    ghost use Rattle.pass_plain.specs.Pipes.{Pipe};
+    ghost use Rattle.pass_plain.specs.Replies.{pipe_capacity};
+
+    ghost Value = { Pipe };
+
+    ghost view = { λ p. record { bytes = p.buffer.items; readers = p.readers; writers = p.writers } };
+
+    ghost invariant = { λ p. p.buffer.capacity ≡ pipe_capacity };
+}
+
+impl PipeState {
+    ghost use Rattle.pass_pipe.specs.Transfers.{reply_to_give, reply_to_take};
+
+    /// An empty pipe with one reader and one writer. No later call takes memory.
+    pub fn new(alloc: Global) -> Result<PipeState, AllocError>
+        ensures { IfOk result (λ pipe. pipe ≡ new_pipe) }
+    {
+        let buffer = HeapCircularBuffer::with_capacity(alloc, CAPACITY)?;
+        Ok(PipeState {
+            buffer,
+            readers: 1,
+            writers: 1,
+        })
+    }
+
+    /// Puts the bytes behind those that are there, all of them or none.
+    pub fn give(&mut self, bytes: &[u8]) -> Result<(), PipeEnd>
+        ensures answer { reply_to_give result ≡ pushed self.old (length bytes.now) }
+        ensures ok { (out : ℕ) → OnOk result (self.new ≡ pipe_act self.old (act.Push out bytes.now)) }
+
+        ensures broken { IsErrOf result PipeEnd.BrokenPipe ↔ (self.old.readers ≡ 0) }
+        ensures again { IsErrOf result PipeEnd.Again ↔ ((0 < self.old.readers) × (pipe_capacity - length self.old.bytes < length bytes.now)) }
+        ensures err { OnErr result (self.new ≡ self.old) }
+    {
+        if self.readers == 0 {
+            return Err(PipeEnd::BrokenPipe);
+        }
+        if CAPACITY - self.buffer.len() < bytes.len() {
+            return Err(PipeEnd::Again);
+        }
+        self.buffer.fill_from_slice(bytes);
+        Ok(())
+    }
+
+    /// Moves the oldest bytes to the front of the slice, as many as it holds and there are, and returns their number.
+    pub fn take_into(&mut self, into: &mut [u8]) -> Result<usize, PipeEnd>
+        ensures answer { reply_to_take result into.new ≡ taken self.old (length into.old) }
+        ensures count { IfOk result (λ count. count ≡ min (length into.old) (length self.old.bytes)) }
+        ensures slice { IfOk result (λ count. into.new ≡ take count self.old.bytes ++ drop count into.old) }
+        ensures ok { OnOk result (self.new ≡ pipe_act self.old (act.Take (length into.old))) }
+
+        ensures again { IsErrOf result PipeEnd.Again ↔ ((self.old.bytes ≡ []) × (0 < self.old.writers)) }
+        ensures broken { ¬ IsErrOf result PipeEnd.BrokenPipe }
+        ensures err { OnErr result (self.new ≡ self.old) }
+        ensures untouched { OnErr result (into.new ≡ into.old) }
+    {
+        if self.buffer.is_empty() && self.writers > 0 {
+            return Err(PipeEnd::Again);
+        }
+        Ok(self.buffer.read_into(into))
+    }
+
+    /// One more descriptor is on the end.
+    pub fn hold(&mut self, end: End)
+        requires { count_at self.old end < 2 ^ 32 - 1 }
+        ensures { self.new ≡ pipe_act self.old (act.Join end) }
+    {
+        match end {
+            End::Reader => self.readers += 1,
+            End::Writer => self.writers += 1,
+        }
+    }
+
+    /// One descriptor less is on the end.
+    pub fn drop_end(&mut self, end: End)
+        requires { 1 ≤ count_at self.old end }
+        ensures { self.new ≡ pipe_act self.old (act.Leave end) }
+    {
+        match end {
+            End::Reader => self.readers -= 1,
+            End::Writer => self.writers -= 1,
+        }
+    }
+
+    /// How many bytes were given and not taken yet.
+    pub fn len(&self) -> u32
+        ensures len { result ≡ length self.now.bytes }
+        ensures within { result ≤ pipe_capacity }
+    {
+        self.buffer.len() as u32
+    }
+
+    /// How many descriptors the reading end has.
+    pub fn readers(&self) -> u32
+        ensures { result ≡ self.now.readers }
+    {
+        self.readers
+    }
+
+    /// How many descriptors the writing end has.
+    pub fn writers(&self) -> u32
+        ensures { result ≡ self.now.writers }
+    {
+        self.writers
+    }
+}

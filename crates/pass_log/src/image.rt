@@ -9,6 +9,9 @@ use pass_entry::Record;
 use pass_record::{RecordFault, decode};
 use std::alloc::Global;
 
+/// The byte of an open gate.
+const OPEN: u8 = 1;
+
 /// The records of a log area, the place of the gate behind its last frame, in bytes, and whether the area holds at
 /// most one byte.
 #[derive(Debug, Drop)]
@@ -45,7 +48,7 @@ fn frames_end(bytes: &[u8]) -> Result<u64, LogFault>
 {
     let mut place: u64 = 0;
     let mut rest = bytes;
-    while !rest.is_empty() && rest[0] == 1 {
+    while !rest.is_empty() && rest[0] == OPEN {
         let Some((frame, after)) = frame_at(rest) else {
             return Err(LogFault::BadFrame { at: place });
         };
@@ -91,7 +94,7 @@ fn read_frames(alloc: Global, bytes: &[u8]) -> Result<Vec<Record>, LogFault>
 {
     let mut list = Vec::new(alloc);
     let mut rest = bytes;
-    while !rest.is_empty() && rest[0] == 1 {
+    while !rest.is_empty() && rest[0] == OPEN {
         let Some((frame, after)) = frame_at(rest) else {
             return Ok(list);
         };

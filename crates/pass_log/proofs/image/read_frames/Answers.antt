@@ -11,7 +11,7 @@ pub returns-in_err-read_frame : goal.returns-in_err-read_frame
 returns-in_err-read_frame c = λ frames end whole.
     let rest = c.loop-rest.rest.now in
     let some : 0 < length rest = search rules in
-    let gate : rest ≡ 1 ∷ drop 1 rest = drop_more rest 0 0 some ∙ ap (λ (g : ℕ). g ∷ drop 1 rest) c.if-rest-eq1.true in
+    let gate : rest ≡ 1 ∷ drop 1 rest = drop_more rest 0 0 some ∙ ap (λ (g : ℕ). g ∷ drop 1 rest) c.if-rest-eq-OPEN.true in
     let bad = read_bad c.args.bytes.now rest c.loop-rest.list.items c.loop-rest.invariant c.in-Some.frame.now c.in-Some.after.now gate c.in-Some.ensures.fits c.in-Some.ensures.frame c.in-Some.ensures.rest
     c.in_err-read_frame.field-0.0 frames end c.in_err-read_frame.ensures.err whole in
     gives_fault (λ list. list.items) c.from_residual.result c.in_err-read_frame.field-0.0 (records_of 0 frames) c.from_residual.ensures.1 bad
@@ -20,6 +20,6 @@ pub loop-rest-preserved : goal.loop-rest-preserved
 loop-rest-preserved c =
     let rest = c.loop-rest.rest.now in
     let some : 0 < length rest = search rules in
-    let gate : rest ≡ 1 ∷ drop 1 rest = drop_more rest 0 0 some ∙ ap (λ (g : ℕ). g ∷ drop 1 rest) c.if-rest-eq1.true in
+    let gate : rest ≡ 1 ∷ drop 1 rest = drop_more rest 0 0 some ∙ ap (λ (g : ℕ). g ∷ drop 1 rest) c.if-rest-eq-OPEN.true in
     read_more c.args.bytes.now rest c.loop-rest.list.items c.loop-rest.invariant c.in-Some.frame.now c.in-Some.after.now gate c.in-Some.ensures.fits c.in-Some.ensures.frame c.in-Some.ensures.rest
     c.read_frame.new.list.items c.in_ok-read_frame.ensures.ok

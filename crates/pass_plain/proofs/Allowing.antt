@@ -1,6 +1,6 @@
 -- Whether a caller may make an entry, from what is kept of it.
-use Rattle.std.proofs.Common.{◌≡◌, ◌<◌, ◌≤◌, ◌+◌, ℕ, zero, suc, List, [], ◌∷◌, length, refl, ap, sym, ◌∙◌, subst, arith, ◌⊎◌, inl, inr, Bool, true, false, ◌&&◌, ◌||◌, not, ◌==◌, cond, ◌↔◌, IsTrue}
-use Rattle.std.specs.Prelude.{slice_get, Option, Some, None, if◌then◌else◌}
+use Rattle.std.proofs.Common.{◌≡◌, ◌<◌, ◌+◌, ℕ, zero, suc, List, [], refl, ap, sym, ◌∙◌, subst, arith, inl, inr, Bool, true, false, ◌&&◌, ◌||◌, not, ◌==◌, cond, ◌↔◌, IsTrue}
+use Rattle.std.specs.Prelude.{Option, Some, None}
 use Rattle.std.proofs.lemmas.Bool.Decides.{nat_tests}
 use Rattle.pass_entry.specs.declared.entry.Entry.{Entry}
 use Rattle.pass_entry.specs.declared.entry.Act.{Act}
@@ -9,9 +9,9 @@ use Rattle.pass_entry.specs.declared.entry.Reply.{Reply}
 use Rattle.pass_plain.specs.Sessions.{Session}
 use Rattle.pass_plain.specs.Replies.{reply_to}
 use Rattle.pass_plain.specs.Histories.{call_entries}
-use Rattle.pass_plain.specs.Processes.{Process, process_after, has_begun, has_ended}
-use Rattle.pass_plain.specs.Calls.{Made, Step, act_on, call_steps}
-use Rattle.pass_plain.specs.Legal.{IsLegal, MayFollow, IsNextStep, CallerAllows, before_call, last_number, goes_on, ends_call, leaves_call, is_over, may_be_left, may_act, is_next_number, is_start, is_empty}
+use Rattle.pass_plain.specs.Processes.{Process, has_begun, has_ended}
+use Rattle.pass_plain.specs.Calls.{Made, Step, act_on}
+use Rattle.pass_plain.specs.Legal.{MayFollow, IsNextStep, CallerAllows, before_call, last_number, goes_on, ends_call, leaves_call, is_over, may_be_left, may_act, is_next_number, is_start, is_empty}
 use Rattle.pass_plain.specs.States.{Call, call_of, IsLastCall, IsCaller, IsLawful, may_go, AsksFew}
 use Rattle.pass_plain.specs.declared.callers.Caller.{Caller}
 use Rattle.pass_plain.proofs.Lists.{true_left, true_right, same_numbers, same_itself, not_true}

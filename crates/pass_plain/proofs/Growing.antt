@@ -1,16 +1,14 @@
 -- What is kept of a history is also kept of a longer one.
-use Rattle.std.proofs.Common.{◌≡◌, ◌≤◌, ◌+◌, ℕ, List, [], ◌∷◌, ◌++◌, length, take, sym, ap, subst, arith}
+use Rattle.std.proofs.Common.{◌≡◌, ◌≤◌, ℕ, List, [], ◌∷◌, ◌++◌, length, take, sym, subst, arith}
 use Rattle.std.specs.Prelude.{Option, Some, None, IfSome}
 use Rattle.std.proofs.lemmas.List.{take-append-le, length-append}
 use Rattle.pass_entry.specs.declared.entry.Entry.{Entry}
-use Rattle.pass_entry.specs.declared.entry.Reply.{Reply}
-use Rattle.pass_plain.specs.Sessions.{Session}
-use Rattle.pass_plain.specs.Legal.{IsLegal, MayFollow, Past, session_of}
+use Rattle.pass_plain.specs.Legal.{MayFollow, session_of}
 use Rattle.pass_plain.specs.Registries.{opening_registry}
 use Rattle.pass_plain.specs.Sessions.{opening_bytes}
 use Rattle.pass_plain.specs.Pipes.{pipe_after}
 use Rattle.pass_plain.specs.States.{registry_of, registry_from, file_from, pipe_of, IsCaller}
-use Rattle.pass_plain.specs.Seen.{IsSeenRegistry, IsSeenFile, IsSeenPipe, IsSeenCaller, AreSeen, IsPlainState}
+use Rattle.pass_plain.specs.Seen.{IsSeenRegistry, IsSeenFile, IsSeenPipe, IsSeenCaller, IsPlainState}
 use Rattle.pass_plain.specs.declared.start.Start.{Start}
 use Rattle.pass_plain.specs.declared.registry.RegistryState.{RegistryState}
 use Rattle.pass_plain.specs.declared.pipe.PipeState.{PipeState}

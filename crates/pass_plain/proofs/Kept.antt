@@ -5,7 +5,7 @@ use Rattle.std.specs.Ordering.{nat_cmp, is_eq}
 use Rattle.std.specs.declared.cmp.Ordering.{Ordering}
 use Rattle.std.specs.declared.cmp.Ordering.TheVariants.{Less, Equal, Greater}
 use Rattle.std.specs.FinMap.{nat_cmp-IsAntisymmetric}
-use Rattle.std.specs.BTreeMap.{BTreeMap, get, is_at, UpdatesBy, IsUnchanged}
+use Rattle.std.specs.BTreeMap.{BTreeMap, get, UpdatesBy, IsUnchanged}
 use Rattle.std.specs.Map.{lookup}
 use Rattle.pass_plain.specs.Seen.{AllAt}
 

@@ -1,6 +1,6 @@
 -- A process's last call, and what it is judged by, after one more entry of a legal history.
-use Rattle.std.proofs.Common.{◌≡◌, ◌<◌, ◌≤◌, ◌+◌, ℕ, zero, suc, List, [], ◌∷◌, ◌++◌, length, take, refl, ap, sym, ◌∙◌, subst, arith, ◌⊎◌, inl, inr, Bool, true, false, ◌&&◌, ◌||◌, ◌==◌, cond, get_or}
-use Rattle.std.specs.Prelude.{Option, Some, None, IfSome, slice_get, fold, ◌^◌, if◌then◌else◌}
+use Rattle.std.proofs.Common.{◌≡◌, ◌<◌, ◌+◌, ℕ, List, [], ◌∷◌, ◌++◌, length, take, refl, ap, sym, ◌∙◌, subst, arith, ◌⊎◌, inl, inr, Bool, true, false, ◌&&◌, ◌||◌, ◌==◌, cond, get_or}
+use Rattle.std.specs.Prelude.{Option, Some, None, IfSome, fold, ◌^◌, if◌then◌else◌}
 use Rattle.std.specs.List.{list_any, before_first}
 use Rattle.std.proofs.lemmas.Bool.Decides.{nat_tests}
 use Rattle.std.proofs.lemmas.List.Folds.{list_any-append}
@@ -16,7 +16,6 @@ use Rattle.pass_entry.specs.declared.entry.Act.{Act}
 use Rattle.pass_entry.specs.declared.entry.Act.TheVariants as act
 use Rattle.pass_plain.specs.Histories.{is_of_call, call_entries}
 use Rattle.pass_plain.specs.Sessions.{Session}
-use Rattle.pass_plain.specs.Sound.{IsSound}
 use Rattle.pass_plain.specs.Processes.{Process, process_after, begins, has_begun, is_file, AllBelow64, OffsetsFit}
 use Rattle.pass_plain.specs.Calls.{Made, Step}
 use Rattle.pass_plain.specs.Legal.{IsLegal, MayFollow, before_call, last_number}

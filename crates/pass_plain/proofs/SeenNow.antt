@@ -1,5 +1,5 @@
 -- A process seen after the whole history, and what was kept of one.
-use Rattle.std.proofs.Common.{◌≡◌, ◌≤◌, ℕ, List, length, take, sym, subst, arith}
+use Rattle.std.proofs.Common.{ℕ, List, length, sym, subst, arith}
 use Rattle.std.proofs.lemmas.List.{take_all}
 use Rattle.pass_entry.specs.declared.entry.Entry.{Entry}
 use Rattle.pass_plain.specs.States.{IsCaller}

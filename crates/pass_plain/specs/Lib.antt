@@ -14,6 +14,7 @@ pub mod Lawful
 pub mod Sound
 pub mod Versions
 pub mod Records
+pub mod Recording
 pub mod Recorded
 pub mod Flows
 pub mod Graphs

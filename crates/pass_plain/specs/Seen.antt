@@ -1,13 +1,13 @@
 -- What is kept of the states of objects between looks at a history.
-use Rattle.std.specs.Prelude.{ℕ, ◌≡◌, ◌≤◌, ◌+◌, List, length, take, Option, Some, IfSome}
+use Rattle.std.specs.Prelude.{ℕ, ◌≡◌, ◌≤◌, ◌+◌, List, length, take, Some, IfSome}
 use Rattle.std.specs.Ordering.{nat_cmp}
 use Rattle.std.specs.BTreeMap.{BTreeMap, get}
 use Rattle.pass_entry.specs.declared.entry.Entry.{Entry}
 use Rattle.pass_plain.specs.Sessions.{opening_bytes}
 use Rattle.pass_plain.specs.Sound.{IsSound}
 use Rattle.pass_plain.specs.Legal.{IsLegal, session_of}
-use Rattle.pass_plain.specs.Pipes.{Pipe, pipe_after}
-use Rattle.pass_plain.specs.Registries.{Registry, opening_registry}
+use Rattle.pass_plain.specs.Pipes.{pipe_after}
+use Rattle.pass_plain.specs.Registries.{opening_registry}
 use Rattle.pass_plain.specs.States.{registry_of, registry_from, file_from, pipe_of, IsCaller}
 use Rattle.pass_plain.specs.declared.start.Start.{Start}
 use Rattle.pass_plain.specs.declared.registry.RegistryState.{RegistryState}

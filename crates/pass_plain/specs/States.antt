@@ -12,7 +12,7 @@ use Rattle.pass_plain.specs.Replies.{minted, found, done_if, is_app_object, take
 use Rattle.pass_plain.specs.declared.replies.Holder.{Holder}
 use Rattle.pass_plain.specs.declared.replies.Holder.TheVariants as holder
 use Rattle.pass_entry.specs.declared.entry.Entry.{Entry}
-use Rattle.pass_plain.specs.Histories.{state_after, call_entries}
+use Rattle.pass_plain.specs.Histories.{state_after, call_entries, is_own}
 use Rattle.pass_plain.specs.Sessions.{Session}
 use Rattle.pass_plain.specs.Sound.{IsSound}
 use Rattle.pass_plain.specs.Processes.{Process, process_after, has_begun, refusal}
@@ -31,6 +31,10 @@ registry_of r = record { names = r.names; objects = r.objects.items; made = r.ma
 
 abbrev pub pipe_of : PipeState → Pipe
 pipe_of p = record { bytes = p.bytes.items; readers = p.readers; writers = p.writers }
+
+-- the registry after one more entry
+abbrev pub registry_step : Registry → Entry → Registry
+registry_step r e = if is_own 0 e then registry_act r e.act e.reply else r
 
 -- the registry after a history that began with this one
 abbrev pub registry_from : Registry → List Entry → Registry

@@ -45,7 +45,8 @@ fn set_size(content: &mut Vec<u8>, size: u64) -> Result<(), AllocError>
     content.resize(size as usize, 0)
 }
 
-fn apply(alloc: Global, content: &mut Vec<u8>, act: &Act) -> Result<(), AllocError>
+/// What an act on a file makes of its content.
+pub fn apply(alloc: Global, content: &mut Vec<u8>, act: &Act) -> Result<(), AllocError>
     ensures { OnOk result (content.new.items ≡ file_act content.old.items act.now) }
 {
     match act {

@@ -4,13 +4,16 @@
 #[cfg(test)]
 mod call_tests;
 mod callers;
+mod contents;
 mod equality;
 mod file;
 pub mod laws;
 mod names;
 pub mod next;
+mod nodes;
 mod pipe;
 pub mod process;
+mod records;
 pub mod reference;
 mod registry;
 mod replies;

@@ -3,14 +3,16 @@ ghost use Rattle.std.specs.Prelude.{◌≡◌, ◌↔◌, ◌++◌, ◌∷◌, [
 ghost use Rattle.pass_entry.specs.declared.entry.Reply.{Reply as AnyReply};
 ghost use Rattle.pass_plain.specs.Legal.{IsLegal, MayFollow, Past, session_of};
 ghost use Rattle.pass_plain.specs.Processes.{process_after};
+ghost use Rattle.pass_plain.specs.Records.{records_of as records_of_session};
 ghost use Rattle.pass_plain.specs.Sound.{IsSound};
 ghost use Rattle.pass_plain.specs.States.{call_of, IsLastCall};
 
 use crate::callers::LastCall;
 use crate::process::ProcessState;
+use crate::records::records_of;
 use crate::seen::SeenStates;
 use crate::start::Start;
-use pass_entry::{Entry, Pnode, Reply};
+use pass_entry::{Entry, Pnode, Record, Reply};
 use std::alloc::{AllocError, Global};
 use std::marker::Model;
 
@@ -102,6 +104,14 @@ impl<'a> Plain<'a> {
         ensures sound { IsSound self.now.session }
     {
         self.history.as_slice()
+    }
+
+    /// The records of the entries so far, in order. A call of its own walks over the whole history.
+    pub fn records(&self) -> Result<Vec<Record>, AllocError>
+        ensures { IfOk result (λ v. v.items ≡ records_of_session self.now.session self.now.history) }
+    {
+        let alloc = *self.history.allocator();
+        records_of(alloc, self.start, &self.history)
     }
 
     /// The history.

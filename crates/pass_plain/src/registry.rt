@@ -7,7 +7,7 @@ ghost use Rattle.pass_plain.specs.Histories.{is_fault as is_fault_of, is_own as 
 ghost use Rattle.pass_plain.specs.Legal.{session_of};
 ghost use Rattle.pass_plain.specs.Registries.{Registry as AnyRegistry, opening_registry, registry_act, with_object, same_kind as same_kind_of, count_of_kind, is_full as is_full_of, kind_number as kind_number_of};
 ghost use Rattle.pass_plain.specs.Replies.{minted as minted_of, is_app_object as is_app_object_of};
-ghost use Rattle.pass_plain.specs.States.{registry_of, registry_from};
+ghost use Rattle.pass_plain.specs.States.{registry_of, registry_from, registry_step};
 
 use crate::names::Names;
 use crate::start::{Start, StartFile};
@@ -36,7 +36,8 @@ pub fn is_own(object: Pnode, e: &Entry) -> bool
     e.what == object && !is_fault(&e.reply)
 }
 
-fn pnode_of(reply: &Reply) -> Pnode
+/// The object that a reply gives, 0 where it gives none.
+pub fn pnode_of(reply: &Reply) -> Pnode
     ensures { result ≡ pnode_in reply.now }
 {
     match reply {
@@ -134,6 +135,18 @@ impl RegistryState {
             }
             _ => Ok(()),
         }
+    }
+
+    /// The registry after one more entry of a history.
+    pub fn follow(&mut self, e: &Entry) -> Result<(), AllocError>
+        requires { self.old.made < 2 ^ 63 }
+        ensures ok { OnOk result (registry_of self.new ≡ registry_step (registry_of self.old) e.now) }
+        ensures made { self.new.made ≤ self.old.made + 1 }
+    {
+        if is_own(Pnode(0), e) {
+            self.apply(&e.act, &e.reply)?;
+        }
+        Ok(())
     }
 
     fn count(&self, kind: Kind) -> usize

@@ -3,6 +3,8 @@ ghost use Rattle.std.specs.Prelude.{ℕ, ◌≤◌, ◌<◌, ◌^◌};
 ghost use Rattle.pass_plain.specs.Legal.{session_of};
 ghost use Rattle.pass_plain.specs.Sound.{IsSound};
 
+mod recorded;
+
 use crate::reference::Plain;
 use crate::start::Start;
 use pass_entry::{

@@ -1,6 +1,5 @@
-use Rattle.std.proofs.Common.{◌≡◌, ◌<◌, ◌+◌, ◌||◌, ap, sym, ◌∙◌, subst, length, arith, true, false, List, take, refl}
-use Rattle.pass_entry.specs.declared.entry.Entry.{Entry}
-use Rattle.pass_plain.specs.Processes.{Process, OffsetsFit, process_after, process_act, begins, has_begun}
+use Rattle.std.proofs.Common.{◌<◌, ◌+◌, ◌||◌, ap, sym, ◌∙◌, subst, length, arith, take}
+use Rattle.pass_plain.specs.Processes.{Process, OffsetsFit, process_act, begins}
 use Rattle.pass_plain.specs.Histories.{own_step}
 use Rattle.pass_plain.specs.States.{Call, IsLastCall, call_of, noted}
 use Rattle.pass_plain.proofs.Replays.{process_after-next}

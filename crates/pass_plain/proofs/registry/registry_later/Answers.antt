@@ -1,8 +1,8 @@
-use Rattle.std.proofs.Common.{◌≡◌, ◌<◌, ◌≤◌, ◌+◌, ap, sym, ◌∙◌, length, arith, true, false, List, take}
+use Rattle.std.proofs.Common.{◌≡◌, ◌<◌, ap, sym, ◌∙◌, length, arith, true, false, List}
 use Rattle.pass_entry.specs.declared.entry.Entry.{Entry}
 use Rattle.pass_plain.specs.Histories.{is_own}
 use Rattle.pass_plain.specs.Registries.{Registry, registry_act}
-use Rattle.pass_plain.specs.States.{registry_of, registry_from}
+use Rattle.pass_plain.specs.States.{registry_of}
 use Rattle.pass_plain.specs.declared.registry.RegistryState.{RegistryState}
 use Rattle.pass_plain.proofs.Replays.{state_after-mine, state_after-not_mine}
 use Rattle.pass_plain.proofs.registry.registry_later.Goals as goal

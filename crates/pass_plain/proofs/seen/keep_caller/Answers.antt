@@ -1,4 +1,4 @@
-use Rattle.std.proofs.Common.{◌≡◌, sym, subst, ℕ, length}
+use Rattle.std.proofs.Common.{sym, subst, ℕ, length}
 use Rattle.pass_plain.specs.declared.callers.Caller.{Caller}
 use Rattle.pass_plain.specs.declared.seen.Seen.{Seen}
 use Rattle.pass_plain.specs.Seen.{IsSeenCaller}

@@ -1,4 +1,4 @@
-use Rattle.std.proofs.Common.{◌≡◌, sym, subst, ℕ, length, Vec, Global}
+use Rattle.std.proofs.Common.{sym, subst, ℕ, length, Vec, Global}
 use Rattle.pass_plain.specs.declared.seen.Seen.{Seen}
 use Rattle.pass_plain.specs.Seen.{IsSeenFile}
 use Rattle.pass_plain.proofs.Kept.{all_inserted, all_unchanged}

@@ -1,4 +1,4 @@
-use Rattle.std.proofs.Common.{◌≡◌, ◌≤◌, ◌∙◌, sym, subst, ℕ, length, take}
+use Rattle.std.proofs.Common.{sym, subst, ℕ, take}
 use Rattle.pass_plain.specs.States.{IsCaller}
 use Rattle.pass_plain.specs.declared.callers.Caller.{Caller}
 use Rattle.pass_plain.specs.declared.seen.Seen.{Seen}

@@ -1,4 +1,4 @@
-use Rattle.std.proofs.Common.{◌≡◌, ◌≤◌, ◌∙◌, sym, subst, ℕ, length, arith}
+use Rattle.std.proofs.Common.{sym, ℕ}
 use Rattle.pass_plain.specs.declared.pipe.PipeState.{PipeState}
 use Rattle.pass_plain.specs.declared.seen.Seen.{Seen}
 use Rattle.pass_plain.specs.Seen.{IsSeenPipe}

@@ -1,6 +1,5 @@
 use Rattle.std.proofs.Common.{◌≡◌, ◌∙◌, sym, true, false, refl, arith, [], ◌==◌}
 use Rattle.std.proofs.lemmas.Bool.Decides.{nat_tests}
-use Rattle.pass_plain.specs.Legal.{may_act}
 use Rattle.pass_plain.specs.States.{may_go, call_of}
 use Rattle.pass_plain.proofs.Allowing.{may_go_is, in_last, at_new, decided, not_allowed}
 use Rattle.pass_plain.proofs.callers.Caller.allows.Goals as goal

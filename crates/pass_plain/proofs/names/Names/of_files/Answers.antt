@@ -1,7 +1,6 @@
-use Rattle.std.proofs.Common.{◌≡◌, ◌∙◌, ◌++◌, ◌<◌, ap, sym, take, arith, length, List, ℕ, [], ◌∷◌}
-use Rattle.std.specs.Prelude.{filter_map, Option, Some, option_map}
+use Rattle.std.proofs.Common.{◌∙◌, ◌++◌, ◌<◌, ap, sym, take, arith, length, List, ℕ, [], ◌∷◌}
+use Rattle.std.specs.Prelude.{filter_map, Option, option_map}
 use Rattle.std.proofs.lemmas.List.Elements.{filter_map-append}
-use Rattle.std.proofs.lemmas.Grind.{common_steps}
 use Rattle.std.specs.List.{cons_option}
 use Rattle.pass_plain.specs.Registries.{named_file}
 use Rattle.pass_plain.proofs.Replays.{take-next, append-nil}

@@ -1,4 +1,4 @@
-use Rattle.std.proofs.Common.{◌≡◌, subst}
+use Rattle.std.proofs.Common.{subst}
 use Rattle.pass_plain.specs.Legal.{IsLegal, Past}
 use Rattle.pass_plain.proofs.reference.Plain.into_history.Goals as goal
 

@@ -1,4 +1,4 @@
-use Rattle.std.proofs.Common.{◌≡◌, sym, subst, List, []}
+use Rattle.std.proofs.Common.{sym, subst, List}
 use Rattle.pass_entry.specs.declared.entry.Entry.{Entry}
 use Rattle.pass_plain.specs.Legal.{IsLegal, session_of}
 use Rattle.pass_plain.proofs.reference.Plain.new.Goals as goal

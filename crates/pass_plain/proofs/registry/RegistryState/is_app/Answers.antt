@@ -1,4 +1,4 @@
-use Rattle.std.proofs.Common.{◌≡◌, ap, sym, ◌∙◌, Bool, true, false, List, [], ◌∷◌, refl, ◌||◌, cond}
+use Rattle.std.proofs.Common.{◌≡◌, ap, ◌∙◌, Bool, true, false, List, [], ◌∷◌, refl, ◌||◌, cond}
 use Rattle.std.specs.Prelude.{Some, find, is_some, ◌==◌, ◌&&◌, ℕ}
 use Rattle.std.specs.List.{list_any}
 use Rattle.pass_entry.specs.declared.objects.Kind.{Kind}

@@ -1,4 +1,4 @@
-use Rattle.std.proofs.Common.{◌≡◌, ap, sym, ◌∙◌, Bool, true, false, cond}
+use Rattle.std.proofs.Common.{ap, sym, ◌∙◌, cond}
 use Rattle.pass_entry.specs.declared.entry.Reply.TheVariants as answer
 use Rattle.pass_entry.specs.declared.entry.CallFault.TheVariants as fault
 use Rattle.pass_plain.specs.Legal.{session_of}

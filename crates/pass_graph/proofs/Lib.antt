@@ -18,3 +18,8 @@ mod Contents
 mod Prolonging
 mod Prefixing
 mod Listing
+mod Holding
+mod Adding
+mod Ranking
+mod Noding
+mod Closing

@@ -34,12 +34,16 @@ record IsSteady (list : List Record) : Type 0 where
   versions : (a b : Node) → a.pnode ≡ b.pnode → a.version ≡ suc b.version → 1 ≤ b.version → a.version ≤ opened_by list a.pnode → Contains list (log.Version a)
   acyclic : IsAcyclic list
 
-nothing_in : (r : Record) → Contains [] r → ⊥
+pub nothing_in : (r : Record) → Contains [] r → ⊥
 nothing_in r h = let z = h.1 in omega (arith, z)
 
 last_edge : (list : List Record) {a b : Node} → HasPath list a b → (x : Node) × IsEdge list x b
 last_edge list {a} (edge e) = (a, e)
 last_edge list (step e p) = last_edge list p
+
+pub no_edge : (a b : Node) → IsEdge [] a b → ⊥
+no_edge a b (by_input h) = nothing_in _ h
+no_edge a b (by_version h same next) = nothing_in _ h
 
 none_steady : IsSteady []
 none_steady = record {
@@ -49,36 +53,32 @@ none_steady = record {
   versions = λ a b same next one le. absurd (omega (arith, next, le));
   acyclic = λ a p. let (x, e) = last_edge [] p in no_edge x a e;
 }
-  where
-    no_edge : (a b : Node) → IsEdge [] a b → ⊥
-    no_edge a b (by_input h) = nothing_in _ h
-    no_edge a b (by_version h same next) = nothing_in _ h
 
 -- tests that find no flaw
 
-unflawed : (b : Bool) (reason : FlawReason) (next : Option FlawReason) → flaw_if b reason next ≡ None → (b ≡ false) × (next ≡ None)
+pub unflawed : (b : Bool) (reason : FlawReason) (next : Option FlawReason) → flaw_if b reason next ≡ None → (b ≡ false) × (next ≡ None)
 unflawed true reason next h = absurd (cc)
 unflawed false reason next h = (refl, h)
 
-no_first : {A B : Type 0} (f : A → B) (o : Option A) (rest : Option B) → option_map_or (λ x. Some (f x)) o rest ≡ None → (o ≡ None) × (rest ≡ None)
+pub no_first : {A B : Type 0} (f : A → B) (o : Option A) (rest : Option B) → option_map_or (λ x. Some (f x)) o rest ≡ None → (o ≡ None) × (rest ≡ None)
 no_first f None rest h = (refl, h)
 no_first f (Some x) rest h = absurd (cc)
 
 module _ (list : List Record) (r : Record) where
-  abbrev more : List Record
+  abbrev pub more : List Record
   more = list ++ r ∷ []
 
-  kind_next : (o : ℕ) → kind_of more o ≡ kind_look o (kind_of list o) r
+  pub kind_next : (o : ℕ) → kind_of more o ≡ kind_look o (kind_of list o) r
   kind_next o = fold-append (kind_look o) None list (r ∷ [])
 
-  version_next : (o : ℕ) → current_of more o ≡ version_look o (current_of list o) r
+  pub version_next : (o : ℕ) → current_of more o ≡ version_look o (current_of list o) r
   version_next o = fold-append (version_look o) 1 list (r ∷ [])
 
   old_edge : (a b : Node) → IsEdge list a b → IsEdge more a b
   old_edge a b (by_input h) = by_input (Contains-append_left list (r ∷ []) (log.Input a b) h)
   old_edge a b (by_version h same next) = by_version (Contains-append_left list (r ∷ []) (log.Version a) h) same next
 
-  edge_cases : (a b : Node) → IsEdge more a b → IsEdge list a b ⊎ ((r ≡ log.Input a b) ⊎ ((r ≡ log.Version a) × (b.pnode ≡ a.pnode) × (b.version + 1 ≡ a.version)))
+  pub edge_cases : (a b : Node) → IsEdge more a b → IsEdge list a b ⊎ ((r ≡ log.Input a b) ⊎ ((r ≡ log.Version a) × (b.pnode ≡ a.pnode) × (b.version + 1 ≡ a.version)))
   edge_cases a b (by_input h) = elim (Contains-push_cases list r (log.Input a b) h) [ inl l ↦ inl (by_input l) | inr same ↦ inr (inl same) ]
   edge_cases a b (by_version h same next) = elim (Contains-push_cases list r (log.Version a) h) [ inl l ↦ inl (by_version l same next) | inr is ↦ inr (inr (is, same, next)) ]
 

@@ -1,3 +1,6 @@
+pub mod Check
+pub mod ListRanks
+pub mod Logged
 pub mod Openings
 pub mod Places
 pub mod Ranks

@@ -2,6 +2,7 @@
 //! and does nothing.
 ghost use Rattle.pass_graph.specs.Lawful.{VersionRecordLaw, InputRecordLaw, RankLaw, OpeningLaw, AcyclicLaw, ChainLaw, PathLaw, GraphLaw, OwnGraphLaw, FirstOpeningLaw, FirstStartLaw, PrefixLaw, DuplicateLaw};
 ghost use Rattle.pass_graph.specs.Words.{WordsLaw};
+ghost use Rattle.pass_graph.specs.ListRanks.{NodesLaw, ListRankLaw, ListAcyclicLaw};
 
 /// The records of a session have its freezes as versions and its fresh INs as edges, and no others.
 pub fn edges()
@@ -53,4 +54,11 @@ pub fn duplicates_lose_nothing()
 /// Versions, marks, fresh INs and freezes are what the words over the places of a history say.
 pub fn words()
     ensures { WordsLaw }
+{}
+
+/// The nodes of a well logged list are each made once, their ranks fall along every edge, and so the list has no cycle.
+pub fn well_logged()
+    ensures nodes { NodesLaw }
+    ensures falls { ListRankLaw }
+    ensures acyclic { ListAcyclicLaw }
 {}

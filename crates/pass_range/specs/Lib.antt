@@ -1,0 +1,5 @@
+pub mod Places
+pub mod Rows
+pub mod Sources
+pub mod Tables
+pub mod Laters

@@ -1,0 +1,19 @@
+-- Where the bytes of a block stand on the store area (this project's own format).
+use Rattle.std.specs.Prelude.{◌≡◌, ◌⊎◌, ℕ, ◌+◌, ◌*◌, ◌≤◌, List, ◌++◌, length, take, drop, replicate}
+use Rattle.pass_plain.specs.Records.{block_size}
+
+-- where a block of the file of that number begins
+abbrev pub place : ℕ → ℕ → ℕ
+place number block = (number * 1024 + block) * block_size
+
+-- so many bytes as an area gives them there, zero past its end
+abbrev pub found_there : ℕ → ℕ → List ℕ → List ℕ
+found_there at len area = take len (drop at area ++ replicate len 0)
+
+-- the area has these bytes there
+abbrev pub Holds : ℕ → List ℕ → List ℕ → Type 0
+Holds at bytes area = take (length bytes) (drop at area) ≡ bytes
+
+-- two ranges of an area, each with its first place and its length, have no byte in common
+abbrev pub IsApart : ℕ → ℕ → ℕ → ℕ → Type 0
+IsApart at len other other_len = (at + len ≤ other) ⊎ (other + other_len ≤ at)

@@ -1,0 +1,13 @@
+//! Ranges of files on the store area, and the table of their digests.
+#![tactic(auto)]
+
+mod fault;
+mod later;
+mod listing;
+mod range;
+mod table;
+
+pub use fault::RangeFault;
+pub use listing::unmatched;
+pub use range::{Range, digests_of, range_len, read_range, write_range};
+pub use table::{Table, TableFile};

@@ -1,0 +1,109 @@
+//! Blocks of files: their digests, and their bytes on the store area.
+ghost use Rattle.std.specs.Prelude.{◌≡◌, ◌+◌, ◌-◌, ◌*◌, ◌<◌, ◌≤◌, ◌^◌, IsTrue, OnOk, IfOk, map, min, length, take, drop, replicate};
+ghost use Rattle.std.specs.List.{All};
+ghost use Rattle.md5.specs.Md5.{md5};
+ghost use Rattle.pass_outside.specs.Areas.{Image, written, Torn, OnArea};
+ghost use Rattle.pass_outside.specs.declared.disk.Area.TheVariants as areas;
+ghost use Rattle.pass_outside.specs.Moments.{IsAtEnd, IsCall, Follows, Reaches};
+ghost use Rattle.pass_plain.specs.Records.{block_size, range_len};
+ghost use Rattle.pass_range.specs.Places.{place, found_there};
+ghost use Rattle.pass_range.specs.Rows.{range};
+
+use md5::{Digest, Md5};
+use pass_entry::Pnode;
+use pass_outside::{Area, Disk, Failed};
+use std::alloc::{AllocError, Global};
+
+/// The bytes of a block.
+const BLOCK: usize = 4096;
+
+/// The greatest number of blocks of a file.
+const FILE_BLOCKS: u64 = 1024;
+
+/// A block of a file. Its range is what of the file's bytes lies in it.
+#[derive(Clone, Copy, Debug, PartialEq, Eq, PartialOrd, Ord)]
+pub struct Range {
+    pub pnode: Pnode,
+    pub block: u32,
+}
+
+// The bytes of a block of a content.
+fn range_in(content: &[u8], block: u32) -> &[u8]
+    requires { block * block_size < length content.now }
+    ensures { result.now ≡ range block content.now }
+{
+    let begin = block as usize * BLOCK;
+    let end = content.len().min(begin + BLOCK);
+    &content[begin..end]
+}
+
+/// How many bytes of a file of that size lie in a block.
+pub fn range_len(size: u64, block: u32) -> usize
+    ensures len { result ≡ range_len size block }
+    ensures most { result ≤ 4096 }
+{
+    let begin = u64::from(block) * BLOCK as u64;
+    size.min(begin + BLOCK as u64).saturating_sub(begin) as usize
+}
+
+/// The digests of these blocks of a file's content, each one that of its range (RFC 1321).
+pub fn digests_of(
+    alloc: Global,
+    content: &[u8],
+    blocks: &[u32],
+) -> Result<Vec<[u8; 16]>, AllocError>
+    requires { All (λ block. block * block_size < length content.now) blocks.now }
+    ensures { IfOk result (λ v. v.items ≡ map (λ block. md5 (range block content.now)) blocks.now) }
+{
+    let mut digests = Vec::with_capacity(alloc, blocks.len())?;
+    for block in blocks {
+        digests.push(Md5::digest(range_in(content, *block)))?;
+    }
+    Ok(digests)
+}
+
+// Where a block of the file of that number begins on the store area.
+fn place(number: u32, block: u32) -> u64
+    ensures { result ≡ place number block }
+{
+    (u64::from(number) * FILE_BLOCKS + u64::from(block)) * BLOCK as u64
+}
+
+/// Writes to the range of a block of the file of that number, by one device call.
+///
+/// Called by the vault, which syncs the area behind the last block of a file.
+pub fn write_range<D: Disk>(
+    disk: &mut D,
+    number: u32,
+    block: u32,
+    bytes: &[u8],
+) -> Result<(), Failed>
+    ensures written { OnOk result (IsTrue (D.view disk.old).tells → (D.view disk.new).seen.store ≡ written (D.view disk.old).seen.store (place number block) bytes.now) }
+    ensures content { IsTrue (D.view disk.old).tells → OnArea areas.Store (Torn (place number block) (length bytes.now)) (D.view disk.old).seen (D.view disk.new).seen }
+    ensures crash { Follows (OnArea areas.Store (Torn (place number block) (length bytes.now))) (D.view disk.old) (D.view disk.new) }
+    ensures reaches { OnOk result (IsTrue (D.view disk.old).tells → Reaches (OnArea areas.Store (Torn (place number block) (length bytes.now))) (D.view disk.old) (D.view disk.new)) }
+    ensures call { IsCall (D.view disk.old) (D.view disk.new) result }
+    ensures stands { IsAtEnd (D.view disk.old) → disk.new ≡ disk.old }
+{
+    disk.write_at(Area::Store, place(number, block), bytes)
+}
+
+/// Reads what the store area has from the begin of a block of the file of that number on, by one device call. What
+/// lies past the area's end is 0.
+pub fn read_range<D: Disk>(
+    disk: &mut D,
+    number: u32,
+    block: u32,
+    into: &mut [u8],
+) -> Result<(), Failed>
+    ensures bytes { OnOk result (IsTrue (D.view disk.old).tells → into.new ≡ found_there (place number block) (length into.old) (D.view disk.old).seen.store) }
+    ensures content { (D.view disk.new).seen ≡ (D.view disk.old).seen }
+    ensures crash { (c : Image) → (D.view disk.new).may_leave c → (D.view disk.old).may_leave c }
+    ensures reaches { (c : Image) → (D.view disk.old).may_leave c → (D.view disk.new).may_leave c }
+    ensures call { IsCall (D.view disk.old) (D.view disk.new) result }
+    ensures stands { IsAtEnd (D.view disk.old) → disk.new ≡ disk.old }
+{
+    let count = disk.read(Area::Store, place(number, block), &mut *into)?;
+    into[count..].fill(0);
+    Ok(())
+}

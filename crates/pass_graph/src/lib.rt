@@ -5,6 +5,8 @@
 mod checking;
 pub mod laws;
 mod logged;
+#[cfg(test)]
+mod tests;
 
 pub use checking::{CheckFault, Ranks, check};
 pub use logged::{Logged, Told};

@@ -5,3 +5,13 @@ pub mod Numbers
 pub mod Ordered
 pub mod LastRows
 pub mod Listed
+pub mod Apart
+pub mod Digested
+pub mod Changing
+pub mod Following
+pub mod Filed
+pub mod Numbered
+pub mod Rowed
+pub mod Zeros
+pub mod Proved
+pub mod RowFiles

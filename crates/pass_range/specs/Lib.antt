@@ -3,3 +3,4 @@ pub mod Rows
 pub mod Sources
 pub mod Tables
 pub mod Laters
+pub mod Lawful

@@ -3,6 +3,7 @@
 
 mod fault;
 mod later;
+pub mod laws;
 mod listing;
 mod range;
 mod table;

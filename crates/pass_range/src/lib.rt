@@ -7,6 +7,8 @@ pub mod laws;
 mod listing;
 mod range;
 mod table;
+#[cfg(test)]
+mod tests;
 
 pub use fault::RangeFault;
 pub use listing::unmatched;

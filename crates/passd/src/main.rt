@@ -2,10 +2,8 @@
 //! folder of the store, and the others are the words of the command.
 #![tactic(auto)]
 
-mod streams;
-
-use crate::streams::{HostSink, HostSource};
 use pass_cli::{Status, pass_main};
+use pass_host::{HostSink, HostSource};
 use pass_outside::{NoDisk, OpenGate};
 use std::process::ExitCode;
 use std::{env, io};

@@ -1,17 +1,17 @@
-//! The streams of the program. They tell nothing of the bytes that pass, and count their faults.
-ghost use Rattle.std.specs.Prelude.{false, []};
+//! Readers and writers as sources and sinks.
+ghost use Rattle.std.specs.Prelude.{◌≡◌, false, []};
 
 use pass_outside::{Failed, Sink, Source};
 use std::io::{Read, Write};
 
-/// A reader as a source.
+/// A reader as a source, as one of standard input is.
 #[derive(Drop)]
 pub struct HostSource<R> {
     reader: R,
     faults: u64,
 }
 
-/// A writer as a sink.
+/// A writer as a sink, as one of standard output is.
 #[derive(Drop)]
 pub struct HostSink<W> {
     writer: W,
@@ -19,23 +19,33 @@ pub struct HostSink<W> {
 }
 
 impl<R: Read> HostSource<R> {
-    pub fn new(reader: R) -> HostSource<R> {
+    ghost use Rattle.pass_host.specs.Host.{source_faults};
+
+    pub fn new(reader: R) -> HostSource<R>
+        ensures { source_faults result ≡ 0 }
+    {
         HostSource { reader, faults: 0 }
     }
 }
 
 impl<W: Write> HostSink<W> {
-    pub fn new(writer: W) -> HostSink<W> {
+    ghost use Rattle.pass_host.specs.Host.{sink_faults};
+
+    pub fn new(writer: W) -> HostSink<W>
+        ensures { sink_faults result ≡ 0 }
+    {
         HostSink { writer, faults: 0 }
     }
 }
 
 impl<R: Read> Source for HostSource<R> {
+    ghost use Rattle.pass_host.specs.Host.{source_faults};
+
     ghost tells = { false };
 
     ghost left = { λ s. [] };
 
-    ghost fault_count = { λ s. s.faults };
+    ghost fault_count = { source_faults };
 
     fn read(&mut self, into: &mut [u8]) -> Result<usize, Failed> {
         if self.faults == u64::MAX {
@@ -52,11 +62,13 @@ impl<R: Read> Source for HostSource<R> {
 }
 
 impl<W: Write> Sink for HostSink<W> {
+    ghost use Rattle.pass_host.specs.Host.{sink_faults};
+
     ghost tells = { false };
 
     ghost taken = { λ s. [] };
 
-    ghost fault_count = { λ s. s.faults };
+    ghost fault_count = { sink_faults };
 
     // A writer that takes nothing of a piece that isn't empty has failed.
     fn write(&mut self, bytes: &[u8]) -> Result<usize, Failed> {

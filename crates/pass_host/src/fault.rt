@@ -1,0 +1,30 @@
+//! Why a folder can't be opened.
+ghost use Rattle.std.specs.Prelude.{◌≡◌};
+ghost use Rattle.pass_host.specs.declared.fault.HostFault.TheVariants.{NoMemory};
+
+use std::alloc::AllocError;
+use std::io;
+
+/// The folder or one of its files can't be opened, or memory was refused.
+#[derive(Clone, Copy, Debug, PartialEq, Eq, Drop)]
+pub enum HostFault {
+    Failed,
+    NoMemory,
+}
+
+impl From<io::Error> for HostFault {
+    fn from(error: io::Error) -> HostFault {
+        match error.kind() {
+            io::ErrorKind::OutOfMemory => HostFault::NoMemory,
+            _ => HostFault::Failed,
+        }
+    }
+}
+
+impl From<AllocError> for HostFault {
+    ghost from_gives = { λ _ e. e ≡ NoMemory };
+
+    fn from(_error: AllocError) -> HostFault {
+        HostFault::NoMemory
+    }
+}

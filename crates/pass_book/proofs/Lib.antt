@@ -1,0 +1,16 @@
+pub mod Prefixes
+pub mod Lookups
+pub mod Lists
+pub mod Affairs
+pub mod Backed
+pub mod Rules
+pub mod Splitting
+pub mod Joining
+pub mod Loading
+pub mod Vaulting
+pub mod First
+pub mod Adding
+pub mod Badges
+pub mod Recording
+pub mod Meetings
+pub mod Opened

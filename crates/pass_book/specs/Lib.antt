@@ -1,0 +1,10 @@
+pub mod Names
+pub mod Added
+pub mod Numbers
+pub mod Syncs
+pub mod Nothing
+pub mod Views
+pub mod Slips
+pub mod Records
+pub mod Tokens
+pub mod Openings

@@ -1,6 +1,7 @@
 //! Why a folder can't be opened.
 ghost use Rattle.std.specs.Prelude.{◌≡◌};
 ghost use Rattle.pass_host.specs.declared.fault.HostFault.TheVariants.{NoMemory};
+ghost use Rattle.pass_host.specs.HostFault.{IsFaultOf};
 
 use std::alloc::AllocError;
 use std::io;
@@ -13,6 +14,8 @@ pub enum HostFault {
 }
 
 impl From<io::Error> for HostFault {
+    ghost from_gives = { IsFaultOf };
+
     fn from(error: io::Error) -> HostFault {
         match error.kind() {
             io::ErrorKind::OutOfMemory => HostFault::NoMemory,

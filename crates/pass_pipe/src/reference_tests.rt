@@ -1,5 +1,5 @@
 //! The same transfers on a pipe and in the plain history of a session.
-ghost use Rattle.std.specs.Prelude.{ℕ, ◌≤◌, ◌<◌, ◌^◌};
+ghost use Rattle.std.specs.Prelude.{◌≤◌};
 ghost use Rattle.pass_plain.specs.Legal.{session_of};
 ghost use Rattle.pass_plain.specs.Sound.{IsSound};
 
@@ -108,10 +108,7 @@ impl<'a> Both<'a> {
             fd: WRITER,
             len: len as u32,
         };
-        assert_eq!(rt;
-            self.step(CallName::Write, PARENT, show)?,
-            Some(Reply::Done)
-        );
+        self.done(rt, CallName::Write, PARENT, show)?;
         let push = Act::Push {
             out: self.last(),
             bytes,
@@ -157,16 +154,8 @@ impl<'a> Both<'a> {
             End::Reader => READER,
             End::Writer => WRITER,
         };
-        let detach = Act::Detach { fd };
-        assert_eq!(rt;
-            self.step(CallName::CloseFd, PARENT, detach)?,
-            Some(Reply::Done)
-        );
-        let leave = Act::Leave { end };
-        assert_eq!(rt;
-            self.step(CallName::CloseFd, PIPE, leave)?,
-            Some(Reply::Done)
-        );
+        self.done(rt, CallName::CloseFd, PARENT, Act::Detach { fd })?;
+        self.done(rt, CallName::CloseFd, PIPE, Act::Leave { end })?;
         self.drop_end(rt, end);
         Ok(())
     }
@@ -199,12 +188,8 @@ impl<'a> Both<'a> {
         self.done(rt, fork, PARENT, spawn)?;
         let out = self.last();
         for end in [End::Reader, End::Writer] {
-            assert_eq!(rt;
-                self.step(fork, PIPE, Act::Join { end })?,
-                Some(Reply::Done)
-            );
-            assert!(rt; self.pipe.readers() < 9 && self.pipe.writers() < 9);
-            self.pipe.hold(end);
+            self.done(rt, fork, PIPE, Act::Join { end })?;
+            self.hold(rt, end);
         }
         let born = Act::Born {
             out,
@@ -288,10 +273,7 @@ fn begin<'a>(rt: &impl Abort, alloc: Global, start: &'a Start) -> Result<Both<'a
         writer: WRITER,
         pnode: PIPE,
     };
-    assert_eq!(rt;
-        both.step(CallName::MakePipe, PARENT, attach)?,
-        Some(Reply::Done)
-    );
+    both.done(rt, CallName::MakePipe, PARENT, attach)?;
     Ok(both)
 }
 

@@ -1,0 +1,8 @@
+pub mod FileLaws
+pub mod Files
+pub mod OneRegistry
+pub mod Openings
+pub mod Outcomes
+pub mod Places
+pub mod States
+pub mod Tables

@@ -1,5 +1,7 @@
 //! Reading the log area of a disk.
 ghost use Rattle.std.specs.Prelude.{◌≡◌, ◌⊎◌, ◌<◌, ◌≤◌, ◌^◌, ℕ, length, IsTrue, IfOk, IfErr, IsErrOf, vec_len};
+ghost use Rattle.std.specs.List.{All};
+ghost use Rattle.pass_entry.specs.Ranges.{IsInRange};
 ghost use Rattle.pass_outside.specs.Areas.{Image};
 ghost use Rattle.pass_outside.specs.Moments.{IsAtEnd, Adds};
 ghost use Rattle.pass_log.specs.LogImage.{IsRead, IsFaultRead};
@@ -22,6 +24,8 @@ pub fn read_image<D: Disk>(alloc: Global, disk: &mut D) -> Result<LogImage, LogF
     ensures image { IfOk result (λ image. IsRead (D.view disk.old) image) }
     ensures open_next { IfOk result (λ image. IsRead (D.view disk.new) image) }
     ensures end { IfOk result (λ image. image.end ≤ 2 ^ 39) }
+    // Each record is within the ranges of the format.
+    ensures in_range { IfOk result (λ image. All IsInRange image.list.items) }
     // Which fault it is: that of the disk where a call failed, else that of the bytes, or want of memory.
     ensures fault { IfErr result (λ e. (e ≡ LogFault.DiskFault) ⊎ IsFaultRead (D.view disk.old) e) }
     ensures failed { IsErrOf result LogFault.DiskFault → ((D.view disk.old).faults < (D.view disk.new).faults) ⊎ IsAtEnd (D.view disk.new) }

@@ -1,5 +1,7 @@
 //! What a log area tells.
 ghost use Rattle.std.specs.Prelude.{◌≡◌, ◌⊎◌, ◌<◌, ◌≤◌, ◌+◌, ◌^◌, ◌↔◌, List, ℕ, length, take, drop, IsTrue, Ok, Err, IfOk, IfErr, IfSome, IfNone, OnOk, IsErrOf};
+ghost use Rattle.std.specs.List.{All};
+ghost use Rattle.pass_entry.specs.Ranges.{IsInRange};
 ghost use Rattle.pass_log.specs.Frames.{Frames, number, scan};
 ghost use Rattle.pass_log.specs.Records.{image_of, joined, records_in, records_of, Fails, Gives};
 ghost use Rattle.pass_log.specs.LogImage.{held_in};
@@ -73,6 +75,7 @@ fn fault_of(place: u64, fault: RecordFault) -> LogFault
 fn read_frame(alloc: Global, frame: &[u8], list: &mut Vec<Record>) -> Result<(), LogFault>
     ensures ok { OnOk result (joined list.old.items (records_in 0 (length list.old.items) frame.now) ≡ Ok list.new.items) }
     ensures err { IfErr result (λ e. Fails e (records_in 0 (length list.old.items) frame.now)) }
+    ensures in_range { OnOk result (All IsInRange list.old.items → All IsInRange list.new.items) }
 {
     let mut rest = frame;
     while !rest.is_empty() {
@@ -89,8 +92,9 @@ fn read_frame(alloc: Global, frame: &[u8], list: &mut Vec<Record>) -> Result<(),
 
 // The records of frames of which each one is whole.
 fn read_frames(alloc: Global, bytes: &[u8]) -> Result<Vec<Record>, LogFault>
-    ensures { (frames : List (List ℕ)) (end : ℕ) → scan 0 0 bytes.now ≡ Ok (record { list = frames; end = end })
+    ensures exact { (frames : List (List ℕ)) (end : ℕ) → scan 0 0 bytes.now ≡ Ok (record { list = frames; end = end })
         → Gives (λ list. list.items) result (records_of 0 frames) }
+    ensures in_range { IfOk result (λ list. All IsInRange list.items) }
 {
     let mut list = Vec::new(alloc);
     let mut rest = bytes;
@@ -110,6 +114,7 @@ pub fn parse(alloc: Global, bytes: &[u8]) -> Result<LogImage, LogFault>
     ensures exact { Gives held_in result (image_of bytes.now) }
     ensures short { IfOk result (λ image. IsTrue image.short ↔ (length bytes.now ≤ 1)) }
     ensures end { IfOk result (λ image. image.end ≤ 2 ^ 39) }
+    ensures in_range { IfOk result (λ image. All IsInRange image.list.items) }
 {
     if bytes.len() <= 1 {
         return Ok(LogImage {

@@ -7,12 +7,12 @@ mod Telling
 mod Recording
 mod Edging
 mod Joining
-mod Logging
+pub mod Logging
 mod Opening
 mod Proved
 mod Repeating
 mod Wording
-mod Accepting
+pub mod Accepting
 mod Naming
 mod Contents
 mod Prolonging
@@ -20,6 +20,6 @@ mod Prefixing
 mod Listing
 mod Holding
 mod Adding
-mod Ranking
-mod Noding
+pub mod Ranking
+pub mod Noding
 mod Closing

@@ -52,25 +52,25 @@ pub fn check(alloc: Global, list: &[Record]) -> Result<Ranks, CheckFault>
 {
     let mut logged = Logged::new(alloc);
     let mut ranking = Ranking::new(alloc);
-    for (place, record) in list.iter().enumerate() {
-        if let Some(reason) = logged.flaw(record) {
+    for (place, one) in list.iter().enumerate() {
+        if let Some(reason) = logged.flaw(one) {
             return Err(CheckFault::Flaw {
                 place: place as u64,
                 reason,
             });
         }
-        logged.add(record)?;
-        ranking.add(record, place as u64)?;
+        logged.add(one)?;
+        ranking.add(one, place as u64)?;
     }
     let places = ranking.places(alloc, list.len() as u64)?;
     Ok(Ranks { places })
 }
 
 /// The node that the record makes.
-fn made_node(record: &Record) -> Option<Node>
-    ensures { result ≡ made_node record.now }
+fn made_node(one: &Record) -> Option<Node>
+    ensures { result ≡ made_node one.now }
 {
-    match record {
+    match one {
         Record::Object { pnode, .. } => Some(Node {
             pnode: *pnode,
             version: 1,
@@ -81,10 +81,10 @@ fn made_node(record: &Record) -> Option<Node>
 }
 
 /// The node that the record names as a source, or that its version ends.
-fn closed_node(record: &Record) -> Option<Node>
-    ensures { (node : Node) → (has_source node record.now || begins_after node record.now) ≡ option_map_or (λ n. same_node n node) result false }
+fn closed_node(one: &Record) -> Option<Node>
+    ensures { (node : Node) → (has_source node one.now || begins_after node one.now) ≡ option_map_or (λ n. same_node n node) result false }
 {
-    match record {
+    match one {
         Record::Input { source, .. } => Some(*source),
         Record::Version { node } => Some(Node {
             pnode: node.pnode,
@@ -115,24 +115,24 @@ impl Ranking {
     }
 
     /// Takes the record at the place.
-    fn add(&mut self, record: &Record, place: u64) -> Result<(), AllocError>
+    fn add(&mut self, one: &Record, place: u64) -> Result<(), AllocError>
         ensures { OnOk result ((list : List Record) → IsRankingOf list self.old → length list ≡ place
-            → IsRankingOf (list ++ record.now ∷ []) self.new) }
+            → IsRankingOf (list ++ one.now ∷ []) self.new) }
     {
-        self.close(record, place)?;
-        if let Some(node) = made_node(record) {
+        self.close(one, place)?;
+        if let Some(node) = made_node(one) {
             self.nodes.push(node)?;
         }
         Ok(())
     }
 
     /// The node that the record closes has the place, if it had none.
-    fn close(&mut self, record: &Record, place: u64) -> Result<(), AllocError>
+    fn close(&mut self, one: &Record, place: u64) -> Result<(), AllocError>
         ensures nodes { self.new.nodes ≡ self.old.nodes }
         ensures closed { OnOk result ((list : List Record) → AreFirst list self.old.closed → length list ≡ place
-            → AreFirst (list ++ record.now ∷ []) self.new.closed) }
+            → AreFirst (list ++ one.now ∷ []) self.new.closed) }
     {
-        let Some(node) = closed_node(record) else {
+        let Some(node) = closed_node(one) else {
             return Ok(());
         };
         if !self.closed.contains_key(&node) {

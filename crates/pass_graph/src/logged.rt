@@ -79,10 +79,10 @@ impl Logged {
     }
 
     /// The first reason for which the record may not stand after the list.
-    pub fn flaw(&self, record: &Record) -> Option<FlawReason>
-        ensures { (list : List Record) → Summarizes self.now list → result ≡ flaw_of list record.now }
+    pub fn flaw(&self, one: &Record) -> Option<FlawReason>
+        ensures { (list : List Record) → Summarizes self.now list → result ≡ flaw_of list one.now }
     {
-        match record {
+        match one {
             Record::Object { pnode, kind } => self.object_flaw(*pnode, *kind),
             Record::Name { pnode, name } => self.name_flaw(*pnode, name),
             Record::Attr { node, .. } => self.attr_flaw(*node),
@@ -94,13 +94,16 @@ impl Logged {
         }
     }
 
-    /// The file that has the name now.
+    /// The file that has the name now; none has the empty one.
     pub fn holder(&self, name: &[u8]) -> Option<Pnode>
         ensures named { (list : List Record) → Summarizes self.now list
-            → IfSome result (λ p. last_name_of list p ≡ name.now) }
+            → IfSome result (λ p. (1 ≤ length name.now) × (last_name_of list p ≡ name.now)) }
         ensures alone { (list : List Record) → Summarizes self.now list
             → 1 ≤ length name.now → (p : ℕ) → last_name_of list p ≡ name.now → result ≡ Some p }
     {
+        if name.is_empty() {
+            return None;
+        }
         let last = *self.holders.get(name)?;
         if self.has_name(last, name) {
             Some(Pnode(last))
@@ -124,9 +127,6 @@ impl Logged {
         ensures { (list : List Record) → Summarizes self.now list
             → result ≡ (nat_lt 0 (length name.now) && list_any (names_other list pnode name.now) list) }
     {
-        if name.is_empty() {
-            return false;
-        }
         match self.holder(name) {
             Some(holder) => holder != pnode,
             None => false,
@@ -321,13 +321,13 @@ impl Logged {
     }
 
     /// Takes a record that has no flaw after the list. Where memory is refused, the tables still tell what the list says.
-    pub fn add(&mut self, record: &Record) -> Result<(), AllocError>
-        ensures ok { OnOk result ((list : List Record) → Summarizes self.old list → flaw_of list record.now ≡ None
-            → Summarizes self.new (list ++ record.now ∷ [])) }
-        ensures err { OnErr result ((list : List Record) → Summarizes self.old list → flaw_of list record.now ≡ None
+    pub fn add(&mut self, one: &Record) -> Result<(), AllocError>
+        ensures ok { OnOk result ((list : List Record) → Summarizes self.old list → flaw_of list one.now ≡ None
+            → Summarizes self.new (list ++ one.now ∷ [])) }
+        ensures err { OnErr result ((list : List Record) → Summarizes self.old list → flaw_of list one.now ≡ None
             → Summarizes self.new list) }
     {
-        match record {
+        match one {
             Record::Object { pnode, kind } => self.add_object(pnode.0, *kind),
             Record::Name { pnode, name } => self.add_name(pnode.0, name.as_bytes()),
             Record::Input { target, source } => self.add_input(target, source),

@@ -1,0 +1,4 @@
+mod Sorting
+mod Edging
+mod Texting
+mod Indexing

@@ -1,0 +1,138 @@
+//! What a text names: the files that got it as a name, and the attributes of that name.
+ghost use Rattle.std.specs.Prelude.{◌≡◌, ℕ, List, [], ◌∷◌, ◌++◌, OnOk, IsSome, bytes_eq, if◌then◌else◌};
+ghost use Rattle.std.specs.BTreeSet.{insert_key};
+ghost use Rattle.std.specs.HashMap.{get_by};
+ghost use Rattle.std.specs.List.Sorted.{IsStrictlySortedBy};
+ghost use Rattle.std.specs.Ordering.{nat_cmp};
+
+use crate::sorted::put;
+use pass_entry::{Node, Pnode, Text};
+use std::alloc::{AllocError, Global};
+use std::collections::HashMap;
+
+/// The files that got the text as a name, in ascending order, and the values of the attributes of that name, in the order
+/// in which they were given.
+#[derive(Drop)]
+struct Row {
+    files: Vec<Pnode>,
+    values: Vec<(Node, Text)>,
+}
+
+#[derive(Drop)]
+pub(crate) struct Texts {
+    alloc: Global,
+    rows: HashMap<Vec<u8>, Row>,
+}
+
+impl Texts {
+    ghost use Rattle.pass_waldo.specs.Texts.{is_text, files_of, values_of, AreSame, HasFileRoom, HasValueRoom};
+
+    pub(crate) fn new(alloc: Global) -> Texts
+        ensures files { (n : List ℕ) → files_of result n ≡ [] }
+        ensures values { (n : List ℕ) → values_of result n ≡ [] }
+    {
+        Texts {
+            alloc,
+            rows: HashMap::new(alloc),
+        }
+    }
+
+    pub(crate) fn files(&self, name: &[u8]) -> &[Pnode]
+        ensures { result.now ≡ files_of self.now name.now }
+    {
+        match self.rows.get(name) {
+            Some(row) => row.files.as_slice(),
+            None => &[],
+        }
+    }
+
+    pub(crate) fn values(&self, attr: &[u8]) -> &[(Node, Text)]
+        ensures { result.now ≡ values_of self.now attr.now }
+    {
+        match self.rows.get(attr) {
+            Some(row) => row.values.as_slice(),
+            None => &[],
+        }
+    }
+
+    /// Makes room for one more file of the name.
+    pub(crate) fn make_file_room(&mut self, name: &[u8]) -> Result<(), AllocError>
+        ensures same { AreSame self.old self.new }
+        ensures room { OnOk result (HasFileRoom self.new name.now) }
+    {
+        self.make_row(name)?;
+        self.widen_files(name)
+    }
+
+    /// Makes room for one more value of the attribute.
+    pub(crate) fn make_value_room(&mut self, attr: &[u8]) -> Result<(), AllocError>
+        ensures same { AreSame self.old self.new }
+        ensures room { OnOk result (HasValueRoom self.new attr.now) }
+    {
+        self.make_row(attr)?;
+        self.widen_values(attr)
+    }
+
+    /// The text has a row.
+    fn make_row(&mut self, name: &[u8]) -> Result<(), AllocError>
+        ensures same { AreSame self.old self.new }
+        ensures made { OnOk result (IsSome (get_by (is_text name.now) self.new.rows)) }
+    {
+        if !self.rows.contains_key(name) {
+            let key = Vec::from_slice(self.alloc, name)?;
+            let row = Row {
+                files: Vec::new(self.alloc),
+                values: Vec::new(self.alloc),
+            };
+            self.rows.insert(key, row)?;
+        }
+        Ok(())
+    }
+
+    fn widen_files(&mut self, name: &[u8]) -> Result<(), AllocError>
+        requires { IsSome (get_by (is_text name.now) self.old.rows) }
+        ensures same { AreSame self.old self.new }
+        ensures room { OnOk result (HasFileRoom self.new name.now) }
+    {
+        match self.rows.get_mut(name) {
+            Some(row) => row.files.reserve(1),
+            None => Ok(()),
+        }
+    }
+
+    fn widen_values(&mut self, attr: &[u8]) -> Result<(), AllocError>
+        requires { IsSome (get_by (is_text attr.now) self.old.rows) }
+        ensures same { AreSame self.old self.new }
+        ensures room { OnOk result (HasValueRoom self.new attr.now) }
+    {
+        match self.rows.get_mut(attr) {
+            Some(row) => row.values.reserve(1),
+            None => Ok(()),
+        }
+    }
+
+    /// The file got the name.
+    pub(crate) fn put_file(&mut self, name: &[u8], file: Pnode)
+        requires room { HasFileRoom self.old name.now }
+        requires sorted { IsStrictlySortedBy nat_cmp (files_of self.old name.now) }
+        ensures files { (n : List ℕ) → files_of self.new n
+            ≡ (if bytes_eq name.now n then insert_key nat_cmp (files_of self.old n) file else files_of self.old n) }
+        ensures values { (n : List ℕ) → values_of self.new n ≡ values_of self.old n }
+    {
+        if let Some(row) = self.rows.get_mut(name) {
+            let _ = put(&mut row.files, file);
+        }
+    }
+
+    /// The node got the value of the attribute.
+    pub(crate) fn put_value(&mut self, attr: &[u8], node: Node, value: Text)
+        requires { HasValueRoom self.old attr.now }
+        ensures values { (n : List ℕ) → values_of self.new n
+            ≡ (if bytes_eq attr.now n then values_of self.old n ++ (node, value) ∷ [] else values_of self.old n) }
+        ensures files { (n : List ℕ) → files_of self.new n ≡ files_of self.old n }
+    {
+        if let Some(row) = self.rows.get_mut(attr) {
+            let _ = row.values.push((node, value));
+        }
+    }
+}

@@ -33,11 +33,11 @@ pub struct Book {
 }
 
 impl Model for Book {
-    ghost use Rattle.std.specs.Prelude.{◌+◌, ◌≤◌, length, vec_capacity};
+    ghost use Rattle.std.specs.Prelude.{◌≡◌, ◌+◌, ◌≤◌, length, vec_capacity};
     ghost use Rattle.std.specs.Coded.{codes};
     ghost use Rattle.pass_entry.specs.contracts.entry.Entry as entry_type;
     ghost use Rattle.pass_plain.specs.contracts.start.Start as start_type;
-    ghost use Rattle.pass_book.specs.Records.{AreRecords};
+    ghost use Rattle.pass_book.specs.Records.{entry_lists};
     ghost use Rattle.pass_book.specs.Tokens.{BookState, IsOpen, id_of};
     ghost use Rattle.pass_book.specs.Views.{session_in};
 
@@ -47,7 +47,7 @@ impl Model for Book {
 
     ghost view = { λ b. record { book = id_of b.seat.table_id b.seat.me.0; history = b.entries.items; syncs = b.seat.me.0.syncs; places = b.places; claimed = b.claimed } };
 
-    ghost invariant = { λ b. IsOpen b.table.value.shared.table_id b.seat.table_id b.seat.me b.entries.items b.claimed × AreRecords (session_in b.seat.me.0.opened) b.entries.items b.slips.items × (length b.entries.items + b.claimed ≤ b.places) × (b.places ≤ vec_capacity b.entries) × (b.places ≤ vec_capacity b.slips) };
+    ghost invariant = { λ b. IsOpen b.table.value.shared.table_id b.seat.table_id b.seat.me b.entries.items b.claimed × (b.slips.items ≡ entry_lists (session_in b.seat.me.0.opened) b.entries.items) × (length b.entries.items + b.claimed ≤ b.places) × (b.places ≤ vec_capacity b.entries) × (b.places ≤ vec_capacity b.slips) };
 }
 
 impl Book {
@@ -98,7 +98,7 @@ impl Book {
         ensures claim { claim.new ≡ record claim.old { unused = claim.old.unused - 1; line = claim.new.line; last = if is_finish entry.act then None else claim.old.last; slip = [] } }
         ensures line { ForSome claim.old.line (λ l. claim.new.line ≡ Some (record l { seen = self.new.history; syncs = self.new.syncs; looks = l.looks + 1; looked = length self.new.history })) }
         ensures follows { MayFollow self.old.book.session self.old.history entry }
-        ensures legal { IsLegal self.old.book.session self.old.history }
+        ensures legal { IsLegal self.old.book.session self.new.history }
         ensures object { IsPrefix desk.old.seen self.old.history × AgreeOn entry.what desk.old.seen self.old.history × IsPrefix desk.old.syncs self.new.syncs }
         ensures caller { ForSome claim.old.line (λ l. IsPrefix l.seen self.old.history × AgreeBy entry.who l.seen self.old.history × IsPrefix l.syncs self.new.syncs) }
         ensures syncs { IsPrefix self.old.syncs self.new.syncs × IsRising self.new.syncs }
@@ -149,9 +149,10 @@ impl Book {
         self.claimed -= unused;
     }
 
-    /// How many entries there are.
+    /// How many entries there are. With the places that are claimed they are no more than there is room for.
     pub fn len(&self) -> u64
-        ensures { result ≡ length self.now.history }
+        ensures len { result ≡ length self.now.history }
+        ensures within { length self.now.history + self.now.claimed ≤ self.now.places }
     {
         self.entries.len() as u64
     }

@@ -85,6 +85,14 @@ impl Model for Desk {
 }
 
 impl Line {
+    /// How many entries its holder has seen.
+    pub fn seen(&self) -> u64
+        ensures seen { result ≡ length self.now.seen }
+        ensures legal { IsLegal self.now.book.session self.now.seen }
+    {
+        self.sight.seen()
+    }
+
     /// Its holder sees the longer of both histories and of both lists.
     pub fn meet(&mut self, note: Note)
         requires { note.book ≡ self.old.book }

@@ -2,22 +2,22 @@ use Rattle.std.proofs.Common.{rules, ◌≡◌, ◌-◌, ◌<◌, [], ◌∷◌,
 use mathlib.Core.List.{IsPrefix}
 use Rattle.atomic_table.specs.Seated.{TableId}
 use Rattle.pass_entry.specs.declared.entry.Entry.{Entry}
-use Rattle.pass_entry.specs.declared.record.Record.{Record}
 use Rattle.pass_plain.specs.Sessions.{Session}
 use Rattle.pass_plain.specs.Legal.{IsLegal, CallerAllows, MayFollow}
 use Rattle.pass_plain.specs.Lawful.{AgreeOn, AgreeBy}
 use Rattle.pass_plain.specs.Records.{entry_records}
+use Rattle.pass_plain.proofs.Appends.{legal-push}
 use Rattle.pass_plain.proofs.RecordedBy.{record_law}
 use Rattle.pass_book.specs.declared.view.Opened.{Opened}
 use Rattle.pass_book.specs.declared.view.Role.TheVariants as role
 use Rattle.pass_book.specs.declared.view.VaultSync.{VaultSync}
 use Rattle.pass_book.specs.Names.{name}
-use Rattle.pass_book.specs.Records.{AreRecords}
+use Rattle.pass_book.specs.Records.{entry_lists}
 use Rattle.pass_book.specs.Syncs.{Backs}
 use Rattle.pass_book.specs.Tokens.{BookState, DeskState, LineState, At, IsPast, line_of}
 use Rattle.pass_book.specs.Views.{session_in}
 use Rattle.pass_book.proofs.Badges.{past_legal, past_unlisted}
-use Rattle.pass_book.proofs.Recording.{records_more, some_same}
+use Rattle.pass_book.proofs.Recording.{lists_more, lists-length, some_same}
 use Rattle.pass_book.proofs.book.Book.add.Goals as goal
 
 -- Before the entry is written
@@ -54,8 +54,27 @@ session c = ap session_in c.fold_last.ensures.same.1 ∙ ap (λ (b : BookState).
 line : (c : goal.After-push_reserved-2) → c.args.claim.now.line ≡ Some c.in-Some.line
 line c = search rules
 
+-- the history before the entry
+legal : (c : goal.After-push_reserved-2) → IsLegal c.args.self.now.book.session c.args.self.now.history
+legal c = subst (λ (b : BookState). IsLegal b.book.session b.history) c.self.view_is (past_legal _ _ _ c.self.invariant.0.past)
+
+follows : (c : goal.After-push_reserved-2) → MayFollow c.args.self.now.book.session c.args.self.now.history c.args.entry
+follows c =
+    let P : Session → List Entry → Type 0 = λ t g. MayFollow t g c.args.entry in
+    subst (λ (t : Session). P t c.args.self.now.history) (session c) (subst (P (session_in c.fold_last.new.book.me.0.opened)) (history c) c.enter.ensures.follows)
+
 pub returns-clause-legal : goal.returns-clause-legal
-returns-clause-legal c = subst (λ (b : BookState). IsLegal b.book.session b.history) c.self.view_is (past_legal _ _ _ c.self.invariant.0.past)
+returns-clause-legal c =
+    let more = ap (λ (h : List Entry). h ++ c.args.entry ∷ []) (ap (λ (b : BookState). b.history) c.self.view_is) in
+    subst (λ (h : List Entry). IsLegal c.args.self.now.book.session h) (sym (c.push_reserved.ensures.items ∙ more)) (legal-push _ c.args.self.now.history c.args.entry (legal c) (follows c))
+
+pub push_reserved-requires-2 : goal.push_reserved-requires-2
+push_reserved-requires-2 c =
+    let o = c.self.invariant in
+    let n = c.enter.ensures in
+    let f = c.fold_last.ensures in
+    let all = ap length o.1 ∙ lists-length (session_in c.self.inside.seat.me.0.opened) c.self.inside.entries.items in
+    omega (arith, all, n.claimed.1, f.claimed.1, o.0.pool, o.2, o.4)
 
 pub returns-clause-object : goal.returns-clause-object
 returns-clause-object c =
@@ -84,12 +103,10 @@ records c =
     let e = c.args.entry in
     let d = c.args.desk.now.seen in
     let l = c.in-Some.line in
-    let P : Session → List Entry → Type 0 = λ t g. MayFollow t g e in
-    let follows = subst (λ (t : Session). P t h) (session c) (subst (P (session_in c.fold_last.new.book.me.0.opened)) (history c) c.enter.ensures.follows) in
     let object = returns-clause-object c in
     let caller = returns-clause-caller c l (line c) in
     let slip : c.replace-slip.result ≡ c.args.claim.now.slip = search rules in
-    slip ∙ c.requires.slip l (line c) ∙ sym (record_law s h d l.seen e (returns-clause-legal c) follows object.0 object.1 caller.0 caller.1)
+    slip ∙ c.requires.slip l (line c) ∙ sym (record_law s h d l.seen e (legal c) (follows c) object.0 object.1 caller.0 caller.1)
 
 pub invariant_of-self : goal.invariant_of-self
 invariant_of-self c =
@@ -111,10 +128,10 @@ invariant_of-self c =
     let asked = ap (λ (b : BookState). b.book.session) c.self.view_is in
     let Q : Session → List Entry → Type 0 = λ s h. c.replace-slip.result ≡ entry_records s h e in
     let mine = subst (λ (s : Session). Q s c.self.inside.entries.items) (sym asked) (subst (Q c.args.self.now.book.session) (sym history) (records c)) in
-    let all = records_more _ _ e c.self.inside.slips.items c.replace-slip.result c.self.invariant.1 mine in
-    let R : Opened → List Entry → List (List Record) → Type 0 = λ u h ls. AreRecords (session_in u) h ls in
-    let kept = subst (λ (u : Opened). R u c.push_reserved.new.self.items c.push_reserved-2.new.self.items) (sym opened)
-    (subst (λ (h : List Entry). R c.self.inside.seat.me.0.opened h c.push_reserved-2.new.self.items) (sym items) (subst (R c.self.inside.seat.me.0.opened _) (sym c.push_reserved-2.ensures.items) all)) in (
+    let s = session_in c.self.inside.seat.me.0.opened in
+    let lists = c.push_reserved-2.ensures.items ∙ ap (λ ls. ls ++ c.replace-slip.result ∷ []) c.self.invariant.1
+    ∙ ap (λ r. entry_lists s c.self.inside.entries.items ++ r ∷ []) mine ∙ sym (lists_more s c.self.inside.entries.items e) in
+    let kept = lists ∙ ap (entry_lists s) (sym items) ∙ ap (λ (u : Opened). entry_lists (session_in u) c.push_reserved.new.self.items) (sym opened) in (
       record { at = at; seen = seen; claimed = n.claimed.0; pool = pool; empty = n.opened.1 ∙ f.same.2 ∙ o.empty; past = past },
       kept,
       omega (arith, longer, some, c.self.invariant.2),

@@ -17,7 +17,7 @@ invariant_of-self c =
     record {
       below = λ i o at. most_push before.table.objects (before.ceiling + c.from.result, c.args.kind) (before.ceiling + before.made) (before.ceiling + (before.made + 1))
           c.self.invariant.below (omega arith) (omega (arith, made)) i o (subst (λ (s : ObjectState). slice_get s.objects i ≡ Some o) c.add.ensures at);
-      within = omega (arith, c.if-self.false);
-      reserved = (let r = c.self.invariant.reserved in let f = c.if-self.false in omega (arith, room, r, f));
+      within = omega arith;
+      reserved = (let r = c.self.invariant.reserved in omega (arith, room, r));
       numbers = c.self.invariant.numbers;
     }

@@ -82,7 +82,7 @@ born_of session history e out descriptors legal next is =
     let makes = mint_answer session history m.0 m.1 kind.Process legal stands (ap made_kind same) done in
     (record { place = m.0; maker = m.1; stands = stands; makes = makes ∙ ap (λ n. Some n) (sym child); mints = same }, who, number, called)
 
-begins-cases : (object : ℕ) (c : CallName) (a : Act) (what : ℕ) (y : Reply) → begins object c a what y ≡ true
+pub begins-cases : (object : ℕ) (c : CallName) (a : Act) (what : ℕ) (y : Reply) → begins object c a what y ≡ true
     → ((c ≡ call.Start) × (y ≡ answer.Made object)) ⊎ ((out : ℕ) × (descriptors : Held) × (a ≡ act.Born out descriptors) × (what ≡ object))
 begins-cases object call.Start a what (answer.Made n) h = inl (refl, ap (λ n. answer.Made n) (same_numbers n object h))
 begins-cases object call.Start a what _ h = absurd (cc)

@@ -42,11 +42,11 @@ quiet_row (act.Put out at bytes) block had quiet = absurd (cc)
 quiet_row (act.Cut out size) block had quiet = absurd (cc)
 quiet_row _ block had quiet = refl
 
-different : (a b : ℕ) → a ≢ b → (a == b) ≡ false
+pub different : (a b : ℕ) → a ≢ b → (a == b) ≡ false
 different a b apart = grind (arith, nat_tests)
 
 module _ (start : Start) (history : List Entry) (e : Entry) (file : ℕ) where
-  bytes_own : (e.what == file) ≡ true → is_fault e.reply ≡ false → bytes_after start (history ++ e ∷ []) file ≡ file_act (bytes_after start history file) e.act
+  pub bytes_own : (e.what == file) ≡ true → is_fault e.reply ≡ false → bytes_after start (history ++ e ∷ []) file ≡ file_act (bytes_after start history file) e.act
   bytes_own own done =
       state_after-append (λ past content e. file_act content e.act) file (opening_bytes start file) history e
       ∙ own_step-own (λ past content e. file_act content e.act) file history (bytes_after start history file) e own done
@@ -57,11 +57,11 @@ module _ (start : Start) (history : List Entry) (e : Entry) (file : ℕ) where
       ∙ own_step-own (λ past had e. row_act block had e.act) file history (row_after start history file block) e own done
 
   -- what an entry leaves as it was
-  record Leaves : Type 0 where
-    bytes : bytes_after start (history ++ e ∷ []) file ≡ bytes_after start history file
-    rows : (block : ℕ) → row_after start (history ++ e ∷ []) file block ≡ row_after start history file block
+  pub record Leaves : Type 0 where
+    pub bytes : bytes_after start (history ++ e ∷ []) file ≡ bytes_after start history file
+    pub rows : (block : ℕ) → row_after start (history ++ e ∷ []) file block ≡ row_after start history file block
 
-  other_leaves : (e.what == file) ≡ false → Leaves
+  pub other_leaves : (e.what == file) ≡ false → Leaves
   other_leaves other = record {
     bytes = state_after-append (λ past content e. file_act content e.act) file (opening_bytes start file) history e
         ∙ own_step-other (λ past content e. file_act content e.act) file history (bytes_after start history file) e other;
@@ -69,7 +69,7 @@ module _ (start : Start) (history : List Entry) (e : Entry) (file : ℕ) where
         ∙ own_step-other (λ past had e. row_act block had e.act) file history (row_after start history file block) e other;
   }
 
-  fault_leaves : is_fault e.reply ≡ true → Leaves
+  pub fault_leaves : is_fault e.reply ≡ true → Leaves
   fault_leaves fault = record {
     bytes = state_after-append (λ past content e. file_act content e.act) file (opening_bytes start file) history e
         ∙ own_step-fault (λ past content e. file_act content e.act) file history (bytes_after start history file) e fault;
@@ -77,7 +77,7 @@ module _ (start : Start) (history : List Entry) (e : Entry) (file : ℕ) where
         ∙ own_step-fault (λ past had e. row_act block had e.act) file history (row_after start history file block) e fault;
   }
 
-  quiet_leaves : is_change e.act ≡ false → Leaves
+  pub quiet_leaves : is_change e.act ≡ false → Leaves
   quiet_leaves quiet = by_cases (e.what == file) (is_fault e.reply) refl refl
     where
       by_cases : (own fault : Bool) → (e.what == file) ≡ own → is_fault e.reply ≡ fault → Leaves

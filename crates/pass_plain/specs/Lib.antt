@@ -24,5 +24,5 @@ pub mod PipeEnds
 pub mod NextSteps
 pub mod CallLaws
 pub mod States
-pub mod Seen
+pub mod Cache
 pub mod Lineages

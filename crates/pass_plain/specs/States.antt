@@ -1,5 +1,5 @@
 -- What the programs' states stand for.
-use Rattle.std.specs.Prelude.{ℕ, Bool, not, ◌&&◌, ◌≡◌, ◌<◌, ◌≤◌, ◌==◌, List, [], ◌∷◌, ◌++◌, Option, Some, None, length, take, drop, if◌then◌else◌}
+use Rattle.std.specs.Prelude.{ℕ, ◌+◌, Bool, false, not, ◌&&◌, ◌≡◌, ◌<◌, ◌≤◌, ◌==◌, List, [], ◌∷◌, ◌++◌, Option, Some, None, length, take, drop, if◌then◌else◌}
 use Rattle.std.specs.Option.{option_map_or}
 use Rattle.std.specs.FinMap as finite_map
 use Rattle.pass_entry.specs.declared.entry.Act.{Act}
@@ -12,15 +12,15 @@ use Rattle.pass_plain.specs.Replies.{minted, found, done_if, is_app_object, take
 use Rattle.pass_plain.specs.declared.replies.Holder.{Holder}
 use Rattle.pass_plain.specs.declared.replies.Holder.TheVariants as holder
 use Rattle.pass_entry.specs.declared.entry.Entry.{Entry}
-use Rattle.pass_plain.specs.Histories.{state_after, call_entries, is_own}
+use Rattle.pass_plain.specs.Histories.{call_entries, is_own}
 use Rattle.pass_plain.specs.Sessions.{Session}
 use Rattle.pass_plain.specs.Sound.{IsSound}
-use Rattle.pass_plain.specs.Processes.{Process, process_after, has_begun, refusal}
+use Rattle.pass_plain.specs.Processes.{Process, new_process, process_after, has_begun, refusal}
 use Rattle.pass_plain.specs.Calls.{Made}
-use Rattle.pass_plain.specs.Legal.{IsLegal, before_call, last_number, goes_on, ends_call, leaves_call}
-use Rattle.pass_plain.specs.Files.{file_act}
-use Rattle.pass_plain.specs.Pipes.{Pipe}
-use Rattle.pass_plain.specs.Registries.{Registry, registry_act}
+use Rattle.pass_plain.specs.Legal.{session_of, IsLegal, before_call, last_number, goes_on, ends_call, leaves_call}
+use Rattle.pass_plain.specs.declared.start.Start.{Start}
+use Rattle.pass_plain.specs.Pipes.{Pipe, pipe_act, pipe_after}
+use Rattle.pass_plain.specs.Registries.{Registry, registry_act, registry_after}
 use Rattle.pass_plain.specs.declared.registry.RegistryState.{RegistryState}
 use Rattle.pass_plain.specs.declared.callers.LastCall.{LastCall}
 use Rattle.pass_plain.specs.declared.callers.Caller.{Caller}
@@ -36,13 +36,20 @@ pipe_of p = record { bytes = p.bytes.items; readers = p.readers; writers = p.wri
 abbrev pub registry_step : Registry → Entry → Registry
 registry_step r e = if is_own 0 e then registry_act r e.act e.reply else r
 
--- the registry after a history that began with this one
-abbrev pub registry_from : Registry → List Entry → Registry
-registry_from opening history = state_after (λ past r e. registry_act r e.act e.reply) 0 opening history
+-- the pipe after one more entry
+abbrev pub pipe_step : ℕ → Pipe → Entry → Pipe
+pipe_step object p e = if is_own object e then pipe_act p e.act else p
 
--- the content of a file after a history that began with this content
-abbrev pub file_from : List ℕ → ℕ → List Entry → List ℕ
-file_from opening object history = state_after (λ past content e. file_act content e.act) object opening history
+-- the registry after a history, in which each entry makes at most one object
+pub record IsRegistry (start : Start) (history : List Entry) (r : RegistryState) : Type 0 where
+  pub after : registry_of r ≡ registry_after (session_of start 0) history
+  pub made : r.made ≤ length history
+
+-- a pipe after a history, in which each entry joins at most one end
+pub record IsPipe (history : List Entry) (object : ℕ) (p : PipeState) : Type 0 where
+  pub after : pipe_of p ≡ pipe_after history object
+  pub readers : p.readers ≤ length history + 1
+  pub writers : p.writers ≤ length history + 1
 
 -- the last call of a process: its number, 0 where there is none, the state before it, and the entries that it has made
 pub record Call : Type 0 where
@@ -65,6 +72,12 @@ pub record IsLastCall (history : List Entry) (who : ℕ) (call : Call) : Type 0 
   pub number : call.number ≡ last_number history who
   pub before : 0 < call.number → call.before ≡ before_call history who call.number
   pub made : 0 < call.number → call.made ≡ call_entries history who call.number
+
+-- the history has nothing of the process
+pub record IsBlank (history : List Entry) (who : ℕ) : Type 0 where
+  pub begun : has_begun history who ≡ false
+  pub state : process_after history who ≡ new_process
+  pub number : last_number history who ≡ 0
 
 -- all that a process's next entry is judged by
 pub record IsCaller (history : List Entry) (who : ℕ) (c : Caller) : Type 0 where

@@ -1,10 +1,10 @@
 //! The calls of a process in a history.
-ghost use Rattle.std.specs.Prelude.{◌≡◌, ◌<◌, ◌≤◌, ◌+◌, ◌^◌, ◌||◌, IfOk, OnOk, length, take, List, [], ℕ, true, false, IsTrue, ◌↔◌};
+ghost use Rattle.std.specs.Prelude.{◌≡◌, ◌<◌, ◌≤◌, ◌+◌, ◌^◌, ◌||◌, IfOk, OnOk, ◌++◌, ◌∷◌, length, List, [], ℕ, true, false, IsTrue, ◌↔◌};
 ghost use Rattle.pass_entry.specs.declared.entry.Entry.{Entry as AnyEntry};
 ghost use Rattle.pass_plain.specs.Histories.{own_step};
 ghost use Rattle.pass_plain.specs.Processes.{Process, process_act, Gains, AllBelow64, OffsetsFit, begins as begins_of};
 ghost use Rattle.pass_plain.specs.Legal.{CallerAllows, is_start as is_start_of, goes_on as goes_on_of, ends_call as ends_call_of, leaves_call as leaves_call_of};
-ghost use Rattle.pass_plain.specs.States.{call_of, noted, may_go as may_go_of, IsCaller, IsLawful};
+ghost use Rattle.pass_plain.specs.States.{call_of, noted, may_go as may_go_of, IsBlank, IsCaller, IsLawful};
 
 use crate::next::is_next_step;
 use crate::process::ProcessState;
@@ -132,9 +132,9 @@ fn follow(
 }
 
 impl Caller {
-    /// A process of which the history has nothing.
+    /// A process of which a history has nothing.
     pub fn new(alloc: Global) -> Caller
-        ensures { (who : ℕ) → IsCaller [] who result }
+        ensures { (history : List AnyEntry) (who : ℕ) → IsBlank history who → IsCaller history who result }
     {
         Caller {
             begun: false,
@@ -145,6 +145,35 @@ impl Caller {
                 made: Vec::new(alloc),
             },
         }
+    }
+
+    /// The process after one more entry of a history.
+    pub fn follow(
+        &mut self,
+        alloc: Global,
+        history: &[Entry],
+        who: Pnode,
+        e: &Entry,
+    ) -> Result<(), AllocError>
+        requires lawful { IsLawful (history.now ++ e.now ∷ []) }
+        requires caller { IsCaller history.now who self.old }
+        ensures { OnOk result (IsCaller (history.now ++ e.now ∷ []) who self.new) }
+    {
+        self.call.note(alloc, &self.state, history.len(), who, e)?;
+        self.begun = self.begun || begins(who, e);
+        follow(&mut self.state, alloc, history, who, e)
+    }
+
+    /// A process after a history.
+    pub fn after(alloc: Global, history: &[Entry], who: Pnode) -> Result<Caller, AllocError>
+        requires { IsLawful history.now }
+        ensures { IfOk result (IsCaller history.now who) }
+    {
+        let mut caller = Caller::new(alloc);
+        for i in 0..history.len() {
+            caller.follow(alloc, &history[..i], who, &history[i])?;
+        }
+        Ok(caller)
     }
 }
 
@@ -209,31 +238,4 @@ pub fn start_allows(alloc: Global, history: &[Entry], e: &Entry) -> Result<bool,
     }
     let before = ProcessState::new(alloc);
     is_next_step(alloc, e.who, &before, &[], e.call, e.what, &e.act)
-}
-
-/// A process after a history, from what it was after its first entries.
-pub fn caller_later(
-    alloc: Global,
-    c: Caller,
-    from: usize,
-    history: &[Entry],
-    who: Pnode,
-) -> Result<Caller, AllocError>
-    requires seen { from ≤ length history.now }
-    requires lawful { IsLawful history.now }
-    requires caller { IsCaller (take from history.now) who c }
-    ensures { IfOk result (λ d. IsCaller history.now who d) }
-{
-    let Caller {
-        mut begun,
-        mut state,
-        mut call,
-    } = c;
-    for i in from..history.len() {
-        let e = &history[i];
-        call.note(alloc, &state, i, who, e)?;
-        begun = begun || begins(who, e);
-        follow(&mut state, alloc, &history[..i], who, e)?;
-    }
-    Ok(Caller { begun, state, call })
 }

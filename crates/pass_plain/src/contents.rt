@@ -182,7 +182,7 @@ impl Content {
         ensures rows { OnOk result ((had : ℕ → Bool) → self.old.rows.items ≡ flags had block_count_of → self.new.rows.items ≡ flags (λ block. row_act block (had block) act.now) block_count_of) }
     {
         let old = self.bytes.len();
-        apply(alloc, &mut self.bytes, act)?;
+        apply(&mut self.bytes, act)?;
         list.push(Record::Size {
             pnode: file,
             size: self.bytes.len() as u64,

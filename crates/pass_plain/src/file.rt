@@ -1,41 +1,46 @@
 //! The content of a file.
-ghost use Rattle.std.specs.Prelude.{◌≡◌, ◌<◌, ◌≤◌, ◌+◌, ◌^◌, IfOk, OnOk, length, take, drop, option_copied, ℕ, List};
+ghost use Rattle.std.specs.Prelude.{◌≡◌, ◌≤◌, ◌+◌, ◌++◌, IfOk, OnOk, length, take, drop, option_copied};
 ghost use Rattle.pass_plain.specs.Sessions.{opening_bytes, opened_file as opened_file_of};
-ghost use Rattle.pass_plain.specs.Files.{written, resized, file_act};
-ghost use Rattle.pass_plain.specs.States.{file_from};
+ghost use Rattle.pass_plain.specs.Files.{extended, written, resized, file_act};
+ghost use Rattle.pass_plain.specs.Recording.{bytes_after};
 
 use crate::registry::is_own;
 use crate::start::{Start, StartFile};
 use pass_entry::{Act, Bytes, Entry, Pnode};
 use std::alloc::{AllocError, Global};
 
-/// Puts bytes at a place of a content, with zeros in a gap before it.
-fn overwrite(alloc: Global, content: &mut Vec<u8>, at: u64, bytes: &[u8]) -> Result<(), AllocError>
-    requires { length bytes.now ≤ 4096 }
+/// Makes a content at least this long, with zeros behind it.
+fn extend(content: &mut Vec<u8>, size: usize) -> Result<(), AllocError>
+    ensures { OnOk result (content.new.items ≡ extended content.old.items size) }
+{
+    if content.len() < size {
+        content.resize(size, 0)?;
+    }
+    Ok(())
+}
+
+fn put(content: &mut [u8], at: usize, bytes: &[u8])
+    requires { at + length bytes.now ≤ length content.old }
+    ensures { content.new ≡ take at content.old ++ bytes.now ++ drop (at + length bytes.now) content.old }
+{
+    content[at..at + bytes.len()].copy_from_slice(bytes);
+}
+
+/// Puts bytes at a place of a content, with zeros in a gap before it. A place past the numbers of the machine is a want of
+/// memory.
+fn overwrite(content: &mut Vec<u8>, at: u64, bytes: &[u8]) -> Result<(), AllocError>
     ensures { OnOk result (content.new.items ≡ written content.old.items at bytes.now) }
 {
     if bytes.is_empty() {
         return Ok(());
     }
-    let at = at as usize;
-    let rest = rest_after(alloc, content, at, bytes.len())?;
-    if content.len() < at {
-        content.resize(at, 0)?;
-    }
-    content.truncate(at);
-    content.extend_from_slice(bytes)?;
-    content.extend_from_slice(&rest)
-}
-
-/// What stands behind the bytes from `at` on.
-fn rest_after(alloc: Global, content: &[u8], at: usize, len: usize) -> Result<Vec<u8>, AllocError>
-    requires { len ≤ 4096 }
-    ensures { IfOk result (λ v. v.items ≡ drop (at + len) content.now) }
-{
-    if at < content.len() && at + len < content.len() {
-        Vec::from_slice(alloc, &content[at + len..])
-    } else {
-        Ok(Vec::new(alloc))
+    match (at as usize).checked_add(bytes.len()) {
+        None => Err(AllocError),
+        Some(end) => {
+            extend(content, end)?;
+            put(content, at as usize, bytes);
+            Ok(())
+        }
     }
 }
 
@@ -46,11 +51,11 @@ fn set_size(content: &mut Vec<u8>, size: u64) -> Result<(), AllocError>
 }
 
 /// What an act on a file makes of its content.
-pub fn apply(alloc: Global, content: &mut Vec<u8>, act: &Act) -> Result<(), AllocError>
+pub fn apply(content: &mut Vec<u8>, act: &Act) -> Result<(), AllocError>
     ensures { OnOk result (content.new.items ≡ file_act content.old.items act.now) }
 {
     match act {
-        Act::Put { out: _, at, bytes } => overwrite(alloc, content, *at, bytes.as_bytes()),
+        Act::Put { out: _, at, bytes } => overwrite(content, *at, bytes.as_bytes()),
         Act::Cut { out: _, size } => set_size(content, *size),
         _ => Ok(()),
     }
@@ -72,21 +77,20 @@ pub fn opening_content(alloc: Global, start: &Start, object: Pnode) -> Result<Ve
     }
 }
 
-/// The content of a file after a history, from that after its first entries.
-pub fn content_later(
+/// The content of a file after a history.
+pub fn content_after(
     alloc: Global,
-    mut content: Vec<u8>,
-    from: usize,
+    start: &Start,
     history: &[Entry],
     object: Pnode,
 ) -> Result<Vec<u8>, AllocError>
-    requires { from ≤ length history.now }
-    ensures { IfOk result (λ v. (opening : List ℕ) → content.items ≡ file_from opening object (take from history.now) → v.items ≡ file_from opening object history.now) }
+    ensures { IfOk result (λ v. v.items ≡ bytes_after start.now history.now object) }
 {
-    for i in from..history.len() {
+    let mut content = opening_content(alloc, start, object)?;
+    for i in 0..history.len() {
         let e = &history[i];
         if is_own(object, e) {
-            apply(alloc, &mut content, &e.act)?;
+            apply(&mut content, &e.act)?;
         }
     }
     Ok(content)

@@ -1,12 +1,14 @@
 //! The plain definitions of a history.
 #![tactic(auto)]
 
+mod cache;
 #[cfg(test)]
 mod call_tests;
 mod callers;
 mod contents;
 mod equality;
 mod file;
+mod judge;
 pub mod laws;
 mod names;
 pub mod next;
@@ -18,7 +20,6 @@ pub mod reference;
 mod registry;
 mod replies;
 pub mod request;
-mod seen;
 pub mod start;
 pub mod steps;
 

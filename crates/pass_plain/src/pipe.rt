@@ -1,7 +1,7 @@
 //! The state of a pipe.
-ghost use Rattle.std.specs.Prelude.{◌≡◌, ◌<◌, ◌≤◌, ◌+◌, ◌^◌, OnOk, IfOk, length, take, drop};
-ghost use Rattle.pass_plain.specs.Pipes.{new_pipe, joined_by, left_by, pipe_act, pipe_after};
-ghost use Rattle.pass_plain.specs.States.{pipe_of};
+ghost use Rattle.std.specs.Prelude.{◌≡◌, ◌≤◌, ◌+◌, ◌^◌, OnOk, IfOk, drop};
+ghost use Rattle.pass_plain.specs.Pipes.{new_pipe, joined_by, left_by, pipe_act};
+ghost use Rattle.pass_plain.specs.States.{pipe_of, pipe_step, IsPipe};
 
 use crate::registry::is_own;
 use pass_entry::{Act, End, Entry, Pnode};
@@ -27,8 +27,8 @@ impl PipeState {
     }
 
     fn join(&mut self, end: End)
-        requires readers { self.old.readers < 2 ^ 63 }
-        requires writers { self.old.writers < 2 ^ 63 }
+        requires readers { self.old.readers ≤ 2 ^ 63 }
+        requires writers { self.old.writers ≤ 2 ^ 63 }
         ensures after { pipe_of self.new ≡ joined_by (pipe_of self.old) end }
         ensures readers { self.new.readers ≤ self.old.readers + 1 }
         ensures writers { self.new.writers ≤ self.old.writers + 1 }
@@ -52,15 +52,15 @@ impl PipeState {
 
     /// What an entry with this act makes of the pipe.
     pub fn apply(&mut self, alloc: Global, act: &Act) -> Result<(), AllocError>
-        requires readers { self.old.readers < 2 ^ 63 }
-        requires writers { self.old.writers < 2 ^ 63 }
+        requires readers { self.old.readers ≤ 2 ^ 63 }
+        requires writers { self.old.writers ≤ 2 ^ 63 }
         ensures ok { OnOk result (pipe_of self.new ≡ pipe_act (pipe_of self.old) act.now) }
         ensures readers { self.new.readers ≤ self.old.readers + 1 }
         ensures writers { self.new.writers ≤ self.old.writers + 1 }
     {
         match act {
             Act::Take { len } => {
-                let rest = bytes_after(alloc, &self.bytes, *len as usize)?;
+                let rest = rest_of(alloc, &self.bytes, *len as usize)?;
                 self.bytes = rest;
             }
             Act::Push { bytes, .. } => self.bytes.extend_from_slice(bytes.as_bytes())?,
@@ -70,9 +70,34 @@ impl PipeState {
         }
         Ok(())
     }
+
+    /// The pipe after one more entry of a history.
+    pub fn follow(&mut self, alloc: Global, object: Pnode, e: &Entry) -> Result<(), AllocError>
+        requires readers { self.old.readers ≤ 2 ^ 63 }
+        requires writers { self.old.writers ≤ 2 ^ 63 }
+        ensures ok { OnOk result (pipe_of self.new ≡ pipe_step object (pipe_of self.old) e.now) }
+        ensures readers { self.new.readers ≤ self.old.readers + 1 }
+        ensures writers { self.new.writers ≤ self.old.writers + 1 }
+    {
+        if is_own(object, e) {
+            self.apply(alloc, &e.act)?;
+        }
+        Ok(())
+    }
+
+    /// A pipe after a history.
+    pub fn after(alloc: Global, history: &[Entry], object: Pnode) -> Result<PipeState, AllocError>
+        ensures { IfOk result (IsPipe history.now object) }
+    {
+        let mut state = PipeState::new(alloc);
+        for i in 0..history.len() {
+            state.follow(alloc, object, &history[i])?;
+        }
+        Ok(state)
+    }
 }
 
-fn bytes_after(alloc: Global, bytes: &[u8], len: usize) -> Result<Vec<u8>, AllocError>
+fn rest_of(alloc: Global, bytes: &[u8], len: usize) -> Result<Vec<u8>, AllocError>
     ensures { IfOk result (λ v. v.items ≡ drop len bytes.now) }
 {
     if len < bytes.len() {
@@ -80,29 +105,4 @@ fn bytes_after(alloc: Global, bytes: &[u8], len: usize) -> Result<Vec<u8>, Alloc
     } else {
         Ok(Vec::new(alloc))
     }
-}
-
-/// A pipe after a history, from that after its first entries.
-pub fn pipe_later(
-    alloc: Global,
-    mut state: PipeState,
-    from: usize,
-    history: &[Entry],
-    object: Pnode,
-) -> Result<PipeState, AllocError>
-    requires seen { from ≤ length history.now }
-    requires after { pipe_of state ≡ pipe_after (take from history.now) object }
-    requires readers { state.readers ≤ from + 1 }
-    requires writers { state.writers ≤ from + 1 }
-    ensures after { IfOk result (λ p. pipe_of p ≡ pipe_after history.now object) }
-    ensures readers { IfOk result (λ p. p.readers ≤ length history.now + 1) }
-    ensures writers { IfOk result (λ p. p.writers ≤ length history.now + 1) }
-{
-    for i in from..history.len() {
-        let e = &history[i];
-        if is_own(object, e) {
-            state.apply(alloc, &e.act)?;
-        }
-    }
-    Ok(state)
 }

@@ -200,7 +200,7 @@ fn add_records(
 }
 
 /// The act changes the content of its file.
-fn is_change(act: &Act) -> bool
+pub fn is_change(act: &Act) -> bool
     ensures { result ≡ is_change_of act.now }
 {
     matches!(act, Act::Put { .. } | Act::Cut { .. })

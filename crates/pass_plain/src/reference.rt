@@ -7,27 +7,27 @@ ghost use Rattle.pass_plain.specs.Records.{records_of as records_of_session};
 ghost use Rattle.pass_plain.specs.Sound.{IsSound};
 ghost use Rattle.pass_plain.specs.States.{call_of, IsLastCall};
 
+use crate::cache::StateCache;
 use crate::callers::LastCall;
 use crate::process::ProcessState;
 use crate::records::records_of;
-use crate::seen::SeenStates;
 use crate::start::Start;
 use pass_entry::{Entry, Pnode, Record, Reply};
 use std::alloc::{AllocError, Global};
 use std::marker::Model;
 
-/// What a session opened with and its history so far, and what was read of the history.
+/// What a session opened with and its history so far, and the states of the objects.
 #[derive(Drop)]
 pub struct Plain<'a> {
     start: &'a Start,
     objects: u32,
     history: Vec<Entry>,
-    seen: SeenStates,
+    cache: StateCache,
 }
 
 impl<'a> Model for Plain<'a> {
     ghost use Rattle.pass_plain.specs.Legal.{Past, session_of};
-    ghost use Rattle.pass_plain.specs.Seen.{IsPlainState};
+    ghost use Rattle.pass_plain.specs.Cache.{IsPlainState};
     ghost use Rattle.pass_entry.specs.contracts.entry.Entry as entry_type;
     ghost use Rattle.pass_plain.specs.contracts.start.Start as start_type;
     ghost use Rattle.std.specs.Coded.{codes};
@@ -38,7 +38,7 @@ impl<'a> Model for Plain<'a> {
 
     ghost view = { λ p. record { session = session_of p.start.now p.objects; history = p.history.items } };
 
-    ghost invariant = { λ p. IsPlainState p.start.now p.objects p.history.items p.seen };
+    ghost invariant = { λ p. IsPlainState p.start.now p.objects p.history.items p.cache };
 }
 
 impl<'a> Plain<'a> {
@@ -51,7 +51,7 @@ impl<'a> Plain<'a> {
             start,
             objects,
             history: Vec::new(alloc),
-            seen: SeenStates::new(alloc),
+            cache: StateCache::new(alloc),
         })
     }
 
@@ -65,13 +65,16 @@ impl<'a> Plain<'a> {
     {
         let alloc = *self.history.allocator();
         let answer = self
-            .seen
+            .cache
             .judge(alloc, self.start, self.objects, &self.history, entry)?;
         match answer {
             None => Ok(None),
             Some(reply) => {
                 let copy = with_reply(entry, &reply)?;
                 self.history.push(copy)?;
+                if let Some((last, past)) = self.history.split_last() {
+                    self.cache.note(alloc, self.start, self.objects, past, last);
+                }
                 Ok(Some(reply))
             }
         }
@@ -83,7 +86,7 @@ impl<'a> Plain<'a> {
         ensures same { self.new ≡ self.old }
     {
         let alloc = *self.history.allocator();
-        self.seen
+        self.cache
             .process(alloc, self.start, self.objects, &self.history, who)
     }
 
@@ -93,7 +96,7 @@ impl<'a> Plain<'a> {
         ensures same { self.new ≡ self.old }
     {
         let alloc = *self.history.allocator();
-        self.seen
+        self.cache
             .call(alloc, self.start, self.objects, &self.history, who)
     }
 

@@ -7,7 +7,7 @@ ghost use Rattle.pass_plain.specs.Histories.{is_fault as is_fault_of, is_own as 
 ghost use Rattle.pass_plain.specs.Legal.{session_of};
 ghost use Rattle.pass_plain.specs.Registries.{Registry as AnyRegistry, opening_registry, registry_act, with_object, same_kind as same_kind_of, count_of_kind, is_full as is_full_of, kind_number as kind_number_of};
 ghost use Rattle.pass_plain.specs.Replies.{minted as minted_of, is_app_object as is_app_object_of};
-ghost use Rattle.pass_plain.specs.States.{registry_of, registry_from, registry_step};
+ghost use Rattle.pass_plain.specs.States.{registry_of, registry_step, IsRegistry};
 
 use crate::names::Names;
 use crate::start::{Start, StartFile};
@@ -149,6 +149,21 @@ impl RegistryState {
         Ok(())
     }
 
+    /// The registry after a history.
+    pub fn after(
+        alloc: Global,
+        start: &Start,
+        history: &[Entry],
+    ) -> Result<RegistryState, AllocError>
+        ensures { IfOk result (IsRegistry start.now history.now) }
+    {
+        let mut state = RegistryState::opened(alloc, start)?;
+        for i in 0..history.len() {
+            state.follow(&history[i])?;
+        }
+        Ok(state)
+    }
+
     fn count(&self, kind: Kind) -> usize
         ensures { result ≡ count_of_kind kind (registry_of self.now) }
     {
@@ -187,24 +202,4 @@ impl RegistryState {
     {
         has_app(&self.objects, pnode)
     }
-}
-
-/// The registry after a history, from that after its first entries.
-pub fn registry_later(
-    mut state: RegistryState,
-    from: usize,
-    history: &[Entry],
-) -> Result<RegistryState, AllocError>
-    requires seen { from ≤ length history.now }
-    requires made { state.made ≤ from }
-    ensures after { IfOk result (λ r. (opening : AnyRegistry) → registry_of state ≡ registry_from opening (take from history.now) → registry_of r ≡ registry_from opening history.now) }
-    ensures made { IfOk result (λ r. r.made ≤ length history.now) }
-{
-    for i in from..history.len() {
-        let e = &history[i];
-        if is_own(Pnode(0), e) {
-            state.apply(&e.act, &e.reply)?;
-        }
-    }
-    Ok(state)
 }

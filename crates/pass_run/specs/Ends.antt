@@ -1,0 +1,63 @@
+-- How the run of a trace ends. This project's own rule.
+use Rattle.std.specs.Prelude.{ℕ, ◌+◌, ◌≡◌, Bool, true, false, not, List, Option, Some, find, option_map, slice_get}
+use Rattle.pass_entry.specs.declared.entry.Entry.{Entry}
+use Rattle.pass_entry.specs.declared.entry.CallName.{CallName}
+use Rattle.pass_entry.specs.declared.entry.CallName.TheVariants as call
+use Rattle.pass_plain.specs.Histories.{call_entries}
+use Rattle.pass_plain.specs.Sessions.{Session}
+use Rattle.pass_plain.specs.Calls.{name_of}
+use Rattle.pass_plain.specs.Traces.{Line, LineCall, given, write_last, fork_as, wait_for, calls_of}
+use Rattle.pass_plain.specs.Runs.{IsOfTrace, CanMove, is_open, pnode_of_process}
+use Rattle.pass_trace.specs.declared.trace.Command.{Command}
+use Rattle.pass_trace.specs.declared.trace.Command.TheVariants as command
+use Rattle.pass_trace.specs.declared.trace.TraceLine.{TraceLine}
+use Rattle.pass_trace.specs.Traces.{trace_of, IsTraceText}
+use Rattle.pass_run.specs.declared.status.Status.{Status}
+use Rattle.pass_run.specs.declared.status.Status.TheVariants as status
+
+-- the lines are the trace of some text
+abbrev pub IsTrace : List TraceLine → Type 0
+IsTrace lines = (bytes : List ℕ) × IsTraceText bytes × (lines ≡ trace_of bytes)
+
+-- the program makes each call but `sync`
+abbrev pub is_built : Command → Bool
+is_built (command.Sync fd) = false
+is_built _ = true
+
+-- the number of the first line whose call the program doesn't make
+abbrev pub unbuilt_line : List TraceLine → Option ℕ
+unbuilt_line lines = option_map (λ l. l.number) (find (λ l. not (is_built l.command)) lines)
+
+-- the name of a line's call
+abbrev pub name_of_call : LineCall → CallName
+name_of_call (given request) = name_of request
+name_of_call (write_last fd) = call.Write
+name_of_call (fork_as child) = call.Fork
+name_of_call (wait_for child) = call.WaitChild
+
+-- each entry of a process's call carries the name of that call
+abbrev pub AreNamed : Session → List Line → List Entry → Type 0
+AreNamed session trace history = (process who number : ℕ) (call : LineCall) → pnode_of_process session trace history process ≡ Some who
+    → slice_get (calls_of trace process) number ≡ Some call
+    → (j : ℕ) (s : ℕ × Entry) → slice_get (call_entries history who (number + 1)) j ≡ Some s → s.1.call ≡ name_of_call call
+
+-- no process of the trace is open
+abbrev pub NoneOpen : Session → List Line → List Entry → Type 0
+NoneOpen session trace history = (process : ℕ) → IsOfTrace trace process → is_open session trace history process ≡ false
+
+-- no process can move
+abbrev pub NoneCanMove : Session → List Line → List Entry → Type 0
+NoneCanMove session trace history = (process : ℕ) → CanMove session trace history process → ⊥
+
+-- some process of the trace is open, and none can move
+pub record IsStuck (session : Session) (trace : List Line) (history : List Entry) : Type 0 where
+  pub process : ℕ
+  pub of_trace : IsOfTrace trace process
+  pub waits : is_open session trace history process ≡ true
+  pub still : NoneCanMove session trace history
+
+-- with which status a run of the whole trace ends: done where no process is open, else stuck, and never elsewise
+abbrev pub EndsAs : Session → List Line → List Entry → Status → Type 0
+EndsAs session trace history status.Done = NoneOpen session trace history
+EndsAs session trace history status.Stuck = IsStuck session trace history
+EndsAs session trace history _ = ⊥

@@ -1,0 +1,6 @@
+pub mod Statuses
+pub mod Ends
+pub mod Lines
+pub mod Making
+pub mod Calling
+pub mod Tables

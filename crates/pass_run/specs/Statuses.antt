@@ -1,0 +1,15 @@
+-- The numbers of the statuses. This project's own rule.
+use Rattle.std.specs.Prelude.{ℕ}
+use Rattle.pass_run.specs.declared.status.Status.{Status}
+use Rattle.pass_run.specs.declared.status.Status.TheVariants as status
+
+-- the number of a status, which is the program's exit status
+abbrev pub number_of_status : Status → ℕ
+number_of_status status.Done = 0
+number_of_status status.Stuck = 4
+number_of_status status.BadWords = 2
+number_of_status status.ReadFault = 6
+number_of_status (status.BadTrace line reason) = 3
+number_of_status (status.NotBuilt line) = 12
+number_of_status status.WriteFault = 7
+number_of_status status.NoMemory = 10

@@ -279,6 +279,10 @@ same_block size bs i b new within le is same = flat_whole size bs i new b le (sa
 pub grown_whole : (size : ℕ) (old new : List ℕ) → length old ≤ size → new ≡ old ++ replicate (size - length old) 0 → length new ≡ size
 grown_whole size old new le is = omega (arith, ap length is, le, length-append old (replicate (size - length old) 0), length-replicate {A = ℕ} (size - length old) 0)
 
+-- the other blocks stay as they are
+pub held_elsewhere : (bs : List Block) (i k : ℕ) (new : Block) → k ≢ i → get_or (held (set bs i new)) k 0 ≡ get_or (held bs) k 0
+held_elsewhere bs i k new other = ap (λ (l : List ℕ). get_or l k 0) (held-set bs i new) ∙ get_or-set_other (held bs) i k (length new.items) 0 other
+
 -- one block more is whole
 pub whole_more : (size : ℕ) (bs : List Block) (first next : ℕ) (new : Block) → next < length bs → length new.items ≡ size → ((k : ℕ) → k < next → first ≤ k → get_or (held bs) k 0 ≡ size)
     → (k : ℕ) → k < next + 1 → first ≤ k → get_or (held (set bs next new)) k 0 ≡ size

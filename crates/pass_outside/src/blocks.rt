@@ -1,5 +1,5 @@
 //! Bytes in blocks, of which those with nothing but zeros take no memory.
-ghost use Rattle.std.specs.Prelude.{◌≡◌, ◌≤◌, ◌<◌, ◌+◌, ◌-◌, ◌*◌, ◌/◌, ◌^◌, ◌++◌, ℕ, length, take, drop, replicate, slice_index, vec_len, IfOk, OnOk, OnErr};
+ghost use Rattle.std.specs.Prelude.{◌≡◌, ◌⊎◌, ◌≤◌, ◌<◌, ◌+◌, ◌-◌, ◌*◌, ◌/◌, ◌^◌, ◌++◌, ℕ, length, take, drop, replicate, slice_index, vec_len, IfOk, OnOk, OnErr};
 ghost use Rattle.pass_outside.specs.Blocks.{padded, flat, held, AreWithin, over};
 
 use std::alloc::{AllocError, Global};
@@ -46,6 +46,8 @@ pub fn write_out_blocks(
     ensures same { flat BLOCK blocks.new.items ≡ flat BLOCK blocks.old.items }
     ensures count { vec_len blocks.new ≡ vec_len blocks.old }
     ensures whole { OnOk result ((k : ℕ) → first ≤ k → k < end → slice_index (held blocks.new.items) k ≡ BLOCK) }
+    // The other blocks take no more memory than before.
+    ensures elsewhere { (k : ℕ) → (k < first) ⊎ (end ≤ k) → slice_index (held blocks.new.items) k ≡ slice_index (held blocks.old.items) k }
 {
     let mut next = first;
     'parts: while next < end {

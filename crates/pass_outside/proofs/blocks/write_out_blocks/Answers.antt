@@ -1,7 +1,7 @@
-use Rattle.std.proofs.Common.{◌≡◌, ◌≤◌, ◌<◌, ℕ, List, length, get_or, ap, ◌∙◌, arith}
+use Rattle.std.proofs.Common.{◌≡◌, ◌≢◌, ⊎_elim, ◌≤◌, ◌<◌, ℕ, List, length, get_or, ap, ◌∙◌, arith}
 use Rattle.pass_outside.specs.declared.blocks.TheConstants.{BLOCK}
 use Rattle.pass_outside.specs.Blocks.{padded, AreWithin}
-use Rattle.pass_outside.proofs.Flat.{Block, within_at, within_set, same_block, padded_grown, grown_whole, whole_more}
+use Rattle.pass_outside.proofs.Flat.{Block, within_at, within_set, same_block, padded_grown, grown_whole, held_elsewhere, whole_more}
 use Rattle.pass_outside.proofs.blocks.write_out_blocks.Goals as goal
 
 -- the length of the block that is written out
@@ -22,6 +22,11 @@ returns-in_err-write_out-clause-same c =
     let le : c.parts.next < length bs = omega (arith, c.parts-test.true, c.requires.end, c.parts.invariant.count, c.parts.blocks.ok.0) in
     same_block BLOCK bs c.parts.next c.index_mut.result.now c.write_out.new.block c.parts.invariant.within le c.index_mut.ensures.value (ap (padded BLOCK) c.in_err-write_out.ensures.err) ∙ c.parts.invariant.same
 
+pub returns-in_err-write_out-clause-elsewhere : goal.returns-in_err-write_out-clause-elsewhere
+returns-in_err-write_out-clause-elsewhere c = λ k away.
+    let other : k ≢ c.parts.next = ⊎_elim (λ less. omega (arith, less, c.parts.invariant.from)) (λ more. omega (arith, more, c.parts-test.true)) away in
+    held_elsewhere c.parts.blocks.items c.parts.next k c.write_out.new.block other ∙ c.parts.invariant.elsewhere k away
+
 pub parts-preserved : goal.parts-preserved
 parts-preserved c =
     let bs = c.parts.blocks.items in
@@ -34,5 +39,9 @@ parts-preserved c =
       within = within_set BLOCK bs c.parts.next new c.parts.invariant.within (omega (arith, whole));
       same = same_block BLOCK bs c.parts.next b new c.parts.invariant.within le c.index_mut.ensures.value (padded_grown BLOCK b.items new.items fits c.in_ok-write_out.ensures.ok) ∙ c.parts.invariant.same;
       count = c.parts.invariant.count;
+      from = omega (arith, c.parts.invariant.from);
+      elsewhere = λ k away.
+          let other : k ≢ c.parts.next = ⊎_elim (λ less. omega (arith, less, c.parts.invariant.from)) (λ more. omega (arith, more, c.parts-test.true)) away in
+          held_elsewhere bs c.parts.next k new other ∙ c.parts.invariant.elsewhere k away;
       whole = whole_more BLOCK bs c.args.first c.parts.next new le whole c.parts.invariant.whole;
     }

@@ -11,6 +11,8 @@ pub mod Vaulting
 pub mod First
 pub mod Adding
 pub mod Badges
+pub mod Counted
+pub mod Parting
 pub mod Recording
 pub mod Meetings
 pub mod Opened

@@ -7,4 +7,5 @@ pub mod Views
 pub mod Slips
 pub mod Records
 pub mod Tokens
+pub mod Parting
 pub mod Openings

@@ -8,15 +8,18 @@ ghost use Rattle.pass_plain.specs.Recorded.{entry_records_by};
 ghost use Rattle.pass_plain.specs.Sound.{IsSound};
 ghost use Rattle.pass_plain.specs.Versions.{nodes_of, source_in};
 ghost use Rattle.pass_book.specs.Names.{is_finish};
+ghost use Rattle.pass_book.specs.Parting.{lists_of};
+ghost use Rattle.pass_book.specs.Records.{AreParts};
 ghost use Rattle.pass_book.specs.Syncs.{IsRising, Backs};
 
 use crate::claim::{Claim, Full, Slip, Tally};
 use crate::entering::{enter, fold_last};
+use crate::parts::Parts;
 use crate::sight::{Note, Seats};
 use crate::steps::{Place, claim_places, look, note, refund, seated, taken};
 use crate::tokens::{Desk, Line};
-use pass_entry::{Act, Entry};
-use std::alloc::Global;
+use pass_entry::{Act, Entry, Record};
+use std::alloc::{AllocError, Global};
 use std::marker::Model;
 use std::mem;
 use std::sync::Arc;
@@ -155,6 +158,18 @@ impl Book {
         ensures within { length self.now.history + self.now.claimed ≤ self.now.places }
     {
         self.entries.len() as u64
+    }
+
+    /// The records of the entries from a place on, in parts for the log: each part ends where an entry does, and none is larger
+    /// than a part may be.
+    pub fn parts(&self, from: u64) -> Result<Vec<Vec<Record>>, AllocError>
+        ensures { IfOk result (λ parts. AreParts self.now.book.session self.now.history from (lists_of parts.items)) }
+    {
+        let mut parts = Parts::new(*self.entries.allocator());
+        for place in from..self.slips.len() as u64 {
+            parts = parts.with(&self.slips[place as usize])?;
+        }
+        parts.finish()
     }
 
     /// The history.

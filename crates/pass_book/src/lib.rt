@@ -10,6 +10,7 @@ mod claim;
 mod entering;
 pub mod laws;
 mod open;
+mod parts;
 mod rule;
 mod sight;
 mod steps;

@@ -1,4 +1,4 @@
-mod Sorting
+pub mod Sorting
 mod Edging
-mod Texting
-mod Indexing
+pub mod Texting
+pub mod Indexing

@@ -86,7 +86,8 @@ impl Index {
 
     /// Whether the node is a version that its object has had.
     pub fn has(&self, node: Node) -> bool
-        ensures { IsTrue result ↔ HasNode self.now node }
+        ensures there { IsTrue result ↔ HasNode self.now node }
+        ensures logged { IsWellLogged self.now }
     {
         match self.taken.object(node.pnode) {
             Some(told) => 1 <= node.version && node.version <= told.version,

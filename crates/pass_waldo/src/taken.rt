@@ -48,7 +48,8 @@ impl Taken {
 
     /// What the records say of the object.
     pub(crate) fn object(&self, pnode: Pnode) -> Option<Told>
-        ensures { result ≡ told self.now pnode }
+        ensures told { result ≡ told self.now pnode }
+        ensures logged { IsWellLogged self.now }
     {
         self.logged.object(pnode)
     }

@@ -20,3 +20,6 @@ pub mod Requested
 pub mod Moves
 pub mod Turns
 pub mod Finished
+pub mod EmptyStarts
+pub mod Pieces
+pub mod Limited

@@ -1,8 +1,9 @@
 -- How the run of a trace ends. This project's own rule.
-use Rattle.std.specs.Prelude.{ℕ, ◌+◌, ◌≡◌, Bool, true, false, not, List, Option, Some, find, option_map, slice_get}
+use Rattle.std.specs.Prelude.{ℕ, ◌+◌, ◌≡◌, Bool, true, false, not, List, [], Option, Some, find, option_map, slice_get}
 use Rattle.pass_entry.specs.declared.entry.Entry.{Entry}
 use Rattle.pass_entry.specs.declared.entry.CallName.{CallName}
 use Rattle.pass_entry.specs.declared.entry.CallName.TheVariants as call
+use Rattle.pass_plain.specs.declared.start.Start.{Start}
 use Rattle.pass_plain.specs.Histories.{call_entries}
 use Rattle.pass_plain.specs.Sessions.{Session}
 use Rattle.pass_plain.specs.Calls.{name_of}
@@ -18,6 +19,12 @@ use Rattle.pass_run.specs.declared.status.Status.TheVariants as status
 -- the lines are the trace of some text
 abbrev pub IsTrace : List TraceLine → Type 0
 IsTrace lines = (bytes : List ℕ) × IsTraceText bytes × (lines ≡ trace_of bytes)
+
+-- nothing was opened
+pub record IsEmptyStart (start : Start) : Type 0 where
+  pub ceiling : start.ceiling ≡ 0
+  pub files : start.files.items ≡ []
+  pub apps : start.apps.items ≡ []
 
 -- the program makes each call but `sync`
 abbrev pub is_built : Command → Bool

@@ -4,3 +4,5 @@ pub mod Lines
 pub mod Making
 pub mod Calling
 pub mod Tables
+pub mod Reading
+pub mod Writing

@@ -1,0 +1,105 @@
+//! Runs of whole traces.
+use crate::{Status, run_calls};
+use pass_plain::Start;
+use pass_trace::parse;
+use std::process::Abort;
+use std::test::Fail;
+
+/// A trace, the status of its run, and how many entries it has made.
+#[derive(Clone, Copy)]
+struct Row {
+    text: &'static str,
+    status: Status,
+    entries: usize,
+}
+
+/// Words on the shell pipeline `cat in | sort > out`.
+const PIPELINE: &str =
+    "1 creat 3 cat\n1 creat 4 sort\n1 creat 5 in\n1 write 5 t:abc\n1 pipe 6 7\n1 fork 2\n1 fork 3\n\
+1 close 6\n1 close 7\n1 wait 2\n1 wait 3\n2 exec cat in\n2 seek 5 0\n2 read 5 4096\n2 write 7 buf\n3 close 7\n\
+3 exec sort\n3 read 6 4096\n3 creat 8 out\n3 write 8 buf\n";
+
+const ROWS: [Row; 12] = [
+    Row {
+        text: "",
+        status: Status::Done,
+        entries: 2,
+    },
+    Row {
+        text: "1 creat 3 a\n1 write 3 t:abc\n1 seek 3 0\n1 read 3 3\n",
+        status: Status::Done,
+        entries: 9,
+    },
+    Row {
+        text: "1 creat 3 a\n1 read 3 8\n",
+        status: Status::Done,
+        entries: 6,
+    },
+    Row {
+        text: "1 creat 3 a\n1 write 3 t:a\n1 seek 3 0\n1 read 3 1\n1 write 3 t:bc\n",
+        status: Status::Done,
+        entries: 11,
+    },
+    Row {
+        text: PIPELINE,
+        status: Status::Done,
+        entries: 54,
+    },
+    Row {
+        text: "1 pipe 3 4\n1 close 3\n1 write 4 t:x\n1 pipe 5 6\n1 close 6\n1 read 5 10\n",
+        status: Status::Done,
+        entries: 16,
+    },
+    Row {
+        text: "1 pipe 3 4\n1 pipe 5 6\n1 fork 2\n1 read 3 1\n2 read 5 1\n",
+        status: Status::Stuck,
+        entries: 12,
+    },
+    Row {
+        text: "1 creat 3 a\n1 seek 3 4194300\n1 write 3 t:abcd\n1 write 3 t:e\n",
+        status: Status::Done,
+        entries: 8,
+    },
+    Row {
+        text: "1 creat 3 a\n1 seek 3 5000\n1 write 3 t:z\n1 truncate 3 1\n1 seek 3 0\n1 read 3 10\n",
+        status: Status::Done,
+        entries: 12,
+    },
+    Row {
+        text: "1 open 3 x r\n1 creat 3 x\n1 creat 4 x\n1 creat 3 y\n1 read 9 1\n1 open 5 x r\n1 write 5 t:q\n\
+1 revive 6 3\n1 fork 2\n1 wait 2\n1 wait 2\n",
+        status: Status::Done,
+        entries: 19,
+    },
+    Row {
+        text: "1 creat 3 a\n1 mkobj 4\n1 disclose 3 4\n1 tag 3 KIND draft\n1 freeze 3\n1 rename a b\n1 unlink b\n1 open 5 b r\n",
+        status: Status::Done,
+        entries: 13,
+    },
+    Row {
+        text: "# a call that isn't made\n1 creat 3 a\n1 sync 3\n",
+        status: Status::NotBuilt { line: 3 },
+        entries: 0,
+    },
+];
+
+fn check(rt: &(impl Abort + AllocGlobal), row: Row) -> Result<(), Fail> {
+    let trace = parse(rt.alloc(), row.text.as_bytes())?;
+    let start = Start {
+        ceiling: 0,
+        files: Vec::new(rt.alloc()),
+        apps: Vec::new(rt.alloc()),
+    };
+    let ran = run_calls(rt.alloc(), &trace, &start)?;
+    assert_eq!(rt; ran.status, row.status);
+    assert_eq!(rt; ran.history.len(), row.entries);
+    Ok(())
+}
+
+#[test]
+fn traces_run_to_their_ends(rt: HostRuntime) -> Result<(), Fail> {
+    for row in ROWS {
+        check(&rt, row)?;
+    }
+    Ok(())
+}

@@ -22,7 +22,9 @@ pub fn spell(alloc: Global, batch: &[Record]) -> Result<Vec<u8>, AllocError>
     Ok(bytes)
 }
 
-/// A length, the records' bytes, and the closed gate behind them.
+/// The bytes that the first write of a batch's frame has: a length, the records' bytes, and the closed gate behind them.
+///
+/// Called by whoever appends by `append_frame`.
 pub fn stage(alloc: Global, batch: &[Record]) -> Result<Vec<u8>, LogFault>
     requires in_range { All IsInRange batch.now }
     requires size { length (spellings batch.now) < 2 ^ 32 }

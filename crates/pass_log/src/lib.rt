@@ -11,5 +11,6 @@ mod tests;
 
 pub use area::read_image;
 pub use fault::LogFault;
+pub use frame::stage;
 pub use image::LogImage;
 pub use log::Log;

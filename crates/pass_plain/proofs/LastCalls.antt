@@ -33,7 +33,7 @@ kept_if p x xs y later true t any = first_hit p x (xs ++ y ∷ []) t ∙ sym (fi
 kept_if p x xs y later false t any = first_miss p x (xs ++ y ∷ []) t ∙ ap (λ zs. x ∷ zs) (later any) ∙ sym (first_miss p x xs t)
 
 -- what stands before the first element that passes is the same in a longer list
-before_kept : {X : Type 0} (p : X → Bool) (xs : List X) (y : X) → list_any p xs ≡ true → before_first p (xs ++ y ∷ []) ≡ before_first p xs
+pub before_kept : {X : Type 0} (p : X → Bool) (xs : List X) (y : X) → list_any p xs ≡ true → before_first p (xs ++ y ∷ []) ≡ before_first p xs
 before_kept p [] y any = absurd (cc)
 before_kept p (x ∷ xs) y any = kept_if p x xs y (before_kept p xs y) (p x) refl any
 

@@ -26,16 +26,16 @@ alike_then l m n a b = record { node = a.node ∙ b.node; marked = a.marked ∙ 
 pub alike_turned : (l m : Lineage) → IsAlike l m → IsAlike m l
 alike_turned l m a = record { node = sym a.node; marked = sym a.marked; sources = λ node. sym (a.sources node) }
 
-used_alike : (l m : Lineage) → IsAlike l m → IsAlike (used l) (used m)
+pub used_alike : (l m : Lineage) → IsAlike l m → IsAlike (used l) (used m)
 used_alike l m a = record { node = a.node; marked = refl; sources = a.sources }
 
-frozen_alike : (l m : Lineage) → IsAlike l m → IsAlike (frozen l) (frozen m)
+pub frozen_alike : (l m : Lineage) → IsAlike l m → IsAlike (frozen l) (frozen m)
 frozen_alike l m a = record { node = ap (λ (n : Node). record { pnode = n.pnode; version = n.version + 1 }) a.node; marked = refl; sources = λ node. refl }
 
-source_alike : (l m : Lineage) (s : Node) → IsAlike l m → IsAlike (with_source l s) (with_source m s)
+pub source_alike : (l m : Lineage) (s : Node) → IsAlike l m → IsAlike (with_source l s) (with_source m s)
 source_alike l m s a = record { node = a.node; marked = a.marked; sources = λ node. ap (λ b. same_node node s || b) (a.sources node) }
 
-linked_alike : (l m : Lineage) (s : Node) → IsAlike l m → IsAlike (linked l s) (linked m s)
+pub linked_alike : (l m : Lineage) (s : Node) → IsAlike l m → IsAlike (linked l s) (linked m s)
 linked_alike l m s a =
     subst (λ b. IsAlike (linked l s) (if b then m else if m.marked then with_source (frozen m) s else with_source m s)) (a.sources s)
     (subst (λ b. IsAlike (linked l s) (if has l s then m else if b then with_source (frozen m) s else with_source m s)) a.marked

@@ -1,2 +1,13 @@
 pub mod TraceLines
 pub mod Reports
+pub mod Passing
+pub mod Trails
+pub mod Logging
+pub mod Recorders
+pub mod Standings
+pub mod Callers
+pub mod CallTables
+pub mod Digests
+pub mod Kinds
+pub mod Names
+pub mod Contents

@@ -1,12 +1,12 @@
 -- The report of a run: what each call was answered, the version graph, the objects, who waits, and how it ended.
 -- The format is this project's own.
-use Rattle.std.specs.Prelude.{ℕ, ◌-◌, ◌≡◌, Bool, false, not, ◌&&◌, List, [], ◌∷◌, ◌++◌, Option, Some, None, codes, length, map, filter_map, flat_map, find, zip, slice_get, option_map, if◌then◌else◌, ◌==◌}
+use Rattle.std.specs.Prelude.{ℕ, ◌-◌, ◌≡◌, Bool, false, not, ◌&&◌, List, [], ◌∷◌, ◌++◌, Option, Some, None, codes, length, map, filter_map, flat_map, find, fold, zip, slice_get, option_map, if◌then◌else◌, ◌==◌}
 use Rattle.std.specs.Option.{option_map_or, option_to_list}
 use Rattle.std.specs.List.{enumerate_from, list_any}
 use Rattle.std.specs.Ordering.{nat_cmp}
 use Rattle.std.specs.declared.cmp.Ordering.{Ordering}
 use Rattle.std.specs.Cmp.Lexicographic.{slice_cmp}
-use Rattle.std.specs.FinSet as finite_set
+use Rattle.std.specs.BTreeSet.{insert_key}
 use Rattle.std.specs.Fmt.{decimal}
 use Rattle.md5.specs.Md5.{md5}
 use Rattle.hex.specs.Hex.{encode_lower}
@@ -27,7 +27,7 @@ use Rattle.pass_plain.specs.Sessions.{Session}
 use Rattle.pass_plain.specs.Sound.{IsSound}
 use Rattle.pass_plain.specs.Registries.{registry_after}
 use Rattle.pass_plain.specs.Calls.{is_last}
-use Rattle.pass_plain.specs.Legal.{is_start, before_call, is_over}
+use Rattle.pass_plain.specs.Legal.{IsLegal, is_start, before_call, is_over}
 use Rattle.pass_plain.specs.Versions.{nodes_of, version_after}
 use Rattle.pass_plain.specs.Records.{records_of}
 use Rattle.pass_plain.specs.Traces.{Line, LineCall, fork_as, lines_of}
@@ -37,7 +37,7 @@ use Rattle.pass_report.specs.TraceLines.{plain_trace, session_of_trace}
 
 -- each value once, in ascending order
 abbrev pub ascending : {K : Type 0} (R : K → K → Ordering) → List K → List K
-ascending R ks = finite_set.items (finite_set.from_list {R = R} ks)
+ascending R ks = fold (insert_key R) [] ks
 
 -- a node, as a report names it
 abbrev pub node_text : Node → List ℕ
@@ -185,3 +185,9 @@ pub record IsRunFrom (start : Start) (history : List Entry) (lines : List TraceL
   pub same : SameButBytes start full
   pub sound : IsSound (session_of_trace full lines)
   pub run : IsRun (session_of_trace full lines) (plain_trace lines) history
+
+-- the history is legal in a session that opens with this start, which may lack the bytes of its files
+pub record IsLegalFrom (start : Start) (history : List Entry) (session : Session) : Type 0 where
+  pub same : SameButBytes start session.start
+  pub sound : IsSound session
+  pub legal : IsLegal session history

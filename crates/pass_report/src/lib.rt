@@ -1,6 +1,20 @@
 //! The report of a run: what each call was answered, the version graph, the objects, and who waits.
 #![tactic(auto)]
 
+mod blocks;
+mod calls;
+mod files;
+mod kinds;
+mod lines;
+mod logged;
+mod names;
 mod objects;
+mod opening;
+mod processes;
+mod recorder;
+mod reporting;
+mod standing;
+mod trail;
 
 pub use objects::objects_of;
+pub use reporting::report;

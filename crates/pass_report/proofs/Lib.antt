@@ -1,0 +1,15 @@
+pub mod Advancing
+pub mod Answering
+pub mod Digesting
+pub mod Filling
+pub mod Finishing
+pub mod Lasting
+pub mod Minting
+pub mod Naming
+pub mod Openings
+pub mod Reading
+pub mod Storing
+pub mod Tabling
+pub mod Tallying
+pub mod Trailing
+pub mod Turning

@@ -1,0 +1,36 @@
+use Rattle.std.proofs.Common.{◌≡◌, ◌||◌, true, false, ℕ, Bool, refl, sym, ap, ◌∙◌, arith}
+use Rattle.pass_plain.specs.Records.{touches}
+use Rattle.pass_report.specs.Digests.{gets_digest, is_stretched, row_at}
+use Rattle.pass_report.proofs.Digesting.{passing-none, counted, skipped}
+use Rattle.pass_report.proofs.blocks.Blocks.digests.Goals as goal
+use Rattle.pass_report.proofs.blocks.Blocks.digests.Goals.{then-touches, then-touches-via-then-touches, then-touches-via-else-touches+then-is_stretched, else-touches+else-is_stretched}
+
+either : (a b : Bool) → b ≡ true → a || b ≡ true
+either true b is = refl
+either false b is = is
+
+neither : (a b : Bool) → a ≡ false → b ≡ false → a || b ≡ false
+neither true b none is = absurd (cc)
+neither false b none is = is
+
+pub loop-block-init : goal.loop-block-init
+loop-block-init c = record {
+  count = passing-none (gets_digest (row_at c.args.self.now.rows.items) c.args.self.now.size c.args.at c.args.len c.args.size);
+  few = omega arith;
+}
+
+pub loop-block-preserved : goal.loop-block-preserved
+loop-block-preserved c =
+    let test : ℕ → Bool = gets_digest (row_at c.args.self.now.rows.items) c.args.self.now.size c.args.at c.args.len c.args.size in
+    let n = c.loop-block.block in
+    elim c.if-touches.branch [
+      | then-touches w ↦
+          let passes : test n ≡ true = elim w.then-touches.branch [
+            | then-touches-via-then-touches v ↦ ap (λ b. b || is_stretched (row_at c.args.self.now.rows.items) c.args.self.now.size c.args.size n) (sym c.touches.ensures ∙ v.if-touches.true)
+            | then-touches-via-else-touches+then-is_stretched v ↦ either (touches c.args.at c.args.len n) _ (sym v.is_stretched.ensures ∙ v.if-is_stretched.true)
+          ] in
+          record { count = w.digests-is ∙ counted test n c.loop-block.digests passes c.loop-block.invariant.count; few = omega arith }
+      | else-touches+else-is_stretched w ↦
+          let fails : test n ≡ false = neither (touches c.args.at c.args.len n) _ (sym c.touches.ensures ∙ w.if-touches.false) (sym w.is_stretched.ensures ∙ w.if-is_stretched.false) in
+          record { count = w.digests-is ∙ skipped test n c.loop-block.digests fails c.loop-block.invariant.count; few = omega arith }
+    ]

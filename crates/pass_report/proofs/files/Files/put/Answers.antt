@@ -1,0 +1,14 @@
+use Rattle.std.proofs.Common.{◌+◌, ap, ◌∙◌}
+use Rattle.pass_report.specs.Digests.{put_size}
+use Rattle.pass_report.specs.Contents.{size_in, row_in}
+use Rattle.pass_report.proofs.Storing.{same_digests}
+use Rattle.pass_report.proofs.files.Files.put.Goals as goal
+
+pub returns-clause-count : goal.returns-clause-count
+returns-clause-count c =
+    let same = c.in_ok-meet.ensures.same c.args.file in
+    ap (λ n. 1 + n) (c.put_met.ensures.count
+    ∙ same_digests (row_in c.args.start.now c.meet.new.self c.args.file) (row_in c.args.start.now c.args.self.now c.args.file)
+    (size_in c.args.start.now c.meet.new.self c.args.file) (size_in c.args.start.now c.args.self.now c.args.file) c.args.at c.args.len
+    (put_size (size_in c.args.start.now c.meet.new.self c.args.file) c.args.at c.args.len) (put_size (size_in c.args.start.now c.args.self.now c.args.file) c.args.at c.args.len) 1024
+    same.rows same.size (ap (λ n. put_size n c.args.at c.args.len) same.size))

@@ -1,0 +1,143 @@
+//! Writes the lines of a report.
+ghost use Rattle.std.specs.Prelude.{◌≡◌, [], ◌∷◌, ◌++◌, OnOk, codes, string_bytes, if◌then◌else◌};
+ghost use Rattle.std.specs.Option.{option_map_or};
+ghost use Rattle.std.specs.Fmt.{decimal};
+ghost use Rattle.pass_entry.specs.Words.{kind_word};
+ghost use Rattle.pass_report.specs.Reports as reports;
+
+use crate::processes::bytes_at;
+use crate::trail::Trail;
+use md5::{Digest, Md5};
+use pass_entry::{Act, Entry, Kind, Node, Pnode, Reply};
+use std::alloc::AllocError;
+use std::fmt::Write;
+
+/// A target and its source.
+pub type Edge = (Node, Node);
+
+/// Adds the line of the call that an entry ends. `node` is the entry's own.
+pub fn write_call(
+    text: &mut String,
+    history: &[Entry],
+    trail: &Trail,
+    entry: &Entry,
+    node: Node,
+) -> Result<(), AllocError>
+    ensures { OnOk result (string_bytes text.new ≡ string_bytes text.old ++ reports.call_line history.now trail.now.nodes.items entry.now node) }
+{
+    write!(
+        text,
+        "call {} {} {} ",
+        entry.who.0, entry.number, entry.call
+    )?;
+    write_answer(text, history, trail, entry, node)?;
+    text.push_str("\n")
+}
+
+fn write_answer(
+    text: &mut String,
+    history: &[Entry],
+    trail: &Trail,
+    entry: &Entry,
+    node: Node,
+) -> Result<(), AllocError>
+    ensures { OnOk result (string_bytes text.new ≡ string_bytes text.old ++ reports.answer_of history.now trail.now.nodes.items node entry.now.act entry.now.reply) }
+{
+    match &entry.reply {
+        Reply::Fault(fault) => write!(text, "fault {fault}"),
+        _ => write_done(text, history, trail, &entry.act, node),
+    }
+}
+
+fn write_done(
+    text: &mut String,
+    history: &[Entry],
+    trail: &Trail,
+    act: &Act,
+    node: Node,
+) -> Result<(), AllocError>
+    ensures { OnOk result (string_bytes text.new ≡ string_bytes text.old ++ reports.act_answer history.now trail.now.nodes.items node act.now) }
+{
+    match act {
+        Act::Attach { descriptor, .. } => write!(text, "pnode {}", descriptor.pnode.0),
+        Act::AttachPipe { pnode, .. } => write!(text, "pnode {}", pnode.0),
+        Act::Born { .. } => write!(text, "pnode {}", node.pnode.0),
+        Act::Gain { out, .. } => write_read(text, bytes_at(history, *out), trail.node_at(*out)),
+        Act::Put { bytes, .. } => write_written(text, bytes.as_bytes().len(), node),
+        Act::Push { bytes, .. } => write_written(text, bytes.as_bytes().len(), node),
+        Act::Freeze => {
+            text.push_str("node ")?;
+            write_node(text, node)
+        }
+        _ => text.push_str("ok"),
+    }
+}
+
+/// How many bytes were read, their MD5, and the node from which they came.
+fn write_read(text: &mut String, bytes: &[u8], source: Option<Node>) -> Result<(), AllocError>
+    ensures { OnOk result (string_bytes text.new ≡ string_bytes text.old ++ (reports.bytes_text bytes.now ++ codes " from " ++ option_map_or reports.node_text source [])) }
+{
+    let digest = hex::encode(*text.allocator(), Md5::digest(bytes).as_slice())?;
+    write!(text, "{} {digest} from ", bytes.len())?;
+    match source {
+        Some(source) => write_node(text, source),
+        None => Ok(()),
+    }
+}
+
+/// How many bytes were written, and the node that they are in.
+fn write_written(text: &mut String, len: usize, target: Node) -> Result<(), AllocError>
+    ensures { OnOk result (string_bytes text.new ≡ string_bytes text.old ++ (decimal len ++ codes " to " ++ reports.node_text target)) }
+{
+    write!(text, "{len} to ")?;
+    write_node(text, target)
+}
+
+fn write_node(text: &mut String, node: Node) -> Result<(), AllocError>
+    ensures { OnOk result (string_bytes text.new ≡ string_bytes text.old ++ reports.node_text node) }
+{
+    write!(text, "{}.{}", node.pnode.0, node.version)
+}
+
+/// Adds the line of an edge.
+pub fn write_edge(text: &mut String, edge: &Edge) -> Result<(), AllocError>
+    ensures { OnOk result (string_bytes text.new ≡ string_bytes text.old ++ reports.edge_line edge.now) }
+{
+    text.push_str("edge ")?;
+    write_node(text, edge.0)?;
+    text.push_str(" ")?;
+    write_node(text, edge.1)?;
+    text.push_str("\n")
+}
+
+/// Adds the line of an object with its last version.
+pub fn write_object(
+    text: &mut String,
+    pnode: Pnode,
+    kind: Kind,
+    version: u64,
+) -> Result<(), AllocError>
+    ensures { OnOk result (string_bytes text.new ≡ string_bytes text.old ++ (codes "object " ++ decimal pnode ++ codes " " ++ kind_word kind ++ codes " " ++ decimal version ++ 10 ∷ [])) }
+{
+    writeln!(text, "object {} {} {}", pnode.0, kind, version)
+}
+
+/// Adds the line of a process with the number of its next line.
+pub fn write_waiting(text: &mut String, process: u32, line: u32) -> Result<(), AllocError>
+    ensures { OnOk result (string_bytes text.new ≡ string_bytes text.old ++ (codes "waiting " ++ decimal process ++ codes " " ++ decimal line ++ 10 ∷ [])) }
+{
+    writeln!(text, "waiting {process} {line}")
+}
+
+/// Adds the last line.
+pub fn write_end(
+    text: &mut String,
+    stuck: bool,
+    entries: usize,
+    records: u64,
+) -> Result<(), AllocError>
+    ensures { OnOk result (string_bytes text.new ≡ string_bytes text.old ++ (codes "end " ++ (if stuck then codes "stuck " else codes "done ") ++ decimal entries ++ codes " entries " ++ decimal records ++ codes " records" ++ 10 ∷ [])) }
+{
+    let how = if stuck { "stuck" } else { "done" };
+    writeln!(text, "end {how} {entries} entries {records} records")
+}

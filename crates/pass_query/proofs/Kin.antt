@@ -1,0 +1,102 @@
+-- All that a search has reached, in order.
+use Rattle.std.proofs.Common.{ℕ, ◌≡◌, ◌<◌, ◌+◌, ◌-◌, zero, suc, true, false, refl, sym, ap, ◌∙◌, subst, List, [], ◌∷◌, length, drop, take, get_or, arith, Ordering}
+use Rattle.std.specs.Prelude.{Some, map, slice_get, option_map, Contains}
+use Rattle.std.specs.List.{IsDistinct}
+use Rattle.std.specs.List.Sorted.{IsStrictlySortedBy, IsSorted, IsPermutation}
+use Rattle.std.specs.Ordering.{ordering_reverse, is_lt}
+use Rattle.std.specs.declared.cmp.Ordering.TheVariants.{Less, Equal, Greater}
+use Rattle.std.proofs.lemmas.List.{length-map, take_all}
+use Rattle.std.proofs.lemmas.List.Sorted.{Contains-permutation, IsPermutation-sym}
+use Rattle.std.proofs.lemmas.Map.Keys.{IsDistinct-IsPermutation, apart_from_distinct, sorted_from_all_adjacent}
+use Rattle.std.proofs.lemmas.Option.{slice_get-map}
+use Rattle.pass_entry.specs.declared.objects.Node.{Node}
+use Rattle.pass_entry.specs.declared.record.Record.{Record}
+use Rattle.pass_plain.specs.Versions.{same_node}
+use Rattle.pass_plain.specs.WellLogged.{IsWellLogged}
+use Rattle.pass_plain.proofs.Lists.{some_is}
+use Rattle.pass_graph.proofs.Noding.{same_node_equiv}
+use Rattle.pass_graph.proofs.Ranking.{list_acyclic_law}
+use Rattle.pass_waldo.specs.Orders.{node_cmp}
+use Rattle.pass_waldo.specs.Lookups.{AreAll}
+use Rattle.pass_waldo.proofs.Indexing.{node_cmp_total, node_exact}
+use Rattle.pass_query.specs.declared.search.Reached.{Reached}
+use Rattle.pass_query.specs.declared.search.Way.{Way}
+use Rattle.pass_query.specs.declared.search.Way.TheVariants.{Back, On}
+use Rattle.pass_query.specs.Searches.{Reaches, IsWhole, HasAllLed}
+use Rattle.pass_query.specs.Answers.{HasAllEntering}
+use Rattle.pass_query.proofs.Looking.{reached_at}
+use Rattle.pass_query.proofs.Searching.{IsOrdered, ordered, Contains-place, Contains-at}
+use Rattle.pass_query.proofs.Bounding.{nodes_of, reached_of, distinct_from, come_on, all_reached}
+
+-- no node reaches itself
+pub no_return : (way : Way) (list : List Record) → IsWellLogged list → (x : Node) → Reaches way list x x → ⊥
+no_return Back list logged x p = list_acyclic_law list logged x p
+no_return On list logged x p = list_acyclic_law list logged x p
+
+-- a sorted list that has no node twice is strictly sorted
+strictly : (v : List Node) (d : Node) → IsSorted node_cmp v → IsDistinct same_node v → IsStrictlySortedBy node_cmp v
+strictly v d up apart = sorted_from_all_adjacent node_cmp_total v d (λ k within. at_test k within (node_cmp (get_or v k d) (get_or v (k + 1) d)) refl)
+  where
+    at_test : (k : ℕ) → k + 1 < length v → (o : Ordering) → node_cmp (get_or v k d) (get_or v (k + 1) d) ≡ o → node_cmp (get_or v k d) (get_or v (k + 1) d) ≡ Less
+    at_test k within Less is = is
+    at_test k within Equal is =
+        let same : get_or v k d ≡ get_or v (k + 1) d = node_exact (get_or v k d) (get_or v (k + 1) d) is in
+        let differ : same_node (get_or v k d) (get_or v (k + 1) d) ≡ false = apart_from_distinct same_node v k (k + 1) d apart (omega arith) within in
+        let z : true ≡ false = sym (ap (same_node (get_or v k d)) (sym same) ∙ same_node_equiv.refl (get_or v k d)) ∙ differ in
+        absurd (cc)
+    at_test k within Greater is =
+        let turned : node_cmp (get_or v (k + 1) d) (get_or v k d) ≡ Less = node_cmp_total.antisymm (get_or v (k + 1) d) (get_or v k d) ∙ ap ordering_reverse is in
+        let z : true ≡ false = sym (ap is_lt turned) ∙ up k d (omega arith) within in
+        absurd (cc)
+
+module _ (way : Way) (list : List Record) (first : Node) (logged : IsWellLogged list) where
+  -- the nodes after the first one, in order, are those to which the edges lead from it
+  from_rest : (r : Reached) (rest : List Reached) (v : List Node) → IsOrdered way list first (r ∷ rest) (suc (length rest)) → IsPermutation (nodes_of rest) v → IsSorted node_cmp v → AreAll node_cmp v (Reaches way list first)
+  from_rest r rest v o moved up = record {
+    ascending = strictly v first up (IsDistinct-IsPermutation same_node same_node_equiv.symm (nodes_of rest) v moved (distinct_from (nodes_of rest) differ));
+    all = λ x. (sound x, whole x);
+  }
+    where
+      differ : (i j : ℕ) (x y : Node) → slice_get (nodes_of rest) i ≡ Some x → slice_get (nodes_of rest) j ≡ Some y → i < j → x ≡ y → ⊥
+      differ i j x y at there low same =
+          let (p, here, is) = reached_of rest i x at in
+          let (q, later, also) = reached_of rest j y there in
+          let z : suc i ≡ suc j = o.once (suc i) (suc j) p q here later (is ∙ same ∙ sym also) in
+          omega (arith, z, low)
+
+      sound : (x : Node) → Contains v x → Reaches way list first x
+      sound x in_v =
+          let (k, at) = Contains-place (nodes_of rest) x (Contains-permutation v (nodes_of rest) x (IsPermutation-sym (nodes_of rest) v moved) in_v) in
+          let (q, there, is) = reached_of rest k x at in
+          subst (λ y. Reaches way list first y) is (come_on way list first o k q there)
+
+      at_place : (x : Node) (k : ℕ) (q : Reached) → Reaches way list first x → slice_get (r ∷ rest) k ≡ Some q → q.node ≡ x → Contains v x
+      at_place x zero q come at is =
+          let here : first ≡ x = ap (λ (p : Reached). p.node) (sym (some_is r (reached_at 0 first) o.begins) ∙ some_is r q at) ∙ is in
+          absurd (no_return way list logged first (subst (λ y. Reaches way list first y) (sym here) come))
+      at_place x (suc k) q come at is =
+          Contains-permutation (nodes_of rest) v x moved (Contains-at (nodes_of rest) k x (slice_get-map (λ (p : Reached). p.node) rest k ∙ ap (option_map (λ (p : Reached). p.node)) at ∙ ap (λ y. Some y) is))
+
+      whole : (x : Node) → Reaches way list first x → Contains v x
+      whole x come = let (k, q, at, is) = all_reached way list first o x come in at_place x k q come at is
+
+  pub are_all : (reached given : List Reached) (v : List Node) → IsWhole way list first reached → given ≡ reached → IsPermutation (nodes_of (take (length given - 1) (drop 1 given))) v → IsSorted node_cmp v
+      → AreAll node_cmp v (Reaches way list first)
+  are_all [] given v w same moved up = let z = (ordered way list first w.search).begins in absurd (cc)
+  are_all (r ∷ rest) given v w same moved up =
+      let all : take (length (r ∷ rest) - 1) rest ≡ rest = take_all (length (r ∷ rest) - 1) rest (omega arith) in
+      let is : take (length given - 1) (drop 1 given) ≡ rest = ap (λ xs. take (length xs - 1) (drop 1 xs)) same ∙ all in
+      from_rest r rest v (ordered way list first w.search) (subst (λ xs. IsPermutation (nodes_of xs) v) is moved) up
+
+pub turn : Node × Node → Node × Node
+turn e = (e.1, e.0)
+
+-- the same edges from their ends
+pub turned_led : (list : List Record) (first : Node) (edges : List (Node × Node)) → HasAllEntering list first edges → HasAllLed On list first (map turn edges)
+unfolding turn
+turned_led list first edges all a b leads come =
+    let (k, at) = Contains-place edges (b, a) (all b a leads come) in
+    Contains-at (map turn edges) k (a, b) (slice_get-map turn edges k ∙ ap (option_map turn) at)
+
+pub turned_long : (edges : List (Node × Node)) → length (map turn edges) ≡ length edges
+turned_long edges = length-map edges turn

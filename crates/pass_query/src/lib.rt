@@ -1,0 +1,17 @@
+//! Queries on the graph of versions of a log.
+#![tactic(auto)]
+
+mod fault;
+mod lineage;
+mod naming;
+mod output;
+mod routes;
+mod search;
+mod steps;
+
+pub use fault::QueryFault;
+pub use lineage::{ancestors, descendants};
+pub use naming::named;
+pub use output::{to_json, to_text};
+pub use routes::path;
+pub use steps::Steps;

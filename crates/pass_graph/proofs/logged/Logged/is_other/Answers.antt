@@ -20,10 +20,10 @@ pub returns-in-None : goal.returns-in-None
 returns-in-None c = λ list s.
     let others : Bool = list_any (names_other list c.args.pnode c.args.name.now) list in
     let at_test : (b : Bool) → nat_lt 0 (length c.args.name.now) ≡ b → false ≡ nat_lt 0 (length c.args.name.now) && others = λ b is. (
-        elim b as (λ b. nat_lt 0 (length c.args.name.now) ≡ b → false ≡ nat_lt 0 (length c.args.name.now) && others) [
-          | true ↦ λ is.
-              let some : 1 ≤ length c.args.name.now = some_byte (length c.args.name.now) is in
-              other_holder list c.args.pnode c.args.name.now some None tt (c.in-None.ensures.alone list s some) ∙ sym (ap (λ b. b && others) is)
-          | false ↦ λ is. sym (ap (λ b. b && others) is)
-        ]) is in
+    elim b as (λ b. nat_lt 0 (length c.args.name.now) ≡ b → false ≡ nat_lt 0 (length c.args.name.now) && others) [
+      | true ↦ λ is.
+          let some : 1 ≤ length c.args.name.now = some_byte (length c.args.name.now) is in
+          other_holder list c.args.pnode c.args.name.now some None tt (c.in-None.ensures.alone list s some) ∙ sym (ap (λ b. b && others) is)
+      | false ↦ λ is. sym (ap (λ b. b && others) is)
+    ]) is in
     at_test (nat_lt 0 (length c.args.name.now)) refl

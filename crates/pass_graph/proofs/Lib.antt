@@ -23,3 +23,4 @@ mod Adding
 pub mod Ranking
 pub mod Noding
 mod Closing
+mod Growing

@@ -1,3 +1,4 @@
+pub mod Bounds
 pub mod Check
 pub mod ListRanks
 pub mod Logged

@@ -2,6 +2,7 @@
 //! records.
 #![tactic(auto)]
 
+pub mod bounds;
 mod checking;
 pub mod laws;
 mod logged;

@@ -97,10 +97,10 @@ range_is b l r size =
     let short : r ≤ 4096 = omega (arith, size, length-take 4096 (drop (b * 4096) l)) in
     sym (take_all r (range b l) (omega (arith, size))) ∙ take-take r 4096 (drop (b * 4096) l) short
 
-holds_range : (b : ℕ) (l : List ℕ) → Holds (b * 4096) (range b l) l
+pub holds_range : (b : ℕ) (l : List ℕ) → Holds (b * 4096) (range b l) l
 holds_range b l = sym (range_is b l (length (range b l)) refl)
 
-range_held : (b : ℕ) (old new : List ℕ) → length (range b new) ≡ length (range b old) → Holds (b * 4096) (range b old) new → range b new ≡ range b old
+pub range_held : (b : ℕ) (old new : List ℕ) → length (range b new) ≡ length (range b old) → Holds (b * 4096) (range b old) new → range b new ≡ range b old
 range_held b old new size held = range_is b new (length (range b old)) size ∙ held
 
 same_length : (b : ℕ) (old new : List ℕ) → range_len (length new) b ≡ range_len (length old) b → length (range b new) ≡ length (range b old)

@@ -88,7 +88,7 @@ unmatched_file table store row fails = by_file (file_in table row.0.pnode) fails
     by_file (Some file) fails = (file, refl, fails)
 
 -- the number and the size in a file of a list
-numbered : (o : Option ℕ) (size : ℕ) (file : TableFile) → option_map (λ n. record { number = n; size = size }) o ≡ Some file → (o ≡ Some file.number) × (file.size ≡ size)
+pub numbered : (o : Option ℕ) (size : ℕ) (file : TableFile) → option_map (λ n. record { number = n; size = size }) o ≡ Some file → (o ≡ Some file.number) × (file.size ≡ size)
 numbered None size file is = absurd (cc)
 numbered (Some n) size file is =
     let same = some_is (record { number = n; size = size }) file is in

@@ -159,7 +159,7 @@ row_exists session sound p b = legal_induction session (λ h. has_row session h 
             (object_law session sound history e legal next))
 
 -- a number among others has a place
-position_some : (xs : List ℕ) (n i p : ℕ) → slice_get xs i ≡ Some p → (m : ℕ) × (position_from (λ file. file == p) n xs ≡ Some m)
+pub position_some : (xs : List ℕ) (n i p : ℕ) → slice_get xs i ≡ Some p → (m : ℕ) × (position_from (λ file. file == p) n xs ≡ Some m)
 position_some [] n i p at = absurd (cc)
 position_some (x ∷ xs) n i p at = by_test (x == p) refl i at (λ j there. position_some xs (n + 1) j p there)
   where

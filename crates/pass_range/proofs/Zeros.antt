@@ -18,7 +18,7 @@ use Rattle.pass_range.proofs.Changing.{snoc_induction, changes, file-kept, has-k
 use Rattle.pass_range.specs.Lawful.{IsZero}
 use Rattle.pass_range.proofs.Apart.{length-resized}
 
-zero_at : (n i : ℕ) → get_or (replicate {A = ℕ} n 0) i 0 ≡ 0
+pub zero_at : (n i : ℕ) → get_or (replicate {A = ℕ} n 0) i 0 ≡ 0
 zero_at zero i = refl
 zero_at (suc n) zero = refl
 zero_at (suc n) (suc i) = zero_at n i

@@ -1,5 +1,4 @@
-use Rattle.std.proofs.Common.{ℕ, ◌*◌, ◌<◌, List, [], ◌∷◌, length, arith, rules}
-use Rattle.std.specs.List.{All}
+use Rattle.std.proofs.Common.{ℕ, ◌*◌, ◌<◌, [], ◌∷◌, length, arith, rules}
 use Rattle.std.proofs.lemmas.List.Elements.{All-cons}
 use Rattle.pass_range.proofs.tests.twice.Goals as goal
 

@@ -1,0 +1,11 @@
+pub mod Listed
+pub mod Made
+pub mod Naming
+pub mod Sized
+pub mod Sounding
+pub mod Filling
+pub mod Blanks
+pub mod RowRead
+pub mod Elements
+pub mod Counting
+pub mod Opened

@@ -1,0 +1,62 @@
+use Rattle.std.proofs.Common.{◌∙◌, List, map, IsTrue, refl, sym, ap, subst}
+use Rattle.pass_entry.specs.declared.record.Record.{Record}
+use Rattle.pass_outside.specs.Areas.{Image}
+use Rattle.pass_plain.specs.declared.start.Start.{Start}
+use Rattle.pass_plain.specs.WellLogged.{ceiling_of, IsWellLogged}
+use Rattle.pass_range.specs.Tables.{IsTableOf}
+use Rattle.pass_recover.specs.Starts.{apps_of, current_node}
+use Rattle.pass_recover.specs.Fills.{AreFilled, AreRead}
+use Rattle.pass_recover.proofs.Opened.{start_of, bytes_of, unmatched_of}
+use Rattle.pass_recover.proofs.Sounding.{tells_files, sound, continues}
+use Rattle.pass_recover.proofs.opening.recover.Goals as goal
+
+pub returns-clause-start : goal.returns-clause-start
+returns-clause-start g c =
+    let list : List Record = c.in-Ok.image.list.items in
+    let start : Start = record { ceiling = c.last_ceiling.result; files = c.in_ok-files.field-0.files; apps = c.in_ok-current_apps.field-0 } in
+    let table = c.in_ok-table.table in
+    let is = subst (λ (l : List Record). IsTableOf l table) c.deref-2.ensures.value c.in_ok-table.ensures in
+    let filled = subst (λ (l : List Record). AreFilled l table.rows.items start.files.items) c.deref-3.ensures.value c.in_ok-files.ensures.files in
+    start_of list table is start.files.items filled start refl (c.last_ceiling.ensures ∙ ap ceiling_of c.deref-4.ensures.value)
+    (c.in_ok-current_apps.ensures ∙ ap (λ (l : List Record). map (current_node l) (apps_of l)) c.deref-5.ensures.value)
+
+pub returns-clause-bytes : goal.returns-clause-bytes
+returns-clause-bytes g c = λ told.
+    let list : List Record = c.in-Ok.image.list.items in
+    let start : Start = record { ceiling = c.last_ceiling.result; files = c.in_ok-files.field-0.files; apps = c.in_ok-current_apps.field-0 } in
+    let table = c.in_ok-table.table in
+    let is = subst (λ (l : List Record). IsTableOf l table) c.deref-2.ensures.value c.in_ok-table.ensures in
+    let filled = subst (λ (l : List Record). AreFilled l table.rows.items start.files.items) c.deref-3.ensures.value c.in_ok-files.ensures.files in
+    let read =
+    subst (λ (i : Image). AreRead list table.rows.items i.store start.files.items) (c.read_image.ensures.content ∙ c.in_ok-settle.ensures.content)
+    (subst (λ (l : List Record). AreRead l table.rows.items (g.D.Disk.view c.read_image.new.disk).seen.store start.files.items) c.deref-3.ensures.value
+    (c.in_ok-files.ensures.bytes (subst IsTrue (sym (c.read_image.ensures.tells ∙ c.settle.ensures.run.tells)) told))) in
+    bytes_of list table is start.files.items filled (g.D.Disk.view c.args.disk.now).seen.store read start refl
+
+pub returns-clause-unmatched : goal.returns-clause-unmatched
+returns-clause-unmatched g c = λ told.
+    let list : List Record = c.in-Ok.image.list.items in
+    let files = c.in_ok-files.field-0.files.items in
+    let table = c.in_ok-table.table in
+    let is = subst (λ (l : List Record). IsTableOf l table) c.deref-2.ensures.value c.in_ok-table.ensures in
+    let filled = subst (λ (l : List Record). AreFilled l table.rows.items files) c.deref-3.ensures.value c.in_ok-files.ensures.files in
+    let read =
+    subst (λ (i : Image). AreRead list table.rows.items i.store files) (c.read_image.ensures.content ∙ c.in_ok-settle.ensures.content)
+    (subst (λ (l : List Record). AreRead l table.rows.items (g.D.Disk.view c.read_image.new.disk).seen.store files) c.deref-3.ensures.value
+    (c.in_ok-files.ensures.bytes (subst IsTrue (sym (c.read_image.ensures.tells ∙ c.settle.ensures.run.tells)) told))) in
+    unmatched_of list table is files filled (g.D.Disk.view c.args.disk.now).seen.store read c.in_ok-files.field-0.unmatched.items c.in_ok-files.ensures.unmatched
+
+pub returns-clause-tells_files : goal.returns-clause-tells_files
+returns-clause-tells_files g c =
+    let start : Start = record { ceiling = c.last_ceiling.result; files = c.in_ok-files.field-0.files; apps = c.in_ok-current_apps.field-0 } in
+    tells_files c.in-Ok.image.list.items start (returns-clause-start g c) (subst IsWellLogged c.deref.ensures.value c.in_ok-check.ensures.ok) c.in-Ok.ensures.in_range
+
+pub returns-clause-sound : goal.returns-clause-sound
+returns-clause-sound g c =
+    let start : Start = record { ceiling = c.last_ceiling.result; files = c.in_ok-files.field-0.files; apps = c.in_ok-current_apps.field-0 } in
+    sound c.in-Ok.image.list.items start (returns-clause-start g c) (subst IsWellLogged c.deref.ensures.value c.in_ok-check.ensures.ok) c.in-Ok.ensures.in_range
+
+pub returns-clause-continues : goal.returns-clause-continues
+returns-clause-continues g c =
+    let start : Start = record { ceiling = c.last_ceiling.result; files = c.in_ok-files.field-0.files; apps = c.in_ok-current_apps.field-0 } in
+    continues c.in-Ok.image.list.items start (returns-clause-start g c) (subst IsWellLogged c.deref.ensures.value c.in_ok-check.ensures.ok) c.in-Ok.ensures.in_range

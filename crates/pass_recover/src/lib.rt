@@ -1,0 +1,11 @@
+//! Recovery: how a store opens, from what its disk has.
+#![tactic(auto)]
+
+mod blank;
+mod fault;
+mod fill;
+mod heads;
+mod opening;
+
+pub use fault::OpenFault;
+pub use opening::{Opening, recover};

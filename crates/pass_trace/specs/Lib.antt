@@ -2,6 +2,7 @@ pub mod Calls
 pub mod Commands
 pub mod Gives
 pub mod Lines
+pub mod Reasons
 pub mod Rules
 pub mod Tables
 pub mod Texts

@@ -1,6 +1,10 @@
 //! A trace, and why bytes are none.
+ghost use Rattle.std.specs.Prelude.{◌≡◌};
+ghost use Rattle.pass_trace.specs.Reasons.{reason_word};
+
 use pass_entry::{Bytes, Mode, Text};
 use std::alloc::AllocError;
+use std::fmt;
 
 /// What a write writes.
 #[derive(Debug, PartialEq, Drop)]
@@ -70,6 +74,32 @@ pub enum TraceReason {
     Process,
     /// There are too many lines, or too many that make objects.
     Many,
+}
+
+impl TraceReason {
+    /// The word by which a report of a fault tells the reason.
+    pub fn word(&self) -> &'static str
+        ensures { result.now ≡ reason_word self.now }
+    {
+        match self {
+            TraceReason::Form => "form",
+            TraceReason::Number => "number",
+            TraceReason::Length => "length",
+            TraceReason::Process => "process",
+            TraceReason::Many => "many",
+        }
+    }
+}
+
+impl fmt::Display for TraceReason {
+    ghost use Rattle.std.specs.Prelude.{Some};
+    ghost use Rattle.pass_trace.specs.Reasons.{reason_word};
+
+    ghost output = { λ value. Some (reason_word value) };
+
+    fn fmt<W: fmt::Write>(&self, f: &mut fmt::Formatter<W>) -> fmt::Result {
+        f.write_str(self.word())
+    }
 }
 
 /// Why there is no trace.

@@ -22,8 +22,9 @@ use Rattle.pass_plain.specs.Runs.{pnode_of_process, next_number, request_at}
 use Rattle.pass_plain.proofs.Lists.{some_is, same_numbers}
 use Rattle.pass_plain.proofs.Counts.{step_count_law}
 use Rattle.pass_plain.proofs.Making.{registry-append}
+use Rattle.pass_report.specs.Reports.{forked_by, trace_processes}
 use Rattle.pass_run.specs.Lines.{AreLinesBehind}
-use Rattle.pass_run.specs.Making.{IsRunSoFar, IsNextEntry, entries_made, creates_call, creating_left, forked_by, processes_of, steps_left}
+use Rattle.pass_run.specs.Making.{IsRunSoFar, IsNextEntry, entries_made, creates_call, creating_left, steps_left}
 use Rattle.pass_run.proofs.Positions.{equal, unequal}
 use Rattle.pass_run.proofs.Sums.{sum-le, sum-lt, total-le, total-lt}
 use Rattle.pass_run.proofs.Begun.{begun_or_forked}
@@ -49,7 +50,7 @@ in_list (m ∷ trace) (suc k) q l at forks = let (j, there) = in_list trace k q 
     behind None j there = (j, there)
     behind (Some x) j there = (suc j, there)
 
-pub process_listed : (session : Session) (trace : List Line) (history : List Entry) (q w : ℕ) → pnode_of_process session trace history q ≡ Some w → (j : ℕ) × (slice_get (processes_of trace) j ≡ Some q)
+pub process_listed : (session : Session) (trace : List Line) (history : List Entry) (q w : ℕ) → pnode_of_process session trace history q ≡ Some w → (j : ℕ) × (slice_get (trace_processes trace) j ≡ Some q)
 process_listed session trace history q w at = elim (begun_or_forked session trace history q w at) [
   | inl one ↦ (0, ap (λ q. Some q) (sym one))
   | inr forked ↦ let (j, there) = in_list trace forked.0 q forked.1 forked.2 forked.3 in (suc j, there)
@@ -147,7 +148,7 @@ module _ (session : Session) (trace : List Line) (behind : AreLinesBehind [] tra
     | inl l ↦
         let lines = sum-lt (λ p n c. 67 - entries_made session trace longer p n) (λ p n c. 67 - entries_made session trace history p n) trace process done l.0 l.1
         (λ p n c. let z = entries_more p n in omega (arith, z)) (omega (arith, entries_before, entries_after, few)) in
-        let exits = total-le (λ p. 67 - entries_made session trace longer p (length (calls_of trace p))) (λ p. 67 - entries_made session trace history p (length (calls_of trace p))) (processes_of trace)
+        let exits = total-le (λ p. 67 - entries_made session trace longer p (length (calls_of trace p))) (λ p. 67 - entries_made session trace history p (length (calls_of trace p))) (trace_processes trace)
         (λ p. let z = entries_more p (length (calls_of trace p)) in omega (arith, z)) in
         omega (arith, lines, exits)
     | inr exit ↦
@@ -156,7 +157,7 @@ module _ (session : Session) (trace : List Line) (behind : AreLinesBehind [] tra
         let lines = sum-le (λ p n c. 67 - entries_made session trace longer p n) (λ p n c. 67 - entries_made session trace history p n) [] trace (λ p n c. let z = entries_more p n in omega (arith, z)) in
         let a = ap (λ n. entries_made session trace history process n) number ∙ entries_before in
         let b = ap (λ n. entries_made session trace longer process n) number ∙ entries_after in
-        let exits = total-lt (λ p. 67 - entries_made session trace longer p (length (calls_of trace p))) (λ p. 67 - entries_made session trace history p (length (calls_of trace p))) (processes_of trace) j process
+        let exits = total-lt (λ p. 67 - entries_made session trace longer p (length (calls_of trace p))) (λ p. 67 - entries_made session trace history p (length (calls_of trace p))) (trace_processes trace) j process
         (λ p. let z = entries_more p (length (calls_of trace p)) in omega (arith, z)) there (omega (arith, a, b, few)) in
         omega (arith, lines, exits)
   ]

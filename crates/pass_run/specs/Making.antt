@@ -1,5 +1,5 @@
 -- What a run has made of a trace so far, and the next entry of a call.
-use Rattle.std.specs.Prelude.{ℕ, ◌+◌, ◌-◌, ◌==◌, ◌≡◌, ◌≤◌, ◌<◌, true, false, ◌&&◌, Bool, List, [], ◌∷◌, ◌++◌, Option, Some, None, length, slice_get, filter_map, if◌then◌else◌}
+use Rattle.std.specs.Prelude.{ℕ, ◌+◌, ◌-◌, ◌==◌, ◌≡◌, ◌≤◌, ◌<◌, true, false, ◌&&◌, Bool, List, [], ◌∷◌, ◌++◌, Some, None, length, slice_get, if◌then◌else◌}
 use Rattle.std.specs.Option.{option_map_or}
 use Rattle.pass_entry.specs.declared.entry.Entry.{Entry}
 use Rattle.pass_entry.specs.declared.entry.Act.TheVariants as act
@@ -19,6 +19,7 @@ use Rattle.pass_plain.specs.CallLaws.{IsBegun}
 use Rattle.pass_plain.specs.NextSteps.{AreOfCall}
 use Rattle.pass_plain.specs.Traces.{Line, LineCall, given, fork_as, lines_of, calls_of}
 use Rattle.pass_plain.specs.Runs.{IsRun, pnode_of_process, next_number}
+use Rattle.pass_report.specs.Reports.{trace_processes}
 use Rattle.pass_run.specs.Ends.{AreNamed}
 
 -- the sum of what each line counts, which is told its process, the number of its call and its call
@@ -44,15 +45,6 @@ abbrev pub creating_left : Session → List Line → List Entry → ℕ
 creating_left session trace history =
     sum_lines (λ process number call. if creates_call call && entries_made session trace history process number == 0 then 1 else 0) [] trace
 
--- the process that a call forks
-abbrev pub forked_by : LineCall → Option ℕ
-forked_by (fork_as child) = Some child
-forked_by _ = None
-
--- the processes of a trace
-abbrev pub processes_of : List Line → List ℕ
-processes_of trace = 1 ∷ filter_map (λ l. forked_by l.call) trace
-
 -- the sum of what each process counts
 abbrev pub sum_processes : (ℕ → ℕ) → List ℕ → ℕ
 sum_processes counts [] = 0
@@ -62,7 +54,7 @@ sum_processes counts (p ∷ ps) = counts p + sum_processes counts ps
 abbrev pub steps_left : Session → List Line → List Entry → ℕ
 steps_left session trace history =
     sum_lines (λ process number call. 67 - entries_made session trace history process number) [] trace
-    + sum_processes (λ process. 67 - entries_made session trace history process (length (calls_of trace process))) (processes_of trace)
+    + sum_processes (λ process. 67 - entries_made session trace history process (length (calls_of trace process))) (trace_processes trace)
 
 -- A run of a trace so far: its processes have begun, each has a pnode of its own, and has ended where its exit is over;
 -- and there is room for what the lines may still make

@@ -21,5 +21,6 @@ pub mod Moves
 pub mod Turns
 pub mod Finished
 pub mod EmptyStarts
+pub mod Reported
 pub mod Pieces
 pub mod Limited

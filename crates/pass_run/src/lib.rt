@@ -2,6 +2,7 @@
 #![tactic(auto)]
 
 mod calling;
+mod ending;
 mod places;
 mod reading;
 mod requests;
@@ -11,7 +12,7 @@ mod status;
 mod tests;
 mod writing;
 
+pub use ending::{RunEnd, empty_start, run_trace};
 pub use reading::{ReadEnd, read_source};
-pub use run::{Ran, run_calls};
 pub use status::Status;
 pub use writing::write_text;

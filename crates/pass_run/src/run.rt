@@ -10,7 +10,7 @@ ghost use Rattle.pass_plain.specs.Legal.{IsLegal, before_call};
 ghost use Rattle.pass_plain.specs.Runs.{IsRun, CanMove, next_number};
 ghost use Rattle.pass_report.specs.TraceLines.{plain_trace, session_of_trace};
 ghost use Rattle.pass_trace.specs.declared.trace.TraceLine.{TraceLine as TracedLine};
-ghost use Rattle.pass_run.specs.Ends.{IsTrace, unbuilt_line, AreNamed, NoneCanMove, EndsAs};
+ghost use Rattle.pass_run.specs.Ends.{IsTrace, AreNamed, NoneCanMove, EndsAs};
 ghost use Rattle.pass_run.specs.Making.{first_entry};
 
 use crate::calling::{Call, Went};
@@ -27,7 +27,7 @@ use std::collections::BTreeMap;
 
 /// How a run ended, and what it recorded.
 #[derive(Drop)]
-pub struct Ran {
+pub(crate) struct Ran {
     pub status: Status,
     pub history: Vec<Entry>,
 }
@@ -57,41 +57,17 @@ const FIRST: u32 = 1;
 /// Runs a trace from this start: process 1 begins, and in each pass each living process, in ascending order of their numbers
 /// in the trace, makes its calls until one isn't ready or it has made its exit. A child takes part in the pass in which it
 /// was forked where its number is above its parent's. The run ends after a pass in which nobody made an entry.
-pub fn run_calls(alloc: Global, trace: &Trace, start: &Start) -> Result<Ran, AllocError>
+pub(crate) fn run_calls(alloc: Global, trace: &Trace, start: &Start) -> Result<Ran, AllocError>
     requires sound { IsSound (session_of_trace start.now trace.now.lines.items) }
     requires trace { IsTrace trace.now.lines.items }
-
-    // A trace with a call that the program doesn't make isn't begun.
-    ensures not_built { IfOk result (λ ran. (line : ℕ) → ran.status ≡ Status.NotBuilt line ↔ (unbuilt_line trace.now.lines.items ≡ Some line)) }
-    ensures not_begun { IfOk result (λ ran. IsSome (unbuilt_line trace.now.lines.items) → ran.history.items ≡ []) }
-
-    // Any other is run until no process can move: Done where none is open, else Stuck.
-    ensures run { IfOk result (λ ran. unbuilt_line trace.now.lines.items ≡ None
-        → IsRun (session_of_trace start.now trace.now.lines.items) (plain_trace trace.now.lines.items) ran.history.items) }
-    ensures named { IfOk result (λ ran. unbuilt_line trace.now.lines.items ≡ None
-        → AreNamed (session_of_trace start.now trace.now.lines.items) (plain_trace trace.now.lines.items) ran.history.items) }
-    ensures ends { IfOk result (λ ran. unbuilt_line trace.now.lines.items ≡ None
-        → EndsAs (session_of_trace start.now trace.now.lines.items) (plain_trace trace.now.lines.items) ran.history.items ran.status) }
+    ensures run { IfOk result (λ ran. IsRun (session_of_trace start.now trace.now.lines.items) (plain_trace trace.now.lines.items) ran.history.items) }
+    ensures named { IfOk result (λ ran. AreNamed (session_of_trace start.now trace.now.lines.items) (plain_trace trace.now.lines.items) ran.history.items) }
+    // No process can move: Done where none is open, else Stuck.
+    ensures ends { IfOk result (λ ran. EndsAs (session_of_trace start.now trace.now.lines.items) (plain_trace trace.now.lines.items) ran.history.items ran.status) }
 {
-    if let Some(line) = first_unbuilt(&trace.lines) {
-        return Ok(Ran {
-            status: Status::NotBuilt { line },
-            history: Vec::new(alloc),
-        });
-    }
     let mut run = Run::begin(alloc, start, &trace.lines)?;
     run.to_end(alloc)?;
     Ok(run.end())
-}
-
-// The number of the first line whose call the program doesn't make.
-fn first_unbuilt(lines: &[TraceLine]) -> Option<u32>
-    ensures { result ≡ unbuilt_line lines.now }
-{
-    lines
-        .iter()
-        .find(|line| matches!(line.command, Command::Sync { .. }))
-        .map(|line| line.number)
 }
 
 // Begins the first process, and answers its pnode.

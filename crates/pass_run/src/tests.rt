@@ -1,7 +1,7 @@
-//! Runs of whole traces.
-use crate::{Status, run_calls};
-use pass_plain::Start;
-use pass_trace::parse;
+//! Runs of whole traces, streams that fail, and the texts of the statuses.
+use crate::{ReadEnd, Status, read_source, run_trace, write_text};
+use pass_outside::{Failed, MemSink, MemSource, NoDisk, OpenGate};
+use pass_trace::{TraceReason, parse};
 use std::process::Abort;
 use std::test::Fail;
 
@@ -85,14 +85,10 @@ const ROWS: [Row; 12] = [
 
 fn check(rt: &(impl Abort + AllocGlobal), row: Row) -> Result<(), Fail> {
     let trace = parse(rt.alloc(), row.text.as_bytes())?;
-    let start = Start {
-        ceiling: 0,
-        files: Vec::new(rt.alloc()),
-        apps: Vec::new(rt.alloc()),
-    };
-    let ran = run_calls(rt.alloc(), &trace, &start)?;
-    assert_eq!(rt; ran.status, row.status);
-    assert_eq!(rt; ran.history.len(), row.entries);
+    let end = run_trace(rt.alloc(), &trace, 1, NoDisk::new(), &OpenGate);
+    assert_eq!(rt; end.status, row.status);
+    assert_eq!(rt; end.history.len(), row.entries);
+    assert_eq!(rt; end.report.is_empty(), row.entries == 0);
     Ok(())
 }
 
@@ -100,6 +96,76 @@ fn check(rt: &(impl Abort + AllocGlobal), row: Row) -> Result<(), Fail> {
 fn traces_run_to_their_ends(rt: HostRuntime) -> Result<(), Fail> {
     for row in ROWS {
         check(&rt, row)?;
+    }
+    Ok(())
+}
+
+/// What is read of a source with these bytes, whose calls with these numbers fail.
+fn read(
+    rt: &(impl Abort + AllocGlobal),
+    bytes: &[u8],
+    fails: &[u64],
+) -> Result<Result<Vec<u8>, ReadEnd>, Fail> {
+    let mut source = MemSource::new(bytes.to_vec(rt.alloc())?, fails.to_vec(rt.alloc())?);
+    Ok(read_source(rt.alloc(), &mut source))
+}
+
+#[test]
+fn a_source_is_read_to_its_end(rt: HostRuntime) -> Result<(), Fail> {
+    let text = vec![in rt.alloc(); b'\n'; 5000]?;
+    assert_eq!(rt; read(&rt, &text, &[])?.unwrap(), text);
+    assert_eq!(rt; read(&rt, &text, &[2])?.unwrap_err(), ReadEnd::ReadFault);
+    Ok(())
+}
+
+#[test]
+fn a_sink_takes_a_whole_text(rt: HostRuntime) -> Result<(), Fail> {
+    let mut sink = MemSink::new(rt.alloc(), vec![in rt.alloc(); 2]?);
+    assert_eq!(rt; write_text(&mut sink, b"abc"), Ok(()));
+    assert_eq!(rt; write_text(&mut sink, b"def"), Err(Failed));
+    assert_eq!(rt; write_text(&mut sink, b"gh"), Ok(()));
+    assert_eq!(rt; sink.taken(), b"abcgh".as_slice());
+    Ok(())
+}
+
+/// The reasons with their words.
+const REASONS: [(TraceReason, &str); 5] = [
+    (TraceReason::Form, "fault trace 20 form\n"),
+    (TraceReason::Number, "fault trace 20 number\n"),
+    (TraceReason::Length, "fault trace 20 length\n"),
+    (TraceReason::Process, "fault trace 20 process\n"),
+    (TraceReason::Many, "fault trace 20 many\n"),
+];
+
+/// Each other status, its number and its text.
+const STATUSES: [(Status, u8, &str); 7] = [
+    (Status::Done, 0, ""),
+    (Status::BadWords, 2, "fault words\n"),
+    (Status::Stuck, 4, ""),
+    (Status::ReadFault, 6, "fault read\n"),
+    (Status::WriteFault, 7, ""),
+    (Status::NoMemory, 10, ""),
+    (Status::NotBuilt { line: 3 }, 12, "fault unbuilt 3\n"),
+];
+
+fn tells(
+    rt: &(impl Abort + AllocGlobal),
+    status: Status,
+    number: u8,
+    text: &str,
+) -> Result<(), Fail> {
+    assert_eq!(rt; status.number(), number);
+    assert_eq!(rt; status.text(rt.alloc())?.as_str(), text);
+    Ok(())
+}
+
+#[test]
+fn statuses_have_numbers_and_texts(rt: HostRuntime) -> Result<(), Fail> {
+    for (status, number, text) in STATUSES {
+        tells(&rt, status, number, text)?;
+    }
+    for (reason, text) in REASONS {
+        tells(&rt, Status::BadTrace { line: 20, reason }, 3, text)?;
     }
     Ok(())
 }

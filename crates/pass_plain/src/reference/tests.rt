@@ -4,6 +4,7 @@ ghost use Rattle.pass_plain.specs.Legal.{session_of};
 ghost use Rattle.pass_plain.specs.Sound.{IsSound};
 
 mod recorded;
+mod replies;
 
 use crate::reference::Plain;
 use crate::start::Start;
@@ -162,11 +163,12 @@ fn put_held(held: &mut Descriptors, words: &[&str], k: usize)
     }
 }
 
-/// A child's descriptors, at most two.
+/// A child's descriptors, at most five.
 fn descriptors(words: &[&str]) -> Descriptors {
     let mut held = Descriptors::new();
-    put_held(&mut held, words, 6);
-    put_held(&mut held, words, 11);
+    for k in 0..5usize {
+        put_held(&mut held, words, 6 + 5 * k);
+    }
     held
 }
 
@@ -389,82 +391,6 @@ fn write_read_back(rt: HostRuntime) -> Result<(), Fail> {
     assert_eq!(rt; plain.entries().len(), 9);
     assert_eq!(rt; plain.into_history().len(), 9);
     Ok(())
-}
-
-/// Each fault of each call, and the call without its cause.
-#[test]
-fn faults_are_replies(rt: HostRuntime) -> Result<(), Fail> {
-    session(
-        &rt,
-        rt.alloc(),
-        5,
-        "0 0 start 0 mint process = made 1
-1 1 creat 0 bind a = made 2
-1 1 creat 1 attach 3 2 file rw 0 = done
-1 2 creat 0 bind a = Exists
-1 3 creat 1 deny free 4 = none
-1 3 creat 1 deny free 3 = FdTaken
-1 4 open 0 find x = NoEntry
-1 5 open 0 find a = made 2
-1 5 open 1 attach 4 2 file r 0 = done
-1 6 write 1 deny towrite 4 1 = BadMode
-1 7 read 1 deny toread 9 = BadFd
-1 8 close 1 deny held 9 = BadFd
-1 9 seek 1 deny toseek 3 4194305 = TooBig
-1 10 seek 1 deny toseek 3 4194304 = none
-1 10 seek 1 seek 3 4194304 = done
-1 11 write 1 deny towrite 3 1 = TooBig
-1 12 truncate 1 deny tocut 3 4194305 = TooBig
-1 13 truncate 1 deny tocut 4 0 = BadMode
-1 14 truncate 1 show 3 0 = done
-1 14 truncate 2 cut 16 5 = done
-1 15 seek 1 seek 3 5 = done
-1 16 read 2 give 5 10 = took
-1 16 read 1 gain 19 3 = done
-1 17 rename 0 move x y = NoEntry
-1 18 rename 0 move a b = done
-1 19 unlink 0 unbind a = NoEntry
-1 20 unlink 0 unbind b = done
-1 21 open 0 find b = NoEntry
-1 22 wait 1 deny child 7 = NoChild
-1 23 make 0 mint app = made 3
-1 23 make 1 attach 5 3 app app 0 = done
-1 24 revive 0 known 2 = NoObject
-1 25 revive 0 known 3 = made 3
-1 25 revive 1 attach 6 3 app app 0 = done
-1 26 disclose 1 deny heldtwo 5 9 = BadFd
-1 27 disclose 2 cite = done
-1 27 disclose 3 told 33 = done
-1 28 tag 3 tag TYPE note = done
-1 29 freeze 3 freeze = done
-1 30 sync 2 keep = done
-1 30 sync 1 kept 3 = done
-1 31 seek 1 deny toseek 5 0 = BadMode
-1 32 pipe 1 deny freetwo 3 8 = FdTaken
-1 33 pipe 0 mint pipe = made 4
-1 33 pipe 1 attachpipe 7 8 4 = done
-1 34 read 4 take 5 = none
-1 34 write 1 show 8 2 = done
-1 34 write 4 push 43 xy = done
-1 35 read 4 take 5 = took xy
-1 35 read 1 gain 45 7 = done
-1 36 close 1 detach 7 = done
-1 36 close 4 leave r = done
-1 37 write 1 show 8 1 = done
-1 37 write 4 push 49 z = BrokenPipe
-1 38 close 1 detach 8 = done
-1 38 close 4 leave w = done
-1 39 exec 0 find no = NoEntry
-1 40 creat 0 bind sh = made 5
-1 40 creat 1 attach 7 5 file rw 0 = done
-1 41 exec 0 find sh = made 5
-1 41 exec 5 load = done
-1 41 exec 1 exec 57 sh x = done
-1 42 fork 0 mint process = TooMany
-1 43 creat 0 bind q = TooMany
-1 44 exit 1 finish = done
-1 45 exit 1 finish = none",
-    )
 }
 
 /// A child begins by its birth alone, reads what its parent freezes meanwhile, and is waited for after its end.

@@ -1,3 +1,5 @@
+mod histories;
+
 use crate::{CheckFault, Logged, Ranks, Told, check};
 use pass_entry::{FlawReason, Kind, Node, Pnode, Record, Text};
 use std::alloc::Global;

@@ -74,7 +74,7 @@ fn read_row<D: Disk>(
     ensures only { IsErr result → (result ≡ Err OpenFault.DiskFault) ⊎ (result ≡ Err OpenFault.NoMemory) }
     ensures tells { (D.view disk.new).tells ≡ (D.view disk.old).tells }
     ensures rises { (D.view disk.old).faults ≤ (D.view disk.new).faults }
-    ensures went { OnOk result ((D.view disk.new).faults ≡ (D.view disk.old).faults) }
+    ensures no_fault { (IsErrOf result OpenFault.DiskFault → ⊥) → (D.view disk.new).faults ≡ (D.view disk.old).faults }
     ensures content { (D.view disk.new).seen ≡ (D.view disk.old).seen }
     ensures crash { (c : Image) → (D.view disk.new).may_leave c → (D.view disk.old).may_leave c }
     ensures run { Adds (D.view disk.old) (D.view disk.new) (D.view disk.old).may_leave }
@@ -100,7 +100,7 @@ pub fn read_files<D: Disk>(
     ensures only { IsErr result → (result ≡ Err OpenFault.DiskFault) ⊎ (result ≡ Err OpenFault.NoMemory) }
     ensures tells { (D.view disk.new).tells ≡ (D.view disk.old).tells }
     ensures rises { (D.view disk.old).faults ≤ (D.view disk.new).faults }
-    ensures went { OnOk result ((D.view disk.new).faults ≡ (D.view disk.old).faults) }
+    ensures no_fault { (IsErrOf result OpenFault.DiskFault → ⊥) → (D.view disk.new).faults ≡ (D.view disk.old).faults }
     ensures content { (D.view disk.new).seen ≡ (D.view disk.old).seen }
     ensures crash { (c : Image) → (D.view disk.new).may_leave c → (D.view disk.old).may_leave c }
     ensures run { Adds (D.view disk.old) (D.view disk.new) (D.view disk.old).may_leave }

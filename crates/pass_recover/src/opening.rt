@@ -1,5 +1,5 @@
 //! The opening of a store.
-ghost use Rattle.std.specs.Prelude.{◌≡◌, ◌⊎◌, ◌+◌, ◌^◌, ◌<◌, ◌≤◌, ℕ, IsTrue, IsErr, OnOk, IfOk, IfErr};
+ghost use Rattle.std.specs.Prelude.{◌≡◌, ◌⊎◌, ◌+◌, ◌^◌, ◌<◌, ◌≤◌, ℕ, IsTrue, IsErr, IsErrOf, OnOk, IfOk, IfErr};
 ghost use Rattle.std.specs.List.{All};
 ghost use Rattle.pass_entry.specs.Ranges.{IsInRange};
 ghost use Rattle.pass_graph.specs.Openings.{Continues};
@@ -91,6 +91,7 @@ pub fn recover<D: Disk>(alloc: Global, disk: &mut D) -> Result<Opening, OpenFaul
     ensures continues { IfOk result (λ o. (objects : ℕ) → 1 ≤ objects → objects ≤ 8192 → o.start.ceiling + objects < 2 ^ 48 → Continues o.image.list.items (session_of o.start objects)) }
 
     ensures fault { IfErr result (IsCauseOf (D.view disk.old) (D.view disk.new)) }
+    ensures no_fault { (IsErrOf result OpenFault.DiskFault → ⊥) → (D.view disk.new).faults ≡ (D.view disk.old).faults }
 
     // The log can be opened next; and a crash at a moment since the two syncs leaves what was read.
     ensures open_next { IfOk result (λ o. IsRead (D.view disk.new) o.image) }
@@ -98,7 +99,6 @@ pub fn recover<D: Disk>(alloc: Global, disk: &mut D) -> Result<Opening, OpenFaul
     ensures since { OnOk result ((c : Image) → (D.view disk.new).left_since ((D.view disk.old).calls + 2) c → c ≡ (D.view disk.old).seen) }
     ensures later { OnOk result ((D.view disk.old).calls + 2 ≤ (D.view disk.new).calls) }
     ensures content { OnOk result ((D.view disk.new).seen ≡ (D.view disk.old).seen) }
-    ensures went { OnOk result ((D.view disk.new).faults ≡ (D.view disk.old).faults) }
     ensures crash { (c : Image) → (D.view disk.new).may_leave c → (D.view disk.old).may_leave c }
     ensures run { Adds (D.view disk.old) (D.view disk.new) (D.view disk.old).may_leave }
     ensures tells { (D.view disk.new).tells ≡ (D.view disk.old).tells }

@@ -75,7 +75,7 @@ loop-range-preserved g c =
             ∙ sym (ranges ∙ ap (λ (b : Bool). other_ranges table files (take k table.rows.items) ++ (if b then [] else row.0 ∷ [])) w.if-not-branch.false ∙ append-nil (other_ranges table files (take k table.rows.items)))
       ];
       tells = e.tells ∙ inv.tells;
-      faults = o.went ∙ inv.faults;
+      faults = o.no_fault (λ err. absurd (cc)) ∙ inv.faults;
       content = e.content ∙ inv.content;
       crash = λ i may. inv.crash i (e.crash i may);
       run = adds_both first.may_leave first (g.D.Disk.view c.loop-range.disk) (g.D.Disk.view c.read_row.new.disk) inv.run e.run (λ i x. x) (λ i may. inv.crash i may);

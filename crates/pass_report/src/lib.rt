@@ -14,6 +14,8 @@ mod processes;
 mod recorder;
 mod reporting;
 mod standing;
+#[cfg(test)]
+mod tests;
 mod trail;
 
 pub use objects::objects_of;

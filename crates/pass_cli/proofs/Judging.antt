@@ -1,157 +1,225 @@
--- What is judged, from what was read.
-use Rattle.std.proofs.Common.{◌≡◌, ◌<◌, ◌≤◌, ◌+◌, ℕ, List, [], ◌∷◌, ◌++◌, length, get_or, map, nat_eq, refl, ap, sym, ◌∙◌, subst, arith, ◌⊎◌, inl, inr, Bool, true, false, cond, length-append}
-use Rattle.std.specs.Prelude.{Option, Some, None, Result, Ok, Err, IfOk, IsTrue, nat_lt, find, option_map, is_none}
-use Rattle.std.specs.List.{enumerate_from}
-use Rattle.std.proofs.lemmas.Bool.Decides.{nat_tests, Decides-eqb}
-use Rattle.std.proofs.lemmas.Slice.Eq.{slice_eq-Decides}
+-- What is judged, from what was read and run.
+use Rattle.std.proofs.Common.{◌≡◌, ℕ, List, [], ◌++◌, refl, ap, sym, ◌∙◌, subst, Bool, true, false, append-nil}
+use Rattle.std.specs.Prelude.{◌≢◌, ◌↔◌, Option, Some, None, IsSome, Result, Ok, Err, IsTrue}
 use Rattle.pass_entry.specs.declared.entry.Entry.{Entry}
-use Rattle.pass_outside.specs.Faults.{HasRisen, HasStayed}
+use Rattle.pass_outside.specs.Faults.{HasRisen}
 use Rattle.pass_plain.specs.declared.start.Start.{Start}
-use Rattle.pass_plain.proofs.Replays.{append-nil}
-use Rattle.std.specs.Cmp.Lexicographic.{pointwise}
-use Rattle.std.specs.Prelude.{count_by}
-use Rattle.pass_plain.specs.declared.request.Request.{Request}
-use Rattle.pass_plain.specs.declared.request.Request.TheVariants as requests
-use Rattle.pass_plain.specs.Legal.{session_of}
-use Rattle.pass_plain.specs.Traces.{given}
-use Rattle.pass_cli.specs.Lines.{creates_file}
-use Rattle.pass_cli.specs.Making.{HasMade}
-use Rattle.pass_cli.proofs.WholeRuns.{runs_whole, creating_lines}
-use Rattle.pass_cli.specs.declared.status.Status.{Status}
-use Rattle.pass_cli.specs.declared.status.Status.TheVariants as status
-use Rattle.pass_cli.specs.Lines.{calls_in, unbuilt_line, text_limit, trace_of}
-use Rattle.pass_cli.specs.Answers.{IsRunWord, IsJudged, IsTextJudged, unbuilt, whole, IsWholeRun}
+use Rattle.pass_plain.specs.Runs.{IsRun}
+use Rattle.pass_graph.specs.Openings.{session_list}
+use Rattle.pass_graph.specs.Lawful.{IsFaithful}
+use Rattle.pass_report.specs.Reports.{report_of}
+use Rattle.pass_report.specs.TraceLines.{plain_trace, session_of_trace}
+use Rattle.pass_trace.specs.declared.trace.Trace.{Trace}
+use Rattle.pass_trace.specs.declared.trace.TraceLine.{TraceLine}
+use Rattle.pass_trace.specs.declared.trace.TraceReason.{TraceReason}
+use Rattle.pass_trace.specs.Traces.{trace_of, IsTraceText, IsFirstFault}
+use Rattle.pass_trace.proofs.Faults.{not_text-from_fault, same_fault}
+use Rattle.pass_run.specs.declared.status.Status.{Status}
+use Rattle.pass_run.specs.declared.status.Status.TheVariants as status
+use Rattle.pass_run.specs.Ends.{unbuilt_line, AreNamed, EndsAs}
+use Rattle.pass_run.specs.Reading.{is_too_long}
+use Rattle.pass_cli.specs.Answers.{IsRunWord, OfBytes, IsTraced, IsRunnable, IsRefusal, IsRead, IsRecorded, IsJudged, IsReport, is_reported, session_in, lines_in}
+use Rattle.pass_cli.proofs.StoppedTexts.{too_long_is_none, too_long_stays}
 
-pub if_ok : {A E : Type 0} {P Q : A → Type 0} (r : Result A E) → IfOk r P → ((v : A) → P v → Q v) → IfOk r Q
-if_ok (Ok v) p each = each v p
-if_ok (Err e) p each = tt
+-- what was read of a source
 
-pub if_ok_both : {A E : Type 0} {P Q R : A → Type 0} (r : Result A E) → IfOk r P → IfOk r Q → ((v : A) → P v → Q v → R v) → IfOk r R
-if_ok_both (Ok v) p q each = each v p q
-if_ok_both (Err e) p q each = tt
-
-pub is_unbuilt : (text : List ℕ) (start : Start) (judged : Status) (history : List Entry) (line : ℕ) → unbuilt_line text ≡ Some line
-    → judged ≡ status.NotBuilt line → history ≡ [] → IsTextJudged text start judged history
-is_unbuilt text start judged history line at is none =
-    subst (λ (s : Status). IsTextJudged text start s history) (sym is) (subst (λ (h : List Entry). IsTextJudged text start (status.NotBuilt line) h) (sym none) (unbuilt line at))
-
-pub too_long : (text : List ℕ) → text_limit < length text → unbuilt_line text ≡ Some 0
-too_long text long = over (nat_lt text_limit (length text)) (grind (arith, nat_tests))
+-- a text that is a trace was read to its end
+pub trace_read : (words : List (List ℕ)) (tells : Bool) (text left rest : List ℕ) (before after : ℕ) (trace : Trace) → IsRunWord words → ¬ HasRisen before after
+    → (IsTrue tells → left ≡ text ++ rest) → (IsTrue tells → is_too_long text ≡ false → rest ≡ []) → IsTraceText text → trace.lines.items ≡ trace_of text
+    → OfBytes tells left (λ bytes. IsRead words bytes before after (Ok trace))
+trace_read words tells text left rest before after trace runs unfailed front whole is same =
+    (text, λ t. sym (front t ∙ ap (λ (r : List ℕ). text ++ r) (whole t (short (is_too_long text) refl)) ∙ append-nil text), (record { runs = runs; unfailed = unfailed; text = is }, same))
   where
-    over : (b : Bool) → b ≡ true → cond b (Some 0) (option_map (λ s. s.0) (find (λ s. is_none s.1) (enumerate_from 1 (calls_in text)))) ≡ Some 0
-    over b is = ap (λ b. cond b (Some 0) (option_map (λ s. s.0) (find (λ s. is_none s.1) (enumerate_from 1 (calls_in text))))) is
+    short : (long : Bool) → is_too_long text ≡ long → is_too_long text ≡ false
+    short true long = absurd (too_long_is_none text long is)
+    short false long = long
 
-short_or_long : (a b : ℕ) → (b ≤ a) ⊎ (a < b)
-short_or_long a b = decided (nat_lt a b) refl
-  where
-    decided : (t : Bool) → nat_lt a b ≡ t → (b ≤ a) ⊎ (a < b)
-    decided true is = inr (grind (arith, nat_tests))
-    decided false is = inl (grind (arith, nat_tests))
+-- the first fault of what was read is that of all bytes
+fault_goes : (text rest : List ℕ) (line : ℕ) (why : TraceReason) (long : Bool) → is_too_long text ≡ long → (is_too_long text ≡ false → rest ≡ []) → IsFirstFault text line why
+    → IsFirstFault (text ++ rest) line why
+fault_goes text rest line why true long none first = too_long_stays text rest long line why first
+fault_goes text rest line why false short none first =
+    subst (λ (t : List ℕ). IsFirstFault t line why) (sym (ap (λ (r : List ℕ). text ++ r) (none short) ∙ append-nil text)) first
 
--- a text that is too long is judged the same whatever follows
-pub longer : (text rest : List ℕ) (start : Start) (judged : Status) (history : List Entry) → (length text ≤ text_limit → rest ≡ [])
-    → IsTextJudged text start judged history → IsTextJudged (text ++ rest) start judged history
-longer text rest start judged history none is = elim (short_or_long text_limit (length text)) [
-  | inl short ↦ subst (λ (t : List ℕ). IsTextJudged t start judged history) (sym (ap (λ (r : List ℕ). text ++ r) (none short) ∙ append-nil text)) is
-  | inr long ↦
-      let whole_long : unbuilt_line (text ++ rest) ≡ Some 0 = too_long (text ++ rest) (let z = length-append text rest in omega (arith, z, long)) in
-      elim is as (λ s h i. IsTextJudged (text ++ rest) start s h) [
-        | unbuilt line at ↦ unbuilt line (whole_long ∙ sym (too_long text long) ∙ at)
-        | whole history at run ↦ absurd (let z : ◌≡◌ {A = Option ℕ} (Some 0) None = sym (too_long text long) ∙ at in cc)
-      ]
-]
+pub fault_read : (words : List (List ℕ)) (tells : Bool) (text left rest : List ℕ) (before after line : ℕ) (why : TraceReason) → IsRunWord words → ¬ HasRisen before after
+    → (IsTrue tells → left ≡ text ++ rest) → (IsTrue tells → is_too_long text ≡ false → rest ≡ []) → IsFirstFault text line why
+    → OfBytes tells left (λ bytes. IsRead words bytes before after (Err (status.BadTrace line why)))
+fault_read words false text left rest before after line why runs unfailed front whole first = (text, λ t. absurd (cc), (runs, unfailed, first))
+fault_read words true text left rest before after line why runs unfailed front whole first =
+    (text ++ rest, λ t. sym (front t), (runs, unfailed, fault_goes text rest line why (is_too_long text) refl (whole refl) first))
 
-never_both : (old new : ℕ) → HasRisen old new → HasStayed old new → ⊥
-never_both old new (inl rose) stayed = omega (arith, rose, stayed.0)
-never_both old new (inr end) stayed = stayed.1 end.0
+-- what is judged without a run
 
--- words that are no command's
-pub words_judged : (words : List (List ℕ)) (bytes : List ℕ) (old new : ℕ) (start : Start) → (IsRunWord words → ⊥) → IsJudged words bytes old new start status.BadWords []
-words_judged words bytes old new start bad = record {
+pub refusal_judged : (words : List (List ℕ)) (bytes : List ℕ) (before after : ℕ) (start : Start) (judged : Status) → judged ≢ status.NoMemory
+    → IsRefusal words bytes before after judged → IsJudged words bytes before after start judged []
+refusal_judged words bytes before after start status.BadWords known bad = record {
   bad_words = (λ is. bad, λ is. refl);
   read_fault = (λ is. absurd (cc), λ is. absurd (bad is.0));
-  not_built = λ line. (λ is. absurd (cc), λ is. absurd (bad is.0));
-  done = (λ is. absurd (cc), λ is. absurd (bad is.0));
+  bad_trace = λ line why. (λ is. absurd (cc), λ is. absurd (bad is.0));
+  not_built = λ line. (λ is. absurd (cc), λ is. absurd (bad is.0.runs));
+  done = (λ is. absurd (cc), λ is. absurd (bad is.0.traced.runs));
+  stuck = (λ is. absurd (cc), λ is. absurd (bad is.0.traced.runs));
   no_other = (λ is. absurd (cc), λ is. absurd (cc));
-  refused = λ other. refl;
-  run = λ is. absurd (cc);
+  refused = λ other another. refl;
+  recorded = λ is. absurd (bad is.traced.runs);
 }
-
--- a source that failed
-pub fault_judged : (words : List (List ℕ)) (bytes : List ℕ) (old new : ℕ) (start : Start) → IsRunWord words → HasRisen old new → IsJudged words bytes old new start status.ReadFault []
-fault_judged words bytes old new start runs rose = record {
+refusal_judged words bytes before after start status.ReadFault known (runs, rose) = record {
   bad_words = (λ is. absurd (cc), λ bad. absurd (bad runs));
   read_fault = (λ is. (runs, rose), λ is. refl);
-  not_built = λ line. (λ is. absurd (cc), λ is. absurd (never_both old new rose is.1));
-  done = (λ is. absurd (cc), λ is. absurd (never_both old new rose is.1));
+  bad_trace = λ line why. (λ is. absurd (cc), λ is. absurd (is.1 rose));
+  not_built = λ line. (λ is. absurd (cc), λ is. absurd (is.0.unfailed rose));
+  done = (λ is. absurd (cc), λ is. absurd (is.0.traced.unfailed rose));
+  stuck = (λ is. absurd (cc), λ is. absurd (is.0.traced.unfailed rose));
   no_other = (λ is. absurd (cc), λ is. absurd (cc));
-  refused = λ other. refl;
-  run = λ is. absurd (cc);
+  refused = λ other another. refl;
+  recorded = λ is. absurd (is.traced.unfailed rose);
 }
-
--- a text that was read
-pub text_judged : (words : List (List ℕ)) (bytes : List ℕ) (old new : ℕ) (start : Start) (judged : Status) (history : List Entry) → IsRunWord words → HasStayed old new
-    → IsTextJudged bytes start judged history → IsJudged words bytes old new start judged history
-text_judged words bytes old new start judged history runs stayed is = elim is as (λ s h i. IsJudged words bytes old new start s h) [
-  | unbuilt line at ↦ record {
-    bad_words = (λ is. absurd (cc), λ bad. absurd (bad runs));
-    read_fault = (λ is. absurd (cc), λ is. absurd (never_both old new is.1 stayed));
-    not_built = λ other. (λ same. (runs, stayed, at ∙ ap (λ l. Some l) (number_is line other same)), λ is. ap (λ l. status.NotBuilt l) (some_number line other (sym at ∙ is.2)));
-    done = (λ is. absurd (cc), λ is. absurd (let z : ◌≡◌ {A = Option ℕ} (Some line) None = sym at ∙ is.2 in cc));
-    no_other = (λ is. absurd (cc), λ is. absurd (cc));
-    refused = λ other. refl;
-    run = λ is. absurd (cc);
-  }
-  | whole history at run ↦ record {
-    bad_words = (λ is. absurd (cc), λ bad. absurd (bad runs));
-    read_fault = (λ is. absurd (cc), λ is. absurd (never_both old new is.1 stayed));
-    not_built = λ line. (λ is. absurd (cc), λ is. absurd (let z : ◌≡◌ {A = Option ℕ} None (Some line) = sym at ∙ is.2 in cc));
-    done = (λ is. (runs, stayed, at), λ is. refl);
-    no_other = (λ is. absurd (cc), λ is. absurd (cc));
-    refused = λ other. absurd (other refl);
-    run = λ is. run;
-  }
-]
+refusal_judged words bytes before after start (status.BadTrace line why) known (runs, unfailed, first) = record {
+  bad_words = (λ is. absurd (cc), λ bad. absurd (bad runs));
+  read_fault = (λ is. absurd (cc), λ is. absurd (unfailed is.1));
+  bad_trace = λ other another. (λ is. (runs, unfailed, moved other another is), λ is. same other another is.2);
+  not_built = λ other. (λ is. absurd (cc), λ is. absurd (not_text-from_fault bytes line why first is.0.text));
+  done = (λ is. absurd (cc), λ is. absurd (not_text-from_fault bytes line why first is.0.traced.text));
+  stuck = (λ is. absurd (cc), λ is. absurd (not_text-from_fault bytes line why first is.0.traced.text));
+  no_other = (λ is. absurd (cc), λ is. absurd (cc));
+  refused = λ other another. refl;
+  recorded = λ is. absurd (not_text-from_fault bytes line why first is.traced.text);
+}
   where
-    number_is : (a b : ℕ) → status.NotBuilt a ≡ status.NotBuilt b → a ≡ b
-    number_is a b same = cc
+    moved : (other : ℕ) (another : TraceReason) → status.BadTrace line why ≡ status.BadTrace other another → IsFirstFault bytes other another
+    moved other another is =
+        let place : line ≡ other = cc in
+        let reason : why ≡ another = cc in
+        subst (λ (r : TraceReason). IsFirstFault bytes other r) reason (subst (λ n. IsFirstFault bytes n why) place first)
 
-    some_number : (a b : ℕ) → ◌≡◌ {A = Option ℕ} (Some a) (Some b) → a ≡ b
-    some_number a b same = cc
+    same : (other : ℕ) (another : TraceReason) → IsFirstFault bytes other another → status.BadTrace line why ≡ status.BadTrace other another
+    same other another is =
+        let both = same_fault bytes line other why another first is in
+        ap (λ n. status.BadTrace n why) both.0 ∙ ap (λ (r : TraceReason). status.BadTrace other r) both.1
+refusal_judged words bytes before after start status.NoMemory known is = absurd (known refl)
+refusal_judged words bytes before after start _ known is = absurd is
 
-pub as_judged : (words : List (List ℕ)) (bytes : List ℕ) (old new : ℕ) (start : Start) (s judged : Status) (history : List Entry) → judged ≡ s → history ≡ []
-    → IsJudged words bytes old new start s [] → IsJudged words bytes old new start judged history
-as_judged words bytes old new start s judged history is none by =
-    subst (λ (s : Status). IsJudged words bytes old new start s history) (sym is) (subst (λ (h : List Entry). IsJudged words bytes old new start s h) (sym none) by)
+-- what is judged by a run
 
--- what was read of a source, and what it has left, are what it had left
-pub read_judged : (words : List (List ℕ)) (tells : Bool) (text left_old left_new : List ℕ) (old new : ℕ) (start : Start) (judged : Status) (history : List Entry)
-    → IsRunWord words → HasStayed old new → (IsTrue tells → left_old ≡ text ++ left_new) → (IsTrue tells → length text ≤ text_limit → left_new ≡ [])
-    → IsTextJudged text start judged history → (bytes : List ℕ) × (IsTrue tells → bytes ≡ left_old) × IsJudged words bytes old new start judged history
-read_judged words false text left_old left_new old new start judged history runs stayed front none is =
-    (text, λ t. absurd (cc), text_judged words text old new start judged history runs stayed is)
-read_judged words true text left_old left_new old new start judged history runs stayed front none is =
-    (text ++ left_new, λ t. sym (front t), text_judged words (text ++ left_new) old new start judged history runs stayed (longer text left_new start judged history (none refl) is))
+module _ (words : List (List ℕ)) (bytes : List ℕ) (before after : ℕ) (start : Start) (traced : IsTraced words bytes before after) where
+  abbrev Judged : Status → List Entry → Type 0
+  Judged judged history = IsJudged words bytes before after start judged history
 
--- the calls of a text were made, and exit
-pub run_judged : (text : List ℕ) (start : Start) (history : List Entry) (calls : List Request) → start.ceiling ≡ 0 → calls_in text ≡ map (λ r. Some r) calls → unbuilt_line text ≡ None
-    → HasMade (session_of start (1 + count_by (λ r. creates_file (given r)) calls)) history (calls ++ requests.Exit ∷ []) → IsTextJudged text start status.Done history
-run_judged text start history calls empty read built made =
-    whole history built (subst (λ n. IsWholeRun (session_of start (1 + n)) (trace_of text) history) (sym (creating_lines text calls read))
-    (runs_whole (session_of start (1 + count_by (λ r. creates_file (given r)) calls)) text history calls empty read made))
+  no_fault : (line : ℕ) (why : TraceReason) → IsFirstFault bytes line why → ⊥
+  no_fault line why first = not_text-from_fault bytes line why first traced.text
 
-pub one_word : {A : Type 0} (f : A → List ℕ) (words : List A) (w : A) (b : Bool) (run : List ℕ) → 1 ≤ length words → length words < 2 → w ≡ get_or words 0 w → b ≡ pointwise nat_eq (f w) run
-    → (IsTrue b → map f words ≡ run ∷ []) × (map f words ≡ run ∷ [] → IsTrue b)
-one_word f [] w b run some few is test = absurd (omega arith)
-one_word f (x ∷ []) w b run some few is test =
-    let (yes_if, no_if) = decided in (
-      λ t. ap (λ l. l ∷ []) (ap f (sym is) ∙ yes_if t),
-      λ same. no_if (ap f is ∙ first_same (f x) run same),
-    )
+  unbuilt_judged : (line : ℕ) → unbuilt_line (trace_of bytes) ≡ Some line → Judged (status.NotBuilt line) []
+  unbuilt_judged line at = record {
+    bad_words = (λ is. absurd (cc), λ bad. absurd (bad traced.runs));
+    read_fault = (λ is. absurd (cc), λ is. absurd (traced.unfailed is.1));
+    bad_trace = λ other why. (λ is. absurd (cc), λ is. absurd (no_fault other why is.2));
+    not_built = λ other. (λ is. (traced, at ∙ ap (λ n. Some n) (number_is other is)), λ is. ap (λ n. status.NotBuilt n) (some_number line other (sym at ∙ is.1)));
+    done = (λ is. absurd (cc), λ is. absurd (not_none is.0.built));
+    stuck = (λ is. absurd (cc), λ is. absurd (not_none is.0.built));
+    no_other = (λ is. absurd (cc), λ is. absurd (cc));
+    refused = λ other another. refl;
+    recorded = λ is. absurd (not_none is.built);
+  }
+    where
+      number_is : (other : ℕ) → status.NotBuilt line ≡ status.NotBuilt other → line ≡ other
+      number_is other same = cc
+
+      some_number : (a b : ℕ) → ◌≡◌ {A = Option ℕ} (Some a) (Some b) → a ≡ b
+      some_number a b same = cc
+
+      not_none : unbuilt_line (trace_of bytes) ≡ None → ⊥
+      not_none none = let z : ◌≡◌ {A = Option ℕ} (Some line) None = sym at ∙ none in cc
+
+  ended_judged : (built : unbuilt_line (trace_of bytes) ≡ None) (history : List Entry) → IsRecorded start bytes history → (judged : Status)
+      → EndsAs (session_in start bytes) (lines_in bytes) history judged → Judged judged history
+  ended_judged built history recorded status.Done ends = record {
+    bad_words = (λ is. absurd (cc), λ bad. absurd (bad traced.runs));
+    read_fault = (λ is. absurd (cc), λ is. absurd (traced.unfailed is.1));
+    bad_trace = λ line why. (λ is. absurd (cc), λ is. absurd (no_fault line why is.2));
+    not_built = λ line. (λ is. absurd (cc), λ is. absurd (let z : ◌≡◌ {A = Option ℕ} None (Some line) = sym built ∙ is.1 in cc));
+    done = (λ is. (runnable, ends), λ is. refl);
+    stuck = (λ is. absurd (cc), λ is. absurd (let z : true ≡ false = sym is.1.waits ∙ ends is.1.process is.1.of_trace in cc));
+    no_other = (λ is. absurd (cc), λ is. absurd (cc));
+    refused = λ other another. absurd (other refl);
+    recorded = λ is. recorded;
+  }
+    where
+      runnable : IsRunnable words bytes before after
+      runnable = record { traced = traced; built = built }
+  ended_judged built history recorded status.Stuck ends = record {
+    bad_words = (λ is. absurd (cc), λ bad. absurd (bad traced.runs));
+    read_fault = (λ is. absurd (cc), λ is. absurd (traced.unfailed is.1));
+    bad_trace = λ line why. (λ is. absurd (cc), λ is. absurd (no_fault line why is.2));
+    not_built = λ line. (λ is. absurd (cc), λ is. absurd (let z : ◌≡◌ {A = Option ℕ} None (Some line) = sym built ∙ is.1 in cc));
+    done = (λ is. absurd (cc), λ is. absurd (let z : true ≡ false = sym ends.waits ∙ is.1 ends.process ends.of_trace in cc));
+    stuck = (λ is. (runnable, ends), λ is. refl);
+    no_other = (λ is. absurd (cc), λ is. absurd (cc));
+    refused = λ other another. absurd (another refl);
+    recorded = λ is. recorded;
+  }
+    where
+      runnable : IsRunnable words bytes before after
+      runnable = record { traced = traced; built = built }
+  ended_judged built history recorded _ ends = absurd ends
+
+  -- the run answered as its contract says
+  pub run_judged : (judged : Status) (history : List Entry)
+      → ((line : ℕ) → judged ≡ status.NotBuilt line ↔ (unbuilt_line (trace_of bytes) ≡ Some line))
+      → (IsSome (unbuilt_line (trace_of bytes)) → history ≡ [])
+      → (unbuilt_line (trace_of bytes) ≡ None → IsRecorded start bytes history)
+      → (unbuilt_line (trace_of bytes) ≡ None → EndsAs (session_in start bytes) (lines_in bytes) history judged)
+      → Judged judged history
+  run_judged judged history not_built not_begun recorded ends = by (unbuilt_line (trace_of bytes)) refl
+    where
+      by : (found : Option ℕ) → unbuilt_line (trace_of bytes) ≡ found → Judged judged history
+      by (Some line) at =
+          let none : history ≡ [] = not_begun (subst IsSome (sym at) refl) in
+          subst (λ (s : Status). Judged s history) (sym ((not_built line).1 at)) (subst (λ (h : List Entry). Judged (status.NotBuilt line) h) (sym none) (unbuilt_judged line at))
+      by None built = ended_judged built history (recorded built) judged (ends built)
+
+pub not_failed : {A E : Type 0} (v : A) (e : E) → ◌≡◌ {A = Result A E} (Ok v) (Err e) → ⊥
+not_failed v e same = cc
+
+pub same_error : {A E : Type 0} (a b : E) → ◌≡◌ {A = Result A E} (Err a) (Err b) → a ≡ b
+same_error a b same = cc
+
+-- what the run of a trace has answered, and what is judged by it
+
+pub record Ran (start : Start) (lines : List TraceLine) (judged : Status) (history : List Entry) (report : List ℕ) : Type 0 where
+  pub not_built : (line : ℕ) → judged ≡ status.NotBuilt line ↔ (unbuilt_line lines ≡ Some line)
+  pub not_begun : IsSome (unbuilt_line lines) → history ≡ []
+  pub run : unbuilt_line lines ≡ None → IsRun (session_of_trace start lines) (plain_trace lines) history
+  pub named : unbuilt_line lines ≡ None → AreNamed (session_of_trace start lines) (plain_trace lines) history
+  pub ends : unbuilt_line lines ≡ None → EndsAs (session_of_trace start lines) (plain_trace lines) history judged
+  pub graph : unbuilt_line lines ≡ None → IsFaithful (session_list [] (session_of_trace start lines) history) [] (session_of_trace start lines) history
+  pub reported : unbuilt_line lines ≡ None → report ≡ report_of start history lines
+
+-- both facts of a judgement
+abbrev pub Judges : List (List ℕ) → List ℕ → ℕ → ℕ → Start → Status → List Entry → List ℕ → Type 0
+Judges words bytes before after start judged history report =
+    IsJudged words bytes before after start judged history × IsReport start bytes judged history report
+
+pub ran_judges : (words : List (List ℕ)) (bytes : List ℕ) (before after : ℕ) (start : Start) (lines : List TraceLine) (judged : Status) (history : List Entry) (report : List ℕ)
+    → IsTraced words bytes before after → lines ≡ trace_of bytes → Ran start lines judged history report → Judges words bytes before after start judged history report
+ran_judges words bytes before after start lines judged history report traced same ran =
+    (run_judged words bytes before after start traced judged history r.not_built r.not_begun (λ built. record { run = r.run built; named = r.named built; graph = r.graph built }) r.ends, by (unbuilt_line (trace_of bytes)) refl)
   where
-    first_same : (a b : List ℕ) → ◌≡◌ {A = List (List ℕ)} (a ∷ []) (b ∷ []) → a ≡ b
-    first_same a b same = cc
+    r : Ran start (trace_of bytes) judged history report
+    r = subst (λ (ls : List TraceLine). Ran start ls judged history report) same ran
 
-    decided : (IsTrue b → f w ≡ run) × (f w ≡ run → IsTrue b)
-    decided = slice_eq-Decides Decides-eqb (f w) run b test
-one_word f (x ∷ y ∷ words) w b run some few is test = absurd (omega arith)
+    by : (found : Option ℕ) → unbuilt_line (trace_of bytes) ≡ found → IsReport start bytes judged history report
+    by None built reported = r.reported built
+    by (Some line) at reported = absurd (let z : false ≡ true = sym (ap is_reported ((r.not_built line).1 at)) ∙ reported in cc)
+
+pub refused_judges : (words : List (List ℕ)) (bytes : List ℕ) (before after : ℕ) (start : Start) (s judged : Status) (history : List Entry) (report : List ℕ)
+    → judged ≡ s → history ≡ [] → judged ≢ status.NoMemory → IsRefusal words bytes before after s → Judges words bytes before after start judged history report
+refused_judges words bytes before after start s judged history report same none known refusal = (
+  subst (λ (t : Status). IsJudged words bytes before after start t history) (sym same)
+      (subst (λ (h : List Entry). IsJudged words bytes before after start s h) (sym none) (refusal_judged words bytes before after start s (λ is. known (same ∙ is)) refusal)),
+  λ reported. absurd (by s refusal (sym (ap is_reported same) ∙ reported)),
+)
+  where
+    by : (t : Status) → IsRefusal words bytes before after t → is_reported t ≡ true → ⊥
+    by status.Done is reported = is
+    by status.Stuck is reported = is
+    by _ is reported = cc

@@ -1,13 +1,4 @@
-pub mod Numbers
-pub mod TextLines
-pub mod Pieces
-pub mod PathSteps
-pub mod HeldFiles
-pub mod CallEntries
-pub mod MadeCalls
-pub mod WholeRuns
-pub mod LineCalls
-pub mod Started
-pub mod ReportLines
+pub mod StoppedTexts
 pub mod Judging
-pub mod Taken
+pub mod Words
+pub mod Written

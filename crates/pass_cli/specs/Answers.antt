@@ -1,73 +1,109 @@
 -- What the program answers, and what it writes. This project's own rule.
-use Rattle.std.specs.Prelude.{ℕ, ◌≡◌, ◌≢◌, ◌⊎◌, ◌↔◌, Bool, false, IsTrue, List, [], ◌∷◌, ◌++◌, Some, None, codes}
-use Rattle.std.specs.Fmt.{decimal}
+use Rattle.std.specs.Prelude.{ℕ, ◌≡◌, ◌≢◌, ◌⊎◌, ◌↔◌, Bool, true, false, IsTrue, List, [], ◌∷◌, ◌++◌, Some, None, Result, Ok, Err, codes, if◌then◌else◌}
 use Rattle.pass_entry.specs.declared.entry.Entry.{Entry}
-use Rattle.pass_outside.specs.Faults.{HasRisen, HasStayed}
+use Rattle.pass_outside.specs.Faults.{HasRisen}
 use Rattle.pass_plain.specs.declared.start.Start.{Start}
 use Rattle.pass_plain.specs.Sessions.{Session}
 use Rattle.pass_plain.specs.Traces.{Line}
-use Rattle.pass_plain.specs.Runs.{IsRun, IsOfTrace, is_open}
-use Rattle.pass_cli.specs.declared.status.Status.{Status}
-use Rattle.pass_cli.specs.declared.status.Status.TheVariants as status
-use Rattle.pass_cli.specs.Lines.{unbuilt_line, trace_of, session_of_trace}
-use Rattle.pass_cli.specs.Reports.{report_of}
+use Rattle.pass_plain.specs.Runs.{IsRun}
+use Rattle.pass_trace.specs.declared.trace.Trace.{Trace}
+use Rattle.pass_trace.specs.declared.trace.TraceReason.{TraceReason}
+use Rattle.pass_trace.specs.Traces.{trace_of, IsTraceText, IsFirstFault}
+use Rattle.pass_report.specs.TraceLines.{plain_trace, session_of_trace}
+use Rattle.pass_report.specs.Reports.{report_of}
+use Rattle.pass_graph.specs.Openings.{session_list}
+use Rattle.pass_graph.specs.Lawful.{IsFaithful}
+use Rattle.pass_run.specs.declared.status.Status.{Status}
+use Rattle.pass_run.specs.declared.status.Status.TheVariants as status
+use Rattle.pass_run.specs.Statuses.{status_text}
+use Rattle.pass_run.specs.Ends.{unbuilt_line, AreNamed, NoneOpen, IsStuck}
+use Rattle.pass_run.specs.Reading.{is_too_long, StopsInTime}
+use Rattle.pass_run.specs.Writing.{IsPart}
 
 -- the words are the one word `run`
 abbrev pub IsRunWord : List (List ℕ) → Type 0
 IsRunWord words = words ≡ codes "run" ∷ []
 
--- nothing was opened
-pub record IsEmptyStart (start : Start) : Type 0 where
-  pub ceiling : start.ceiling ≡ 0
-  pub files : start.files.items ≡ []
-  pub apps : start.apps.items ≡ []
+-- the property holds of some bytes: those that the source had left, where it tells them
+abbrev pub OfBytes : Bool → List ℕ → (List ℕ → Type 0) → Type 0
+OfBytes tells left Holds = (bytes : List ℕ) × (IsTrue tells → bytes ≡ left) × Holds bytes
 
--- the number of a status, which is the program's exit status
-abbrev pub number_of_status : Status → ℕ
-number_of_status status.Done = 0
-number_of_status status.BadWords = 2
-number_of_status status.ReadFault = 6
-number_of_status status.WriteFault = 7
-number_of_status status.NoMemory = 10
-number_of_status (status.NotBuilt line) = 12
+-- of what a source had left a text was read, and no more than its rest is left: nothing, unless the text is too long for a
+-- trace; and but for its last piece the text isn't
+pub record IsReadInTime (left rest : List ℕ) : Type 0 where
+  pub text : List ℕ
+  pub parts : left ≡ text ++ rest
+  pub whole : is_too_long text ≡ false → rest ≡ []
+  pub stops : StopsInTime text
+
+-- the words are `run`, the source didn't fail, and its bytes are the text of a trace
+pub record IsTraced (words : List (List ℕ)) (bytes : List ℕ) (before after : ℕ) : Type 0 where
+  pub runs : IsRunWord words
+  pub unfailed : ¬ HasRisen before after
+  pub text : IsTraceText bytes
+
+-- and the program makes each call of the trace
+pub record IsRunnable (words : List (List ℕ)) (bytes : List ℕ) (before after : ℕ) : Type 0 where
+  pub traced : IsTraced words bytes before after
+  pub built : unbuilt_line (trace_of bytes) ≡ None
+
+-- by which status the words, the source and its bytes are refused before a trace is run
+abbrev pub IsRefusal : List (List ℕ) → List ℕ → ℕ → ℕ → Status → Type 0
+IsRefusal words bytes before after status.BadWords = ¬ IsRunWord words
+IsRefusal words bytes before after status.ReadFault = IsRunWord words × HasRisen before after
+IsRefusal words bytes before after (status.BadTrace line reason) = IsRunWord words × (¬ HasRisen before after) × IsFirstFault bytes line reason
+IsRefusal words bytes before after status.NoMemory = Unit {0}
+IsRefusal words bytes before after _ = ⊥
+
+-- what is read: the trace of the bytes, or a status that refuses them
+abbrev pub IsRead : List (List ℕ) → List ℕ → ℕ → ℕ → Result Trace Status → Type 0
+IsRead words bytes before after (Ok trace) = IsTraced words bytes before after × (trace.lines.items ≡ trace_of bytes)
+IsRead words bytes before after (Err refusal) = IsRefusal words bytes before after refusal
+
+-- the trace of the bytes, and the session that runs it
+abbrev pub lines_in : List ℕ → List Line
+lines_in bytes = plain_trace (trace_of bytes)
+
+abbrev pub session_in : Start → List ℕ → Session
+session_in start bytes = session_of_trace start (trace_of bytes)
+
+-- the history is a run of the trace of the bytes, each of its calls is recorded by its name, and its graph is that of its flows
+pub record IsRecorded (start : Start) (bytes : List ℕ) (history : List Entry) : Type 0 where
+  pub run : IsRun (session_in start bytes) (lines_in bytes) history
+  pub named : AreNamed (session_in start bytes) (lines_in bytes) history
+  pub graph : IsFaithful (session_list [] (session_in start bytes) history) [] (session_in start bytes) history
+
+-- What is judged by the words, the bytes of the source, and its count of faults before and after, and with which history.
+-- The words come first, then the source's faults, then the trace's, then its calls; and then the trace is run.
+pub record IsJudged (words : List (List ℕ)) (bytes : List ℕ) (before after : ℕ) (start : Start) (judged : Status) (history : List Entry) : Type 0 where
+  pub bad_words : judged ≡ status.BadWords ↔ (¬ IsRunWord words)
+  pub read_fault : judged ≡ status.ReadFault ↔ (IsRunWord words × HasRisen before after)
+  pub bad_trace : (line : ℕ) (reason : TraceReason) → judged ≡ status.BadTrace line reason ↔ (IsRunWord words × (¬ HasRisen before after) × IsFirstFault bytes line reason)
+  pub not_built : (line : ℕ) → judged ≡ status.NotBuilt line ↔ (IsTraced words bytes before after × (unbuilt_line (trace_of bytes) ≡ Some line))
+  -- done where no process is open, stuck where one is and none can move; there is no third end
+  pub done : judged ≡ status.Done ↔ (IsRunnable words bytes before after × NoneOpen (session_in start bytes) (lines_in bytes) history)
+  pub stuck : judged ≡ status.Stuck ↔ (IsRunnable words bytes before after × IsStuck (session_in start bytes) (lines_in bytes) history)
+  pub no_other : (judged ≢ status.WriteFault) × (judged ≢ status.NoMemory)
+  pub refused : judged ≢ status.Done → judged ≢ status.Stuck → history ≡ []
+  pub recorded : IsRunnable words bytes before after → IsRecorded start bytes history
+
+-- the trace was run, so that there is a report
+abbrev pub is_reported : Status → Bool
+is_reported status.Done = true
+is_reported status.Stuck = true
+is_reported _ = false
+
+-- what is written for a status, given the report
+abbrev pub text_with : Status → List ℕ → List ℕ
+text_with judged report = if is_reported judged then report else status_text judged
 
 -- what is written for a status with this history
-abbrev pub text_of : Status → List Entry → List ℕ
-text_of status.Done history = report_of history
-text_of status.BadWords history = codes "fault words" ++ 10 ∷ []
-text_of status.ReadFault history = codes "fault read" ++ 10 ∷ []
-text_of (status.NotBuilt line) history = codes "fault unbuilt " ++ decimal line ++ 10 ∷ []
-text_of status.WriteFault history = []
-text_of status.NoMemory history = []
+abbrev pub text_of : Start → List ℕ → Status → List Entry → List ℕ
+text_of start bytes judged history = text_with judged (report_of start history (trace_of bytes))
 
--- the history is a run of the trace to its end: no process of the trace is open
-pub record IsWholeRun (session : Session) (trace : List Line) (history : List Entry) : Type 0 where
-  pub run : IsRun session trace history
-  pub ended : (process : ℕ) → IsOfTrace trace process → is_open session trace history process ≡ false
-
--- what is judged by the words, the bytes of the source, and its count of faults before and after, and with which history.
--- The words come first, then the source's faults, then its bytes
-pub record IsJudged (words : List (List ℕ)) (bytes : List ℕ) (before after : ℕ) (start : Start) (judged : Status) (history : List Entry) : Type 0 where
-  pub bad_words : judged ≡ status.BadWords ↔ (IsRunWord words → ⊥)
-  pub read_fault : judged ≡ status.ReadFault ↔ (IsRunWord words × HasRisen before after)
-  pub not_built : (line : ℕ) → judged ≡ status.NotBuilt line ↔ (IsRunWord words × HasStayed before after × (unbuilt_line bytes ≡ Some line))
-  pub done : judged ≡ status.Done ↔ (IsRunWord words × HasStayed before after × (unbuilt_line bytes ≡ None))
-  pub no_other : (judged ≢ status.WriteFault) × (judged ≢ status.NoMemory)
-  pub refused : judged ≢ status.Done → history ≡ []
-  pub run : judged ≡ status.Done → IsWholeRun (session_of_trace start (trace_of bytes)) (trace_of bytes) history
-
--- what is judged by a text alone
-pub data IsTextJudged (text : List ℕ) (start : Start) : Status → List Entry → Type 0 where
-  unbuilt : (line : ℕ) → unbuilt_line text ≡ Some line → IsTextJudged text start (status.NotBuilt line) []
-  whole : (history : List Entry) → unbuilt_line text ≡ None → IsWholeRun (session_of_trace start (trace_of text)) (trace_of text) history
-      → IsTextJudged text start status.Done history
-
--- a sink that had taken `old` took a beginning of the text
-pub record IsPart (text old new : List ℕ) : Type 0 where
-  pub wrote : List ℕ
-  pub rest : List ℕ
-  pub parts : text ≡ wrote ++ rest
-  pub taken : new ≡ old ++ wrote
+-- where there is to be a report, it is that of the history
+abbrev pub IsReport : Start → List ℕ → Status → List Entry → List ℕ → Type 0
+IsReport start bytes judged history report = IsTrue (is_reported judged) → report ≡ report_of start history (trace_of bytes)
 
 -- what a call saw of its source: whether it tells its bytes, the bytes that it had left, and its count of faults before and after
 pub record SourceSeen : Type 0 where
@@ -90,5 +126,5 @@ pub record IsAnswer (words : List (List ℕ)) (source : SourceSeen) (sink : Sink
   pub judged : Status
   pub by : IsJudged words bytes source.before source.after start judged history
   pub stands : (answered ≡ judged) ⊎ (answered ≡ status.WriteFault)
-  pub whole : answered ≢ status.WriteFault → IsTrue sink.tells → sink.after ≡ sink.before ++ text_of judged history
-  pub part : answered ≡ status.WriteFault → IsTrue sink.tells → IsPart (text_of judged history) sink.before sink.after
+  pub whole : answered ≢ status.WriteFault → IsTrue sink.tells → sink.after ≡ sink.before ++ text_of start bytes judged history
+  pub part : answered ≡ status.WriteFault → IsTrue sink.tells → IsPart (text_of start bytes judged history) sink.before sink.after

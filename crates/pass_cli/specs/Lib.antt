@@ -1,4 +1,1 @@
-pub mod Lines
-pub mod Reports
 pub mod Answers
-pub mod Making

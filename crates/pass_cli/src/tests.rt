@@ -1,135 +1,15 @@
 //! Runs of the program's call over streams in memory.
+mod rows;
+
 use crate::{Ended, Status, pass_main};
-use pass_entry::{Act, Bytes, CallName, Descriptor, Entry, Kind, Mode, Pnode, Reply, Text};
 use pass_outside::{Failed, MemSink, MemSource, NoDisk, OpenGate, Sink, Source};
-use std::alloc::{AllocError, Global};
+use pass_trace::TraceReason;
+use rows::{PIPELINE, READ_BACK, ROWS, Row};
+use std::alloc::AllocError;
 use std::process::Abort;
 use std::sync::Wait;
 use std::test::Fail;
 use std::thread::Threads;
-
-const TRACE: &str = "1 creat 3 a\n1 write 3 t:abc\n1 seek 3 0\n1 read 3 3\n1 close 3\n";
-
-const REPORT: &str = "call 1 1 creat pnode 2
-call 1 2 write 3
-call 1 3 seek ok
-call 1 4 read 3 900150983cd24fb0d6963f7d28e17f72
-call 1 5 close ok
-call 1 6 exit ok
-end done 10 entries
-";
-
-const EMPTY: &str = "call 1 1 exit ok
-end done 2 entries
-";
-
-const PAST_END: &str = "call 1 1 creat pnode 2
-call 1 2 read 0 d41d8cd98f00b204e9800998ecf8427e
-call 1 3 exit ok
-end done 6 entries
-";
-
-const REFUSED_CALLS: &str = "call 1 1 creat pnode 2
-call 1 2 creat fault Exists
-call 1 3 creat fault FdTaken
-call 1 4 read fault BadFd
-call 1 5 close ok
-call 1 6 close fault BadFd
-call 1 7 exit ok
-end done 9 entries
-";
-
-const FILE_LIMIT: &str = "call 1 1 creat pnode 2
-call 1 2 seek ok
-call 1 3 write 4
-call 1 4 write fault TooBig
-call 1 5 exit ok
-end done 8 entries
-";
-
-/// A run: the words, the trace, the calls of the source and of the sink that fail, and what is to come.
-#[derive(Drop)]
-struct Row {
-    words: &'static [&'static str],
-    trace: &'static str,
-    source_fails: &'static [u64],
-    sink_fails: &'static [u64],
-    status: Status,
-    text: &'static str,
-    entries: usize,
-}
-
-fn done(trace: &'static str, text: &'static str, entries: usize) -> Row {
-    Row {
-        words: &["run"],
-        trace,
-        source_fails: &[],
-        sink_fails: &[],
-        status: Status::Done,
-        text,
-        entries,
-    }
-}
-
-fn unbuilt(trace: &'static str, line: u32, text: &'static str) -> Row {
-    Row {
-        status: Status::NotBuilt { line },
-        ..done(trace, text, 0)
-    }
-}
-
-fn bad_words(words: &'static [&'static str]) -> Row {
-    Row {
-        words,
-        status: Status::BadWords,
-        ..done(TRACE, "fault words\n", 0)
-    }
-}
-
-fn faults_of_the_outside() -> [Row; 2] {
-    [
-        Row {
-            source_fails: &[1],
-            status: Status::ReadFault,
-            ..done(TRACE, "fault read\n", 0)
-        },
-        Row {
-            sink_fails: &[1],
-            status: Status::WriteFault,
-            ..done(TRACE, "", 10)
-        },
-    ]
-}
-
-fn rows() -> [Row; 17] {
-    [
-        done(TRACE, REPORT, 10),
-        done("", EMPTY, 2),
-        done("1 creat 3 a\n1 read 3 8\n", PAST_END, 6),
-        done(
-            "1 creat 3 a\n1 creat 4 a\n1 creat 3 b\n1 read 9 1\n1 close 3\n1 close 3\n",
-            REFUSED_CALLS,
-            9,
-        ),
-        done(
-            "1 creat 3 a\n1 seek 3 4194300\n1 write 3 t:abcd\n1 write 3 t:e\n",
-            FILE_LIMIT,
-            8,
-        ),
-        unbuilt("1 open 3 a r\n", 1, "fault unbuilt 1\n"),
-        unbuilt("1 creat 3 a\n\n1 close 3\n", 2, "fault unbuilt 2\n"),
-        unbuilt("1 creat 3 a\n1 close 3", 2, "fault unbuilt 2\n"),
-        unbuilt("2 close 3\n", 1, "fault unbuilt 1\n"),
-        unbuilt("1 creat 64 a\n", 1, "fault unbuilt 1\n"),
-        unbuilt("1 read 3 0\n", 1, "fault unbuilt 1\n"),
-        unbuilt("1 seek 3 4294967296\n", 1, "fault unbuilt 1\n"),
-        unbuilt("1 seek 03 0\n", 1, "fault unbuilt 1\n"),
-        unbuilt("1  close 3\n", 1, "fault unbuilt 1\n"),
-        bad_words(&[]),
-        bad_words(&["run", "run"]),
-        bad_words(&["walk"]),
-    ]
-}
 
 fn run<R: Threads + Wait + Sync + AllocGlobal, S: Source, K: Sink>(
     rt: &R,
@@ -152,48 +32,72 @@ fn run<R: Threads + Wait + Sync + AllocGlobal, S: Source, K: Sink>(
     ))
 }
 
-fn check_row<R: Threads + Wait + Sync + Abort + AllocGlobal>(
-    rt: &R,
-    row: &Row,
-) -> Result<(), Fail> {
-    let alloc = rt.alloc();
-    let mut source = MemSource::new(
-        row.trace.as_bytes().to_vec(alloc)?,
-        row.source_fails.to_vec(alloc)?,
-    );
-    let mut sink = MemSink::new(alloc, row.sink_fails.to_vec(alloc)?);
+fn source_of(rt: &impl AllocGlobal, row: Row) -> Result<MemSource, AllocError> {
+    Ok(MemSource::new(
+        row.trace.as_bytes().to_vec(rt.alloc())?,
+        row.source_fails.to_vec(rt.alloc())?,
+    ))
+}
+
+fn sink_of(rt: &impl AllocGlobal, fails: &[u64]) -> Result<MemSink, AllocError> {
+    Ok(MemSink::new(rt.alloc(), fails.to_vec(rt.alloc())?))
+}
+
+fn check<R: Threads + Wait + Sync + Abort + AllocGlobal>(rt: &R, row: Row) -> Result<(), Fail> {
+    let mut source = source_of(rt, row)?;
+    let mut sink = sink_of(rt, row.sink_fails)?;
     let ended = run(rt, row.words, &mut source, &mut sink)?;
     let trace = row.trace;
     assert_eq!(rt; ended.status, row.status, "{trace}");
     assert_eq!(rt; sink.taken(), row.text.as_bytes(), "{trace}");
     assert_eq!(rt; ended.history.len(), row.entries, "{trace}");
+    assert_eq!(rt;
+        (ended.syncs.len(), ended.list.len(), ended.start.ceiling),
+        (0, 0, 0),
+        "{trace}"
+    );
     Ok(())
 }
 
 #[test]
 fn runs_answer_as_stated(rt: HostRuntime) -> Result<(), Fail> {
-    for row in &rows() {
-        check_row(&rt, row)?;
-    }
-    for row in &faults_of_the_outside() {
-        check_row(&rt, row)?;
+    for row in ROWS {
+        check(&rt, row)?;
     }
     Ok(())
 }
 
 #[test]
-fn long_text_isnt_read_on(rt: HostRuntime) -> Result<(), Fail> {
+fn a_failed_sink_leaves_the_history(rt: HostRuntime) -> Result<(), Fail> {
+    let mut sink = sink_of(&rt, &[])?;
+    let written = run(&rt, &["run"], &mut source_of(&rt, READ_BACK)?, &mut sink)?;
+    let mut broken = sink_of(&rt, &[1])?;
+    let unwritten = run(&rt, &["run"], &mut source_of(&rt, READ_BACK)?, &mut broken)?;
+    assert_eq!(rt;
+        (written.status, unwritten.status),
+        (Status::Done, Status::WriteFault)
+    );
+    assert_eq!(rt; unwritten.history.as_slice(), written.history.as_slice());
+    Ok(())
+}
+
+#[test]
+fn a_long_line_isnt_read_on(rt: HostRuntime) -> Result<(), Fail> {
     let alloc = rt.alloc();
-    let mut text = String::new(alloc);
-    for _ in 0..6554 {
-        text.push_str("1 close 3\n")?;
+    let mut text = Vec::new(alloc);
+    for _ in 0..20_000 {
+        text.push(b'#')?;
     }
-    let mut source = MemSource::new(text.as_str().as_bytes().to_vec(alloc)?, Vec::new(alloc));
-    let mut sink = MemSink::new(alloc, Vec::new(alloc));
+    let mut source = MemSource::new(text, Vec::new(alloc));
+    let mut sink = sink_of(&rt, &[])?;
     let ended = run(&rt, &["run"], &mut source, &mut sink)?;
-    assert_eq!(rt; ended.status, Status::NotBuilt { line: 0 });
-    assert_eq!(rt; ended.status.number(), 12);
-    assert_eq!(rt; sink.taken(), b"fault unbuilt 0\n".as_slice());
+    let fault = Status::BadTrace {
+        line: 1,
+        reason: TraceReason::Length,
+    };
+    assert_eq!(rt; (ended.status, ended.status.number()), (fault, 3));
+    assert_eq!(rt; sink.taken(), b"fault trace 1 length\n".as_slice());
+    assert_eq!(rt; source.read(&mut [0; 1]), Ok(1));
     Ok(())
 }
 
@@ -241,141 +145,40 @@ impl Sink for SlowSink {
     }
 }
 
-#[test]
-fn slow_streams_give_the_same(rt: HostRuntime) -> Result<(), Fail> {
-    let alloc = rt.alloc();
-    let mut source = SlowSource(MemSource::new(TRACE.as_bytes().to_vec(alloc)?, Vec::new(alloc)));
-    let mut sink = SlowSink(MemSink::new(alloc, Vec::new(alloc)));
-    let ended = run(&rt, &["run"], &mut source, &mut sink)?;
-    assert_eq!(rt; ended.status, Status::Done);
-    assert_eq!(rt; sink.0.taken(), REPORT.as_bytes());
-    let mut failing = SlowSource(MemSource::new(
-        TRACE.as_bytes().to_vec(alloc)?,
-        [9].to_vec(alloc)?,
-    ));
-    let mut short = SlowSink(MemSink::new(alloc, Vec::new(alloc)));
-    let ended = run(&rt, &["run"], &mut failing, &mut short)?;
-    assert_eq!(rt; ended.status, Status::ReadFault);
-    let mut source = SlowSource(MemSource::new(TRACE.as_bytes().to_vec(alloc)?, Vec::new(alloc)));
-    let mut sink = SlowSink(MemSink::new(alloc, [2].to_vec(alloc)?));
-    let ended = run(&rt, &["run"], &mut source, &mut sink)?;
-    assert_eq!(rt; ended.status, Status::WriteFault);
-    assert_eq!(rt; sink.0.taken(), b"c".as_slice());
-    assert_eq!(rt; ended.history.len(), 10);
+// A run of slow streams of which the listed calls fail.
+fn check_slow<R: Threads + Wait + Sync + Abort + AllocGlobal>(
+    rt: &R,
+    row: Row,
+) -> Result<(), Fail> {
+    let mut source = SlowSource(source_of(rt, row)?);
+    let mut sink = SlowSink(sink_of(rt, row.sink_fails)?);
+    let ended = run(rt, row.words, &mut source, &mut sink)?;
+    assert_eq!(rt; ended.status, row.status);
+    assert_eq!(rt; sink.0.taken(), row.text.as_bytes());
+    assert_eq!(rt; ended.history.len(), row.entries);
     Ok(())
 }
 
-// An entry of process 1 on an object.
-fn entry(number: u64, call: CallName, what: u64, act: Act, reply: Reply) -> Entry {
-    Entry {
-        who: Pnode(1),
-        number,
-        call,
-        what: Pnode(what),
-        act,
-        reply,
-    }
-}
-
-fn first_entries(alloc: Global) -> Result<[Entry; 5], Fail> {
-    let name = Text::name(alloc, b"a").ok().ok_or("no name")?;
-    let abc = Bytes::of(alloc, b"abc").ok().ok_or("no bytes")?;
-    let descriptor = Descriptor {
-        pnode: Pnode(2),
-        kind: Kind::File,
-        mode: Mode::Both,
-        offset: 0,
-    };
-    Ok([
-        Entry {
-            who: Pnode(0),
-            ..entry(
-                0,
-                CallName::Start,
-                0,
-                Act::Mint {
-                    kind: Kind::Process,
-                },
-                Reply::Made(Pnode(1)),
-            )
+#[test]
+fn slow_streams_give_the_same(rt: HostRuntime) -> Result<(), Fail> {
+    check_slow(&rt, PIPELINE)?;
+    check_slow(
+        &rt,
+        Row {
+            source_fails: &[9],
+            status: Status::ReadFault,
+            text: "fault read\n",
+            entries: 0,
+            ..READ_BACK
         },
-        entry(
-            1,
-            CallName::Creat,
-            0,
-            Act::Bind { name },
-            Reply::Made(Pnode(2)),
-        ),
-        entry(
-            1,
-            CallName::Creat,
-            1,
-            Act::Attach { fd: 3, descriptor },
-            Reply::Done,
-        ),
-        entry(
-            2,
-            CallName::Write,
-            1,
-            Act::Show { fd: 3, len: 3 },
-            Reply::Done,
-        ),
-        entry(
-            2,
-            CallName::Write,
-            2,
-            Act::Put {
-                out: 3,
-                at: 0,
-                bytes: abc,
-            },
-            Reply::Done,
-        ),
-    ])
-}
-
-fn last_entries(alloc: Global) -> Result<[Entry; 5], Fail> {
-    let abc = Bytes::of(alloc, b"abc").ok().ok_or("no bytes")?;
-    Ok([
-        entry(
-            3,
-            CallName::Seek,
-            1,
-            Act::Seek { fd: 3, at: 0 },
-            Reply::Done,
-        ),
-        entry(
-            4,
-            CallName::Read,
-            2,
-            Act::Give { at: 0, len: 3 },
-            Reply::Took(abc),
-        ),
-        entry(
-            4,
-            CallName::Read,
-            1,
-            Act::Gain { out: 6, fd: 3 },
-            Reply::Done,
-        ),
-        entry(5, CallName::CloseFd, 1, Act::Detach { fd: 3 }, Reply::Done),
-        entry(6, CallName::Exit, 1, Act::Finish, Reply::Done),
-    ])
-}
-
-#[test]
-fn history_is_the_calls_of_the_trace(rt: HostRuntime) -> Result<(), Fail> {
-    let alloc = rt.alloc();
-    let mut source = MemSource::new(TRACE.as_bytes().to_vec(alloc)?, Vec::new(alloc));
-    let mut sink = MemSink::new(alloc, [1].to_vec(alloc)?);
-    let ended = run(&rt, &["run"], &mut source, &mut sink)?;
-    assert_eq!(rt; ended.status, Status::WriteFault);
-    assert_eq!(rt; ended.history.len(), 10);
-    assert_eq!(rt; &ended.history[..5], first_entries(alloc)?.as_slice());
-    assert_eq!(rt; &ended.history[5..], last_entries(alloc)?.as_slice());
-    assert_eq!(rt;
-        (ended.syncs.len(), ended.list.len(), ended.start.ceiling),
-        (0, 0, 0)
-    );
-    Ok(())
+    )?;
+    check_slow(
+        &rt,
+        Row {
+            sink_fails: &[2],
+            status: Status::WriteFault,
+            text: "c",
+            ..READ_BACK
+        },
+    )
 }

@@ -6,6 +6,8 @@ mod fault;
 mod fill;
 mod heads;
 mod opening;
+#[cfg(test)]
+mod tests;
 
 pub use fault::OpenFault;
 pub use opening::{Opening, recover};

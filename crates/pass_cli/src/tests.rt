@@ -1,10 +1,12 @@
 //! Runs of the program's call over streams in memory.
 mod rows;
+mod small;
 
 use crate::{Ended, Status, pass_main};
 use pass_outside::{Failed, MemSink, MemSource, NoDisk, OpenGate, Sink, Source};
 use pass_trace::TraceReason;
 use rows::{PIPELINE, READ_BACK, ROWS, Row};
+use small::{NAMES, PIPELINES};
 use std::alloc::AllocError;
 use std::process::Abort;
 use std::sync::Wait;
@@ -62,6 +64,22 @@ fn check<R: Threads + Wait + Sync + Abort + AllocGlobal>(rt: &R, row: Row) -> Re
 #[test]
 fn runs_answer_as_stated(rt: HostRuntime) -> Result<(), Fail> {
     for row in ROWS {
+        check(&rt, row)?;
+    }
+    Ok(())
+}
+
+#[test]
+fn small_pipelines_end_as_stated(rt: HostRuntime) -> Result<(), Fail> {
+    for row in PIPELINES {
+        check(&rt, row)?;
+    }
+    Ok(())
+}
+
+#[test]
+fn names_move_as_stated(rt: HostRuntime) -> Result<(), Fail> {
+    for row in NAMES {
         check(&rt, row)?;
     }
     Ok(())

@@ -15,7 +15,7 @@ pub struct Row {
 }
 
 /// A run whose streams don't fail.
-const RUN: Row = Row {
+pub const RUN: Row = Row {
     words: &["run"],
     trace: "",
     source_fails: &[],

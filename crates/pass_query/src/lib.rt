@@ -8,6 +8,8 @@ mod output;
 mod routes;
 mod search;
 mod steps;
+#[cfg(test)]
+mod tests;
 
 pub use fault::QueryFault;
 pub use lineage::{ancestors, descendants};

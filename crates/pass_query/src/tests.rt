@@ -1,0 +1,288 @@
+//! Queries on the records of two small sessions.
+ghost use Rattle.std.specs.Prelude.{◌≡◌, ◌<◌};
+
+mod random;
+
+use crate::{QueryFault, Steps, ancestors, descendants, named, path, to_json, to_text};
+use pass_entry::{Kind, Node, Pnode, Record, Text};
+use pass_waldo::Index;
+use std::alloc::Global;
+use std::marker::Brand;
+use std::process::Abort;
+use std::sync::ledger::{Blank, Ledger};
+use std::test::Fail;
+
+/// A record in short: nodes as two numbers, a name as its first letter, 0 for the empty one.
+#[derive(Clone, Copy)]
+enum Row {
+    Ceiling(u64),
+    Object(u64, Kind),
+    Name(u64, u8),
+    Attr(u64, u64),
+    Input(u64, u64, u64, u64),
+    Version(u64, u64),
+    Size(u64, u64),
+    Digest(u64),
+}
+
+/// A shell makes two programs and a file, and runs the one program on the file and the other one on what the first one
+/// writes into a pipe; it waits for both.
+const PIPELINE: [Row; 34] = [
+    Row::Ceiling(8),
+    Row::Object(1, Kind::Process),
+    Row::Object(2, Kind::File),
+    Row::Name(2, b'c'),
+    Row::Object(3, Kind::File),
+    Row::Name(3, b's'),
+    Row::Object(4, Kind::File),
+    Row::Name(4, b'i'),
+    Row::Input(4, 1, 1, 1),
+    Row::Size(4, 3),
+    Row::Digest(4),
+    Row::Object(5, Kind::Pipe),
+    Row::Object(6, Kind::Process),
+    Row::Input(6, 1, 1, 1),
+    Row::Object(7, Kind::Process),
+    Row::Input(7, 1, 1, 1),
+    Row::Version(6, 2),
+    Row::Input(6, 2, 2, 1),
+    Row::Attr(6, 2),
+    Row::Attr(6, 2),
+    Row::Input(6, 2, 4, 1),
+    Row::Input(5, 1, 6, 2),
+    Row::Version(7, 2),
+    Row::Input(7, 2, 3, 1),
+    Row::Attr(7, 2),
+    Row::Input(7, 2, 5, 1),
+    Row::Object(8, Kind::File),
+    Row::Name(8, b'o'),
+    Row::Input(8, 1, 7, 2),
+    Row::Size(8, 3),
+    Row::Digest(8),
+    Row::Version(1, 2),
+    Row::Input(1, 2, 6, 2),
+    Row::Input(1, 2, 7, 2),
+];
+
+/// A process makes a file and an object of its own, says that the file was made from the object, tags the file, freezes it,
+/// gives it another name and takes that away.
+const DISCLOSED: [Row; 10] = [
+    Row::Ceiling(3),
+    Row::Object(1, Kind::Process),
+    Row::Object(2, Kind::File),
+    Row::Name(2, b'a'),
+    Row::Object(3, Kind::App),
+    Row::Input(2, 1, 3, 1),
+    Row::Attr(2, 1),
+    Row::Version(2, 2),
+    Row::Name(2, b'b'),
+    Row::Name(2, 0),
+];
+
+/// A question on nodes.
+#[derive(Clone, Copy, Debug)]
+enum Query {
+    Ancestors(Node),
+    Descendants(Node),
+    Path(Node, Node),
+}
+
+fn node(pnode: u64, version: u64) -> Node {
+    Node {
+        pnode: Pnode(pnode),
+        version,
+    }
+}
+
+fn name_of(alloc: Global, letter: u8) -> Result<Text, Fail> {
+    Ok(match letter {
+        0 => Text::line(alloc, b"")?,
+        b'c' => Text::line(alloc, b"cat")?,
+        b's' => Text::line(alloc, b"sort")?,
+        b'i' => Text::line(alloc, b"in")?,
+        b'o' => Text::line(alloc, b"out")?,
+        other => Text::line(alloc, &[other])?,
+    })
+}
+
+fn record_of(alloc: Global, row: Row) -> Result<Record, Fail> {
+    Ok(match row {
+        Row::Ceiling(pnode) => Record::Ceiling {
+            pnode: Pnode(pnode),
+        },
+        Row::Object(pnode, kind) => Record::Object {
+            pnode: Pnode(pnode),
+            kind,
+        },
+        Row::Name(pnode, name) => Record::Name {
+            pnode: Pnode(pnode),
+            name: name_of(alloc, name)?,
+        },
+        Row::Attr(pnode, version) => Record::Attr {
+            node: node(pnode, version),
+            attr: Text::name(alloc, b"KIND")?,
+            value: Text::name(alloc, b"draft")?,
+        },
+        Row::Input(pnode, version, from, at) => Record::Input {
+            target: node(pnode, version),
+            source: node(from, at),
+        },
+        Row::Version(pnode, version) => Record::Version {
+            node: node(pnode, version),
+        },
+        Row::Size(pnode, size) => Record::Size {
+            pnode: Pnode(pnode),
+            size,
+        },
+        Row::Digest(pnode) => Record::Digest {
+            pnode: Pnode(pnode),
+            block: 0,
+            md5: [0; 16],
+        },
+    })
+}
+
+fn index_of(alloc: Global, rows: &[Row]) -> Result<Index, Fail> {
+    let mut index = Index::new(alloc)?;
+    for row in rows {
+        index.add(&record_of(alloc, *row)?)?;
+    }
+    Ok(index)
+}
+
+fn pipeline(alloc: Global) -> Result<Index, Fail> {
+    index_of(alloc, &PIPELINE)
+}
+
+fn disclosed(alloc: Global) -> Result<Index, Fail> {
+    index_of(alloc, &DISCLOSED)
+}
+
+/// The nodes of the answer; None where no path leads to the node. Its steps are those of the blank ledger.
+fn counted<L: Ledger>(
+    alloc: Global,
+    blank: Blank,
+    index: &Index,
+    query: Query,
+) -> Result<Option<Vec<Node>>, QueryFault>
+    requires name { blank.name ≡ L.name }
+    requires parts { blank.parts ≡ L.parts }
+    requires some { 0 < blank.parts }
+{
+    let mut steps = Steps::<L>::new(blank);
+    Ok(match query {
+        Query::Ancestors(node) => Some(ancestors(alloc, index, node, &mut steps)?),
+        Query::Descendants(node) => Some(descendants(alloc, index, node, &mut steps)?),
+        Query::Path(from, to) => path(alloc, index, from, to, &mut steps)?,
+    })
+}
+
+fn answer(alloc: Global, index: &Index, query: Query) -> Result<Option<Vec<Node>>, QueryFault> {
+    counted::<Brand>(alloc, Blank::new(1), index, query)
+}
+
+/// The answer is this text, or none.
+fn answers(
+    rt: &impl Abort,
+    alloc: Global,
+    index: &Index,
+    query: Query,
+    want: Option<&str>,
+) -> Result<(), Fail> {
+    match (answer(alloc, index, query)?, want) {
+        (Some(nodes), Some(want)) => {
+            let got = to_text(alloc, &nodes)?;
+            assert_eq!(rt; got.as_slice(), want.as_bytes(), "at {query:?}");
+        }
+        (got, want) => assert!(rt; got.is_none() && want.is_none(), "at {query:?}"),
+    }
+    Ok(())
+}
+
+#[test]
+fn paths_of_a_pipeline(rt: HostRuntime) -> Result<(), Fail> {
+    let index = pipeline(rt.alloc())?;
+    assert_eq!(rt; index.records().len(), 34);
+    for (from, to, want) in [
+        (node(6, 2), node(1, 1), Some("6.2\n4.1\n1.1\n")),
+        (node(8, 1), node(1, 1), Some("8.1\n7.2\n7.1\n1.1\n")),
+        (node(1, 2), node(5, 1), Some("1.2\n7.2\n5.1\n")),
+        (node(4, 1), node(2, 1), None),
+        (node(1, 1), node(6, 2), None),
+        (node(7, 2), node(7, 2), None),
+    ] {
+        let query = Query::Path(from, to);
+        answers(&rt, rt.alloc(), &index, query, want)?;
+    }
+    Ok(())
+}
+
+#[test]
+fn ancestors_as_json(rt: HostRuntime) -> Result<(), Fail> {
+    let alloc = rt.alloc();
+    let index = pipeline(alloc)?;
+    for (from, want) in [
+        (
+            node(8, 1),
+            r#"["1.1","2.1","3.1","4.1","5.1","6.1","6.2","7.1","7.2"]"#,
+        ),
+        (node(4, 1), r#"["1.1"]"#),
+        (node(1, 1), "[]"),
+    ] {
+        let nodes = answer(alloc, &index, Query::Ancestors(from))?.ok_or("a list")?;
+        let mut line = to_json(alloc, &nodes)?;
+        assert_eq!(rt; line.pop(), Some(b'\n'));
+        assert_eq!(rt; line.as_slice(), want.as_bytes());
+    }
+    Ok(())
+}
+
+#[test]
+fn descendants_of_a_disclosed_object(rt: HostRuntime) -> Result<(), Fail> {
+    let alloc = rt.alloc();
+    let index = disclosed(alloc)?;
+    for (from, want) in [
+        (node(3, 1), "2.1\n2.2\n"),
+        (node(2, 1), "2.2\n"),
+        (node(2, 2), ""),
+        (node(1, 1), ""),
+    ] {
+        answers(&rt, alloc, &index, Query::Descendants(from), Some(want))?;
+    }
+    Ok(())
+}
+
+#[test]
+fn holders_of_names(rt: HostRuntime) -> Result<(), Fail> {
+    let alloc = rt.alloc();
+    let one = pipeline(alloc)?;
+    let other = disclosed(alloc)?;
+    for (letter, in_pipeline, in_disclosed) in [
+        (b'o', "8.1\n", ""),
+        (b'a', "", "2.2\n"),
+        (b'b', "", "2.2\n"),
+        (b'z', "", ""),
+    ] {
+        let name = name_of(alloc, letter)?;
+        let got = to_text(alloc, &named(alloc, &one, &name)?)?;
+        assert_eq!(rt; got.as_slice(), in_pipeline.as_bytes());
+        let got = to_text(alloc, &named(alloc, &other, &name)?)?;
+        assert_eq!(rt; got.as_slice(), in_disclosed.as_bytes());
+    }
+    Ok(())
+}
+
+#[test]
+fn the_first_node_that_is_not_there(rt: HostRuntime) -> Result<(), Fail> {
+    let index = pipeline(rt.alloc())?;
+    for (query, absent) in [
+        (Query::Ancestors(node(9, 1)), node(9, 1)),
+        (Query::Descendants(node(8, 2)), node(8, 2)),
+        (Query::Path(node(8, 0), node(9, 1)), node(8, 0)),
+        (Query::Path(node(8, 1), node(9, 1)), node(9, 1)),
+    ] {
+        let fault = answer(rt.alloc(), &index, query).err();
+        assert_eq!(rt; fault, Some(QueryFault::NoObject(absent)), "at {query:?}");
+    }
+    Ok(())
+}

@@ -16,3 +16,4 @@ pub mod Parting
 pub mod Recording
 pub mod Meetings
 pub mod Opened
+pub mod Desks

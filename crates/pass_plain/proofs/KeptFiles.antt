@@ -1,7 +1,8 @@
 -- What is kept of files after one more entry.
-use Rattle.std.proofs.Common.{◌≡◌, ◌≢◌, ◌<◌, ◌^◌, ℕ, List, [], ◌∷◌, ◌++◌, length, refl, ap, sym, ◌∙◌, subst, arith, Bool, true, false, cond, ◌==◌}
+use Rattle.std.proofs.Common.{◌≡◌, ◌≢◌, ◌<◌, ◌^◌, ℕ, List, [], ◌∷◌, ◌++◌, length, refl, ap, sym, ◌∙◌, subst, arith, Bool, true, false, not, cond, ◌==◌, ◌&&◌, ◌||◌}
 use Rattle.std.specs.Prelude.{Option, Some, None, Result, Ok, Err, IfOk}
 use Rattle.std.specs.declared.alloc.AllocError.{AllocError}
+use Rattle.std.specs.List.{list_any}
 use Rattle.std.specs.Option.{MatchOption}
 use Rattle.std.specs.Ordering.{nat_cmp, is_eq}
 use Rattle.std.specs.declared.cmp.Ordering.{Ordering}
@@ -11,6 +12,7 @@ use Rattle.std.specs.Cmp.{nat_cmp_is}
 use Rattle.std.specs.BTreeMap.{BTreeMap, get, UpdatesBy}
 use Rattle.std.proofs.lemmas.Bool.Decides.{nat_tests}
 use Rattle.std.proofs.lemmas.List.FromFn.{length-map-range_with_len}
+use Rattle.std.proofs.lemmas.List.Folds.{list_any-append}
 use Rattle.pass_entry.specs.declared.entry.Entry.{Entry}
 use Rattle.pass_entry.specs.declared.entry.Act.{Act}
 use Rattle.pass_entry.specs.declared.entry.Act.TheVariants as act
@@ -18,7 +20,7 @@ use Rattle.pass_plain.specs.Histories.{is_fault}
 use Rattle.pass_plain.specs.Sessions.{opening_bytes}
 use Rattle.pass_plain.specs.Files.{file_act}
 use Rattle.pass_plain.specs.Records.{row_act}
-use Rattle.pass_plain.specs.Recording.{block_count, flags, is_change, bytes_after, row_after, opened_row, IsUntouched, IsContent, IsKept, AreKept}
+use Rattle.pass_plain.specs.Recording.{block_count, flags, is_change, changes, bytes_after, row_after, opened_row, IsUntouched, IsContent, IsKept, AreKept}
 use Rattle.pass_plain.specs.declared.start.Start.{Start}
 use Rattle.pass_plain.specs.declared.contents.Content.{Content}
 use Rattle.pass_plain.proofs.Replays.{state_after-append, own_step-own, own_step-other, own_step-fault}
@@ -42,6 +44,14 @@ quiet_row (act.Put out at bytes) block had quiet = absurd (cc)
 quiet_row (act.Cut out size) block had quiet = absurd (cc)
 quiet_row _ block had quiet = refl
 
+neither : (a b : Bool) → ((a && false) && b) ≡ false
+neither true b = refl
+neither false b = refl
+
+nor : (a : Bool) → (a && false) ≡ false
+nor true = refl
+nor false = refl
+
 pub different : (a b : ℕ) → a ≢ b → (a == b) ≡ false
 different a b apart = grind (arith, nat_tests)
 
@@ -58,11 +68,13 @@ module _ (start : Start) (history : List Entry) (e : Entry) (file : ℕ) where
 
   -- what an entry leaves as it was
   pub record Leaves : Type 0 where
+    pub quiet : changes file e ≡ false
     pub bytes : bytes_after start (history ++ e ∷ []) file ≡ bytes_after start history file
     pub rows : (block : ℕ) → row_after start (history ++ e ∷ []) file block ≡ row_after start history file block
 
   pub other_leaves : (e.what == file) ≡ false → Leaves
   other_leaves other = record {
+    quiet = ap (λ b. (b && not (is_fault e.reply)) && is_change e.act) other;
     bytes = state_after-append (λ past content e. file_act content e.act) file (opening_bytes start file) history e
         ∙ own_step-other (λ past content e. file_act content e.act) file history (bytes_after start history file) e other;
     rows = λ block. state_after-append (λ past had e. row_act block had e.act) file (opened_row start file block) history e
@@ -71,6 +83,7 @@ module _ (start : Start) (history : List Entry) (e : Entry) (file : ℕ) where
 
   pub fault_leaves : is_fault e.reply ≡ true → Leaves
   fault_leaves fault = record {
+    quiet = ap (λ b. (e.what == file && not b) && is_change e.act) fault ∙ neither (e.what == file) (is_change e.act);
     bytes = state_after-append (λ past content e. file_act content e.act) file (opening_bytes start file) history e
         ∙ own_step-fault (λ past content e. file_act content e.act) file history (bytes_after start history file) e fault;
     rows = λ block. state_after-append (λ past had e. row_act block had e.act) file (opened_row start file block) history e
@@ -84,6 +97,7 @@ module _ (start : Start) (history : List Entry) (e : Entry) (file : ℕ) where
       by_cases false fault other t = other_leaves other
       by_cases true true own t = fault_leaves t
       by_cases true false own t = record {
+        quiet = ap (λ b. (e.what == file && not (is_fault e.reply)) && b) quiet ∙ nor (e.what == file && not (is_fault e.reply));
         bytes = bytes_own own t ∙ quiet_bytes e.act (bytes_after start history file) quiet;
         rows = λ block. row_own block own t ∙ quiet_row e.act block (row_after start history file block) quiet;
       }
@@ -95,7 +109,11 @@ module _ (start : Start) (history : List Entry) (e : Entry) (file : ℕ) where
   }
 
   untouched_left : Leaves → IsUntouched start history file → IsUntouched start (history ++ e ∷ []) file
-  untouched_left leaves is = record { bytes = leaves.bytes ∙ is.bytes; rows = λ block. leaves.rows block ∙ is.rows block }
+  untouched_left leaves is = record {
+    quiet = list_any-append (changes file) history (e ∷ []) ∙ (λ i. is.quiet i || (leaves.quiet i || false));
+    bytes = leaves.bytes ∙ is.bytes;
+    rows = λ block. leaves.rows block ∙ is.rows block;
+  }
 
   left_at : (o : Option Content) → Leaves → MatchOption o (IsUntouched start history file) (IsContent start history file)
       → MatchOption o (IsUntouched start (history ++ e ∷ []) file) (IsContent start (history ++ e ∷ []) file)

@@ -20,9 +20,10 @@ use Rattle.pass_plain.specs.Legal.{session_of}
 use Rattle.pass_plain.specs.Registries.{Registry, Names, registry_after, registry_act, opening_registry}
 use Rattle.pass_plain.specs.Records.{entry_records, act_records, version_records, content_records, move_records, file_named, extra_records}
 use Rattle.pass_plain.specs.Versions.{version_in, nodes_of, node_at_entry, is_freeze, is_fresh, source_in}
-use Rattle.pass_plain.specs.Recording.{block_count, content_by, bytes_after, row_after, is_change, step_records, plain_records, IsVersionStep, AreKept, IsWalk, IsUntouched, IsContent, HasVersions}
+use Rattle.pass_plain.specs.Recording.{block_count, content_by, bytes_after, row_after, is_change, step_records, plain_records, IsVersionStep, AreKept, IsRecording, IsWalk, IsUntouched, IsContent, HasVersions}
 use Rattle.pass_plain.specs.declared.start.Start.{Start}
 use Rattle.pass_plain.specs.declared.nodes.VersionStep.{VersionStep}
+use Rattle.pass_plain.specs.declared.records.Recording.{Recording}
 use Rattle.pass_plain.specs.declared.records.Walk.{Walk}
 use Rattle.pass_plain.specs.States.{registry_of, registry_step}
 use Rattle.pass_plain.proofs.RecordedBy.{records_of-append}
@@ -99,25 +100,48 @@ rises session history e object most here there =
     ∙ fold-append (λ v (n : Node). if n.pnode == object then n.version else v) (opening_version session.start object) nodes (node ∷ [])))
     (picked (e.what == object) node.version (version_in session nodes object) (most + 1) (risen_if (is_freeze session history nodes e) (version_in session nodes e.what) most here) there)
 
--- a walk that has noted one more entry
-pub walked : (start : Start) (history : List Entry) (e : Entry) (w v : Walk) (s : VersionStep) → IsWalk start history w
-    → IsVersionStep start history (nodes_of (session_of start 0) history) e s
-    → v.nodes.items ≡ w.nodes.items ++ s.node ∷ []
-    → registry_of v.registry ≡ registry_step (registry_of w.registry) e
-    → v.registry.made ≤ w.registry.made + 1
-    → AreKept start (history ++ e ∷ []) v.files
-    → v.list.items ≡ w.list.items ++ entry_records (session_of start 0) history e
-    → IsWalk start (history ++ e ∷ []) v
-walked start history e w v s is step nodes registry made files list =
+-- one more entry is recorded
+pub recorded : (start : Start) (history : List Entry) (e : Entry) (r s : Recording) → IsRecording start history r
+    → registry_of s.registry ≡ registry_step (registry_of r.registry) e
+    → s.registry.made ≤ r.registry.made + 1
+    → AreKept start (history ++ e ∷ []) s.files
+    → s.list.items ≡ r.list.items ++ entry_records (session_of start 0) history e
+    → IsRecording start (history ++ e ∷ []) s
+recorded start history e r s is registry made files list =
     let session = session_of start 0 in
     let size = length-append history (e ∷ []) in
     record {
-      nodes = nodes ∙ (λ i. is.nodes i ++ step.node i ∷ []) ∙ sym (nodes_of-append session history e);
       registry = registry ∙ ap (λ (r : Registry). registry_step r e) is.registry
           ∙ sym (state_after-append (λ past r e. registry_act r e.act e.reply) 0 (opening_registry start) history e);
       made = omega (arith, made, is.made, size);
       files = files;
       list = list ∙ ap (λ rs. rs ++ entry_records session history e) is.list ∙ sym (records_of-append session history e);
+    }
+
+-- nothing is recorded yet
+pub unrecorded : (start : Start) (r : Recording) → registry_of r.registry ≡ opening_registry start → r.registry.made ≡ 0
+    → r.files.entries ≡ [] → r.list.items ≡ [] → IsRecording start [] r
+unrecorded start r registry made files list = record {
+  registry = registry;
+  made = omega (arith, made);
+  files = λ file.
+      subst (λ (o : Option Content). MatchOption o (IsUntouched start [] file) (IsContent start [] file)) (sym (ap (λ es. lookup (λ q. is_eq (nat_cmp file q)) es) files))
+      (let untouched : IsUntouched start [] file = record { quiet = refl; bytes = refl; rows = λ block. refl } in untouched);
+  list = list;
+}
+
+-- a walk that has noted one more entry
+pub walked : (start : Start) (history : List Entry) (e : Entry) (w v : Walk) (s : VersionStep) → IsWalk start history w
+    → IsVersionStep start history (nodes_of (session_of start 0) history) e s
+    → v.nodes.items ≡ w.nodes.items ++ s.node ∷ []
+    → IsRecording start (history ++ e ∷ []) v.recording
+    → IsWalk start (history ++ e ∷ []) v
+walked start history e w v s is step nodes recording =
+    let session = session_of start 0 in
+    let size = length-append history (e ∷ []) in
+    record {
+      nodes = nodes ∙ (λ i. is.nodes i ++ step.node i ∷ []) ∙ sym (nodes_of-append session history e);
+      recording = recording;
       versions = λ object.
           let here = is.versions e.what in
           let there = is.versions object in
@@ -125,16 +149,10 @@ walked start history e w v s is step nodes registry made files list =
     }
 
 -- a walk that has noted nothing
-pub begun : (start : Start) (w : Walk) → HasVersions start → w.nodes.items ≡ [] → registry_of w.registry ≡ opening_registry start → w.registry.made ≡ 0
-    → w.files.entries ≡ [] → w.list.items ≡ [] → IsWalk start [] w
-begun start w versions nodes registry made files list = record {
+pub begun : (start : Start) (w : Walk) → HasVersions start → w.nodes.items ≡ [] → IsRecording start [] w.recording → IsWalk start [] w
+begun start w versions nodes recording = record {
   nodes = nodes;
-  registry = registry;
-  made = omega (arith, made);
-  files = λ file.
-      subst (λ (o : Option Content). MatchOption o (IsUntouched start [] file) (IsContent start [] file)) (sym (ap (λ es. lookup (λ q. is_eq (nat_cmp file q)) es) files))
-      (let untouched : IsUntouched start [] file = record { bytes = refl; rows = λ block. refl } in untouched);
-  list = list;
+  recording = recording;
   versions = λ object. let v = versions object in omega (arith, v);
 }
 

@@ -12,7 +12,7 @@ use Rattle.pass_entry.specs.declared.objects.Kind.TheVariants as kind
 use Rattle.pass_entry.specs.declared.objects.Node.{Node}
 use Rattle.pass_entry.specs.declared.record.Record.{Record}
 use Rattle.pass_entry.specs.declared.record.Record.TheVariants as log
-use Rattle.pass_plain.specs.Histories.{is_fault, pnode_of}
+use Rattle.pass_plain.specs.Histories.{is_fault, is_own, pnode_of}
 use Rattle.pass_plain.specs.Registries.{Names, registry_after}
 use Rattle.pass_plain.specs.States.{registry_of}
 use Rattle.pass_plain.specs.Sessions.{opening_bytes, opening_rows, is_opened, opening_version}
@@ -23,6 +23,7 @@ use Rattle.pass_plain.specs.Records.{block_size, range_len, has_row, is_written,
 use Rattle.pass_plain.specs.declared.start.Start.{Start}
 use Rattle.pass_plain.specs.declared.contents.Content.{Content}
 use Rattle.pass_plain.specs.declared.nodes.VersionStep.{VersionStep}
+use Rattle.pass_plain.specs.declared.records.Recording.{Recording}
 use Rattle.pass_plain.specs.declared.records.Walk.{Walk}
 
 -- how many blocks a file has at most
@@ -66,8 +67,13 @@ is_change (act.Put out at bytes) = true
 is_change (act.Cut out size) = true
 is_change _ = false
 
+-- the entry changes the content of the file
+abbrev pub changes : ℕ → Entry → Bool
+changes file e = is_own file e && is_change e.act
+
 -- no entry has changed the file
 pub record IsUntouched (start : Start) (history : List Entry) (file : ℕ) : Type 0 where
+  pub quiet : list_any (changes file) history ≡ false
   pub bytes : bytes_after start history file ≡ opening_bytes start file
   pub rows : (block : ℕ) → row_after start history file block ≡ opened_row start file block
 
@@ -125,13 +131,17 @@ plain_records names s reply (act.Tag attr value) = log.Attr s.node attr value �
 plain_records names s reply (act.Exec out name args) = step_records s ++ log.Attr s.node (codes "EXE") name ∷ args_records s.node args
 plain_records names s reply _ = step_records s
 
--- what a walk over a history has: the nodes of the entries, the registry, the files and the records
+-- the records of a history, its registry and its changed files
+pub record IsRecording (start : Start) (history : List Entry) (r : Recording) : Type 0 where
+  pub registry : registry_of r.registry ≡ registry_after (session_of start 0) history
+  pub made : r.registry.made ≤ length history
+  pub files : AreKept start history r.files
+  pub list : r.list.items ≡ records_of (session_of start 0) history
+
+-- what a walk over a history has: the nodes of the entries, and their records
 pub record IsWalk (start : Start) (history : List Entry) (w : Walk) : Type 0 where
   pub nodes : w.nodes.items ≡ nodes_of (session_of start 0) history
-  pub registry : registry_of w.registry ≡ registry_after (session_of start 0) history
-  pub made : w.registry.made ≤ length history
-  pub files : AreKept start history w.files
-  pub list : w.list.items ≡ records_of (session_of start 0) history
+  pub recording : IsRecording start history w.recording
   pub versions : (object : ℕ) → version_in (session_of start 0) (nodes_of (session_of start 0) history) object ≤ 2 ^ 48 + length history
 
 -- each object begins with a version that a record can have

@@ -1,6 +1,7 @@
 //! The content of a file, and the digests of its blocks.
-ghost use Rattle.std.specs.Prelude.{◌≡◌, ◌≢◌, ◌<◌, ◌^◌, ◌++◌, ◌∷◌, [], Bool, false, ℕ, IfOk, OnOk, length, take, drop};
+ghost use Rattle.std.specs.Prelude.{◌≡◌, ◌≢◌, ◌<◌, ◌^◌, ◌++◌, ◌∷◌, [], Bool, false, ℕ, IfOk, OnOk, length, take, drop, option_copied, ◌==◌};
 ghost use Rattle.std.specs.List.{list_any, range_with_len};
+ghost use Rattle.std.specs.Option.{option_map_or};
 ghost use Rattle.pass_plain.specs.Files.{file_act};
 ghost use Rattle.pass_plain.specs.Histories.{is_fault};
 ghost use Rattle.pass_plain.specs.Sessions.{opening_bytes, opening_rows};
@@ -8,7 +9,7 @@ ghost use Rattle.pass_plain.specs.Records.{touches as touches_of, range_len as r
 ghost use Rattle.pass_plain.specs.Recording.{is_resized as is_resized_of, is_digested_by, digests_by, content_by, flags, block_count as block_count_of, opened_row as opened_row_of, bytes_after, row_after as row_after_of, IsContent, IsKept, AreKept};
 
 use crate::file::{apply, opened_file, opening_content};
-use crate::start::Start;
+use crate::start::{Start, StartFile};
 use md5::{Digest, Md5};
 use pass_entry::{Act, Entry, Pnode, Record};
 use std::alloc::{AllocError, Global};
@@ -131,11 +132,11 @@ fn turn_rows(rows: &mut [bool], act: &Act)
     }
 }
 
-/// Whether a file was opened with a digest of the block.
-fn opened_row(start: &Start, object: Pnode, block: u32) -> bool
-    ensures { result ≡ opened_row_of start.now object block }
+/// Whether a file, if there is one, has a digest of the block.
+fn has_row(file: Option<&StartFile>, block: u32) -> bool
+    ensures { result ≡ list_any (λ b. b == block) (option_map_or (λ f. f.rows.items) (option_copied file.entry) []) }
 {
-    match opened_file(start, object) {
+    match file {
         Some(file) => file.rows.iter().any(|row| *row == block),
         None => false,
     }
@@ -150,9 +151,10 @@ fn opened_rows(
 ) -> Result<Vec<bool>, AllocError>
     ensures { IfOk result (λ v. v.items ≡ flags (opened_row_of start.now object) count) }
 {
+    let file = opened_file(start, object);
     let mut rows = Vec::new(alloc);
     for block in 0..count {
-        rows.push(opened_row(start, object, block))?;
+        rows.push(has_row(file, block))?;
     }
     Ok(rows)
 }

@@ -24,7 +24,10 @@ pub mod start;
 pub mod steps;
 
 pub use callers::LastCall;
+pub use contents::Content;
+pub use nodes::VersionStep;
 pub use process::ProcessState;
+pub use records::Recording;
 pub use reference::Plain;
 pub use request::Request;
 pub use start::{Start, StartFile};

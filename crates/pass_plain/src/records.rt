@@ -1,14 +1,16 @@
 //! The records of a history, by one walk over it.
-ghost use Rattle.std.specs.Prelude.{◌≡◌, ◌<◌, ◌^◌, ◌++◌, ◌∷◌, [], IfOk, OnOk, codes, bytes_eq};
+ghost use Rattle.std.specs.Prelude.{◌≡◌, ◌<◌, ◌^◌, ◌++◌, ◌∷◌, [], List, IfOk, OnOk, codes, bytes_eq};
 ghost use Rattle.pass_entry.specs.Texts.{IsLine};
+ghost use Rattle.pass_entry.specs.declared.entry.Entry.{Entry as AnyEntry};
 ghost use Rattle.pass_entry.specs.declared.objects.Kind.TheVariants as kind_of;
 ghost use Rattle.pass_entry.specs.declared.record.Record.TheVariants as log;
 ghost use Rattle.pass_plain.specs.Histories.{is_fault as is_fault_of};
+ghost use Rattle.pass_plain.specs.declared.start.Start.{Start as AnyStart};
 ghost use Rattle.pass_plain.specs.Legal.{session_of};
 ghost use Rattle.pass_plain.specs.Registries.{registry_after};
 ghost use Rattle.pass_plain.specs.Records.{file_named as file_named_of, move_records, args_records, entry_records, records_of as records_of_session};
-ghost use Rattle.pass_plain.specs.Versions.{nodes_of, version_in};
-ghost use Rattle.pass_plain.specs.Recording.{is_change as is_change_of, version_record, input_record, step_records, plain_records, AreKept, IsVersionStep, IsWalk, HasVersions};
+ghost use Rattle.pass_plain.specs.Versions.{nodes_of};
+ghost use Rattle.pass_plain.specs.Recording.{is_change as is_change_of, version_record, input_record, step_records, plain_records, AreKept, IsVersionStep, IsRecording, IsWalk, HasVersions};
 
 use crate::contents::{Content, change_file};
 use crate::names::Names;
@@ -19,14 +21,21 @@ use pass_entry::{Act, Entry, Kind, Node, Pnode, Record, Text};
 use std::alloc::{AllocError, Global};
 use std::collections::BTreeMap;
 
-/// What a walk over the first entries of a history keeps: the node of each, the registry, the files that were changed, and
-/// the records.
+/// The records of the first entries of a history, in order, and what it takes to go on: the registry, and the content of each
+/// file that they changed. Whoever knows what each next entry makes of its object's version notes it.
+#[derive(Drop)]
+pub struct Recording {
+    registry: RegistryState,
+    /// The changed files by number.
+    pub files: BTreeMap<u64, Content>,
+    pub list: Vec<Record>,
+}
+
+/// A walk over the first entries of a history, with the node of each.
 #[derive(Drop)]
 pub struct Walk {
     pub nodes: Vec<Node>,
-    pub registry: RegistryState,
-    pub files: BTreeMap<u64, Content>,
-    pub list: Vec<Record>,
+    pub recording: Recording,
 }
 
 fn line(alloc: Global, bytes: &[u8]) -> Result<Text, AllocError>
@@ -233,17 +242,58 @@ fn add_entry(
     Ok(())
 }
 
+impl Recording {
+    /// Before the first entry.
+    pub fn new(alloc: Global, start: &Start) -> Result<Recording, AllocError>
+        ensures { IfOk result (IsRecording start.now []) }
+    {
+        let registry = RegistryState::opened(alloc, start)?;
+        Ok(Recording {
+            registry,
+            files: BTreeMap::new(alloc),
+            list: Vec::new(alloc),
+        })
+    }
+
+    /// Goes on with the entry behind a history, which makes this step of its object's version.
+    pub fn note(
+        &mut self,
+        alloc: Global,
+        start: &Start,
+        history: &[Entry],
+        e: &Entry,
+        step: &VersionStep,
+    ) -> Result<(), AllocError>
+        requires step { IsVersionStep start.now history.now (nodes_of (session_of start.now 0) history.now) e.now step.now }
+        requires recording { IsRecording start.now history.now self.old }
+        ensures { OnOk result (IsRecording start.now (history.now ++ e.now ∷ []) self.new) }
+    {
+        let Recording {
+            registry,
+            files,
+            list,
+        } = self;
+        add_entry(alloc, files, list, &registry.names, step, start, history, e)?;
+        registry.follow(e)?;
+        Ok(())
+    }
+
+    /// The objects of the opening and those that the entries made, in order, with their kinds.
+    pub fn objects(&self) -> &[(Pnode, Kind)]
+        ensures { (start : AnyStart) (history : List AnyEntry) → IsRecording start history self.now → result.now ≡ (registry_after (session_of start 0) history).objects }
+    {
+        &self.registry.objects
+    }
+}
+
 impl Walk {
     fn new(alloc: Global, start: &Start) -> Result<Walk, AllocError>
         requires { HasVersions start.now }
         ensures { IfOk result (IsWalk start.now []) }
     {
-        let registry = RegistryState::opened(alloc, start)?;
         Ok(Walk {
             nodes: Vec::new(alloc),
-            registry,
-            files: BTreeMap::new(alloc),
-            list: Vec::new(alloc),
+            recording: Recording::new(alloc, start)?,
         })
     }
 
@@ -258,25 +308,9 @@ impl Walk {
         requires { IsWalk start.now history.now self.old }
         ensures { OnOk result (IsWalk start.now (history.now ++ e.now ∷ []) self.new) }
     {
-        let Walk {
-            nodes,
-            registry,
-            files,
-            list,
-        } = self;
-        let step = version_step(start, history, nodes, e);
-        add_entry(
-            alloc,
-            files,
-            list,
-            &registry.names,
-            &step,
-            start,
-            history,
-            e,
-        )?;
-        registry.follow(e)?;
-        nodes.push(step.node)?;
+        let step = version_step(start, history, &self.nodes, e);
+        self.recording.note(alloc, start, history, e, &step)?;
+        self.nodes.push(step.node)?;
         Ok(())
     }
 }
@@ -294,6 +328,7 @@ pub fn records_of(
     for i in 0..history.len() {
         walk.note(alloc, start, &history[..i], &history[i])?;
     }
-    let Walk { list, .. } = walk;
+    let Walk { recording, .. } = walk;
+    let Recording { list, .. } = recording;
     Ok(list)
 }

@@ -4,5 +4,5 @@ use Rattle.pass_plain.proofs.records.Walk.new.Goals as goal
 
 pub returns : goal.returns
 returns c =
-    let w : Walk = record { nodes = c.new.result; registry = c.in_ok-registry.registry; files = c.new-2.result; list = c.new-3.result } in
-    begun c.args.start.now w c.requires c.new.ensures.items c.in_ok-registry.ensures.after c.in_ok-registry.ensures.none_made c.new-2.ensures.empty c.new-3.ensures.items
+    let w : Walk = record { nodes = c.new.result; recording = c.in_ok-new.field-0 } in
+    begun c.args.start.now w c.requires c.new.ensures.items c.in_ok-new.ensures

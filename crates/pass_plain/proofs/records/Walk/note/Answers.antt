@@ -14,8 +14,8 @@ version_step-step-requires c =
     subst (λ (nodes : List Node). version_in (session_of c.args.start.now 0) nodes e.what + 1 < 2 ^ 64) (sym (c.deref.ensures.value ∙ c.requires.nodes))
     (let v = c.requires.versions e.what in omega (arith, v))
 
-pub add_entry-requires-clause-step : goal.add_entry-requires-clause-step
-add_entry-requires-clause-step c =
+pub note-requires-clause-step : goal.note-requires-clause-step
+note-requires-clause-step c =
     let e : Entry = c.args.e.now in
     subst (λ (nodes : List Node). IsVersionStep c.args.start.now c.args.history.now nodes e c.version_step-step.result) (c.deref.ensures.value ∙ c.requires.nodes) c.version_step-step.ensures
 
@@ -23,7 +23,7 @@ pub returns : goal.returns
 returns c =
     let e : Entry = c.args.e.now in
     let w : Walk = c.args.self.now in
-    let v : Walk = record { nodes = c.push.new.self; registry = c.follow.new.self; files = c.add_entry.new.files; list = c.add_entry.new.list } in
+    let v : Walk = record { nodes = c.push.new.self; recording = c.note.new.self } in
     walked c.args.start.now c.args.history.now e w v c.version_step-step.result c.requires
     (subst (λ (nodes : List Node). IsVersionStep c.args.start.now c.args.history.now nodes e c.version_step-step.result) (c.deref.ensures.value ∙ c.requires.nodes) c.version_step-step.ensures)
-    c.in_ok-push.ensures.items c.in_ok-follow.ensures.ok c.in_ok-follow.ensures.made c.in_ok-add_entry.ensures.files c.in_ok-add_entry.ensures.list
+    c.in_ok-push.ensures.items c.in_ok-note.ensures

@@ -67,14 +67,21 @@ pub fn opened_file(start: &Start, object: Pnode) -> Option<&StartFile>
     start.files.iter().find(|f| f.node.pnode == object)
 }
 
+/// The bytes with which a file was opened.
+pub fn opened_bytes(start: &Start, object: Pnode) -> &[u8]
+    ensures { result.now ≡ opening_bytes start.now object }
+{
+    match opened_file(start, object) {
+        Some(file) => file.bytes.as_slice(),
+        None => &[],
+    }
+}
+
 /// The content with which a file was opened.
 pub fn opening_content(alloc: Global, start: &Start, object: Pnode) -> Result<Vec<u8>, AllocError>
     ensures { IfOk result (λ v. v.items ≡ opening_bytes start.now object) }
 {
-    match opened_file(start, object) {
-        Some(file) => Vec::from_slice(alloc, file.bytes.as_slice()),
-        None => Ok(Vec::new(alloc)),
-    }
+    Vec::from_slice(alloc, opened_bytes(start, object))
 }
 
 /// The content of a file after a history.

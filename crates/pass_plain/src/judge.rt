@@ -10,8 +10,9 @@ ghost use Rattle.pass_plain.specs.Pipes.{pipe_after};
 ghost use Rattle.pass_plain.specs.States.{call_of, IsLastCall, IsLawful, AsksFew, registry_reply as registry_reply_of, file_reply as file_reply_of, pipe_reply as pipe_reply_of, process_reply as process_reply_of};
 ghost use Rattle.pass_plain.specs.Cache.{AreCached, IsPlainState};
 
-use crate::cache::{StateCache, absent_caller, absent_file, absent_pipe};
+use crate::cache::{StateCache, absent_caller, absent_pipe};
 use crate::callers::{LastCall, is_start, start_allows};
+use crate::file::{content_after, opened_bytes};
 use crate::process::ProcessState;
 use crate::registry::RegistryState;
 use crate::replies::{Holder, file_reply, holder_of, pipe_reply, process_reply, registry_reply};
@@ -55,8 +56,9 @@ impl StateCache {
     {
         match self.files.get(object) {
             Some(content) => file_reply(alloc, content, act),
+            None if self.files.whole => file_reply(alloc, opened_bytes(start, object), act),
             None => {
-                let content = absent_file(alloc, self.files.whole, start, history, object)?;
+                let content = content_after(alloc, start, history, object)?;
                 file_reply(alloc, &content, act)
             }
         }

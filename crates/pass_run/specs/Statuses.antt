@@ -1,6 +1,11 @@
 -- The numbers and the texts of the statuses. This project's own rule.
 use Rattle.std.specs.Prelude.{ℕ, List, [], ◌∷◌, ◌++◌, codes}
 use Rattle.std.specs.Fmt.{decimal}
+use Rattle.pass_entry.specs.Words.{flaw_word}
+use Rattle.pass_record.specs.declared.fault.RecordFault.{RecordFault}
+use Rattle.pass_record.specs.declared.fault.RecordFault.TheVariants as fault
+use Rattle.pass_recover.specs.declared.fault.OpenFault.{OpenFault}
+use Rattle.pass_recover.specs.declared.fault.OpenFault.TheVariants as store
 use Rattle.pass_trace.specs.Reasons.{reason_word}
 use Rattle.pass_run.specs.declared.status.Status.{Status}
 use Rattle.pass_run.specs.declared.status.Status.TheVariants as status
@@ -13,8 +18,25 @@ number_of_status status.BadWords = 2
 number_of_status status.ReadFault = 6
 number_of_status (status.BadTrace line reason) = 3
 number_of_status (status.NotBuilt line) = 12
+number_of_status (status.DiskFault opened now) = 8
+number_of_status (status.BadStore fault) = 5
 number_of_status status.WriteFault = 7
 number_of_status status.NoMemory = 10
+
+-- the word of a record's fault. Want of memory says nothing of a record, and has none.
+abbrev pub record_word : RecordFault → List ℕ
+record_word fault.Short = codes "short"
+record_word fault.Tag = codes "tag"
+record_word fault.Value = codes "value"
+record_word fault.NoMemory = []
+
+-- the text of a store that doesn't open. No status carries a device fault or want of memory here: they have statuses of their own.
+abbrev pub store_text : OpenFault → List ℕ
+store_text (store.BadFrame at) = codes "fault store frame " ++ decimal at ++ 10 ∷ []
+store_text (store.BadRecord place why) = codes "fault store record " ++ decimal place ++ codes " " ++ record_word why ++ 10 ∷ []
+store_text (store.Flaw place reason) = codes "fault store flaw " ++ decimal place ++ codes " " ++ flaw_word reason ++ 10 ∷ []
+store_text store.DiskFault = codes "fault store" ++ 10 ∷ []
+store_text store.NoMemory = codes "fault store" ++ 10 ∷ []
 
 -- the text of a status that stands on no report
 abbrev pub status_text : Status → List ℕ
@@ -22,4 +44,6 @@ status_text status.BadWords = codes "fault words" ++ 10 ∷ []
 status_text status.ReadFault = codes "fault read" ++ 10 ∷ []
 status_text (status.BadTrace line reason) = codes "fault trace " ++ decimal line ++ codes " " ++ reason_word reason ++ 10 ∷ []
 status_text (status.NotBuilt line) = codes "fault unbuilt " ++ decimal line ++ 10 ∷ []
+status_text (status.DiskFault opened now) = codes "fault disk" ++ 10 ∷ []
+status_text (status.BadStore fault) = store_text fault
 status_text _ = []

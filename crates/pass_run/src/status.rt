@@ -1,7 +1,10 @@
 //! How a run of the program ended.
 ghost use Rattle.std.specs.Prelude.{◌≡◌, [], ◌∷◌, ◌++◌, IfOk, codes, decimal, string_bytes};
 ghost use Rattle.pass_trace.specs.Reasons.{reason_word};
+ghost use Rattle.pass_run.specs.Statuses.{record_word, store_text};
 
+use pass_record::RecordFault;
+use pass_recover::OpenFault;
 use pass_trace::TraceReason;
 use std::alloc::{AllocError, Global};
 
@@ -20,6 +23,10 @@ pub enum Status {
     BadTrace { line: u32, reason: TraceReason },
     /// The first line of the trace, counted from 1, whose call this program doesn't make.
     NotBuilt { line: u32 },
+    /// A call of the disk failed: its count of faults as the run began, and a later one.
+    DiskFault { opened: u64, now: u64 },
+    /// The store that the disk has doesn't open: `BadFrame`, `BadRecord` or `Flaw`.
+    BadStore(OpenFault),
     /// The sink failed. It may have taken the beginning of another status's text.
     WriteFault,
     /// Memory was refused.
@@ -40,6 +47,8 @@ impl Status {
             Status::ReadFault => 6,
             Status::BadTrace { .. } => 3,
             Status::NotBuilt { .. } => 12,
+            Status::DiskFault { .. } => 8,
+            Status::BadStore(_) => 5,
             Status::WriteFault => 7,
             Status::NoMemory => 10,
         }
@@ -54,6 +63,8 @@ impl Status {
             Status::ReadFault => String::from_str(alloc, "fault read\n"),
             Status::BadTrace { line, reason } => trace_text(alloc, *line, *reason),
             Status::NotBuilt { line } => format!(in alloc; "fault unbuilt {line}\n"),
+            Status::DiskFault { .. } => String::from_str(alloc, "fault disk\n"),
+            Status::BadStore(fault) => text_of_store(alloc, *fault),
             Status::Done | Status::Stuck | Status::WriteFault | Status::NoMemory => {
                 Ok(String::new(alloc))
             }
@@ -66,4 +77,38 @@ fn trace_text(alloc: Global, line: u32, reason: TraceReason) -> Result<String, A
     ensures { IfOk result (λ text. string_bytes text ≡ codes "fault trace " ++ decimal line ++ codes " " ++ reason_word reason ++ 10 ∷ []) }
 {
     format!(in alloc; "fault trace {line} {reason}\n")
+}
+
+// The text of a store that doesn't open.
+fn text_of_store(alloc: Global, fault: OpenFault) -> Result<String, AllocError>
+    ensures { IfOk result (λ text. string_bytes text ≡ store_text fault) }
+{
+    match fault {
+        OpenFault::BadFrame { at } => format!(in alloc; "fault store frame {at}\n"),
+        OpenFault::BadRecord { place, fault } => text_of_record(alloc, place, fault),
+        OpenFault::Flaw { place, reason } => {
+            format!(in alloc; "fault store flaw {place} {reason}\n")
+        }
+        OpenFault::DiskFault | OpenFault::NoMemory => String::from_str(alloc, "fault store\n"),
+    }
+}
+
+// The text of bytes that aren't the record of that number.
+fn text_of_record(alloc: Global, place: u64, fault: RecordFault) -> Result<String, AllocError>
+    ensures { IfOk result (λ text. string_bytes text ≡ codes "fault store record " ++ decimal place ++ codes " " ++ record_word fault ++ 10 ∷ []) }
+{
+    let word = word_of_record(fault);
+    format!(in alloc; "fault store record {place} {word}\n")
+}
+
+// The word of a record's fault.
+fn word_of_record(fault: RecordFault) -> &'static str
+    ensures { result.now ≡ record_word fault }
+{
+    match fault {
+        RecordFault::Short => "short",
+        RecordFault::Tag => "tag",
+        RecordFault::Value => "value",
+        RecordFault::NoMemory => "",
+    }
 }

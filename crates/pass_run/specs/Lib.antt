@@ -1,4 +1,5 @@
 pub mod Statuses
+pub mod Stores
 pub mod Ends
 pub mod Lines
 pub mod Making

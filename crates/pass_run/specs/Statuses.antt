@@ -23,6 +23,14 @@ number_of_status (status.BadStore fault) = 5
 number_of_status status.WriteFault = 7
 number_of_status status.NoMemory = 10
 
+-- the status of a store that didn't open, with the disk's counts of faults before and after
+abbrev pub status_of_opening : ℕ → ℕ → OpenFault → Status
+status_of_opening opened now store.DiskFault = status.DiskFault opened now
+status_of_opening opened now store.NoMemory = status.NoMemory
+status_of_opening opened now (store.BadFrame at) = status.BadStore (store.BadFrame at)
+status_of_opening opened now (store.BadRecord place why) = status.BadStore (store.BadRecord place why)
+status_of_opening opened now (store.Flaw place reason) = status.BadStore (store.Flaw place reason)
+
 -- the word of a record's fault. Want of memory says nothing of a record, and has none.
 abbrev pub record_word : RecordFault → List ℕ
 record_word fault.Short = codes "short"

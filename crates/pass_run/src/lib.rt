@@ -14,5 +14,5 @@ mod writing;
 
 pub use ending::{RunEnd, empty_start, run_trace};
 pub use reading::{ReadEnd, read_source};
-pub use status::Status;
+pub use status::{Status, opening_status};
 pub use writing::write_text;

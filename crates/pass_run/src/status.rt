@@ -1,7 +1,7 @@
 //! How a run of the program ended.
 ghost use Rattle.std.specs.Prelude.{◌≡◌, [], ◌∷◌, ◌++◌, IfOk, codes, decimal, string_bytes};
 ghost use Rattle.pass_trace.specs.Reasons.{reason_word};
-ghost use Rattle.pass_run.specs.Statuses.{record_word, store_text};
+ghost use Rattle.pass_run.specs.Statuses.{record_word, store_text, status_of_opening};
 
 use pass_record::RecordFault;
 use pass_recover::OpenFault;
@@ -77,6 +77,19 @@ fn trace_text(alloc: Global, line: u32, reason: TraceReason) -> Result<String, A
     ensures { IfOk result (λ text. string_bytes text ≡ codes "fault trace " ++ decimal line ++ codes " " ++ reason_word reason ++ 10 ∷ []) }
 {
     format!(in alloc; "fault trace {line} {reason}\n")
+}
+
+/// The status of a store that didn't open, with the disk's counts of faults as the opening began and now.
+pub fn opening_status(fault: OpenFault, opened: u64, now: u64) -> Status
+    ensures { result ≡ status_of_opening opened now fault }
+{
+    match fault {
+        OpenFault::DiskFault => Status::DiskFault { opened, now },
+        OpenFault::NoMemory => Status::NoMemory,
+        OpenFault::BadFrame { .. } | OpenFault::BadRecord { .. } | OpenFault::Flaw { .. } => {
+            Status::BadStore(fault)
+        }
+    }
 }
 
 // The text of a store that doesn't open.

@@ -1,0 +1,47 @@
+use Rattle.std.proofs.Common.{◌≡◌, ◌∷◌, [], ℕ, sym, subst, arith}
+use Rattle.pass_entry.specs.declared.record.Record.TheVariants as log
+use Rattle.pass_outside.specs.Moments.{Adds}
+use Rattle.pass_log.specs.Records.{image_of, with_batch, IsOldOrBoth}
+use Rattle.pass_keep.proofs.Starting.{has_before, begun_append, kept_begun}
+use Rattle.pass_keep.proofs.begin.begin.Goals as goal
+
+pub open-requires-clause-synced : goal.open-requires-clause-synced
+open-requires-clause-synced g c = λ told i may. c.requires.1.1.1.1.1.1.0 told i (g.met.D.Disk.counts_now c.args.disk.now g.story.start i c.requires.1.1.1.1.1.0 may)
+
+pub returns-in_err-append-clause-begun : goal.returns-in_err-append-clause-begun
+returns-in_err-append-clause-begun g c =
+    let view = g.D.Disk.view in
+    let s = g.story in
+    let old = view c.args.disk.now in
+    let mid = view c.open.new.disk in
+    let new = view c.append.new.disk in
+    begun_append s old mid c.requires.1.1.1.1.1.0 (has_before s old c.args.image.now c.requires.1.1.1.1.0 c.requires.1.0) c.requires.1.1.1.1.1.1.0
+    c.open.ensures.tells c.open.ensures.any_moment c.open.ensures.later c.in_ok-log.ensures.same new c.append.ensures.tells c.append.ensures.later
+    (λ told. subst (λ (n : ℕ). Adds mid new (λ i. IsOldOrBoth (log.Ceiling n ∷ []) (image_of mid.seen.log) (image_of i.log))) (sym c.requires.1.1.0) (c.append.ensures.any_moment told))
+
+pub returns-clause-begun : goal.returns-clause-begun
+returns-clause-begun g c =
+    let view = g.D.Disk.view in
+    let s = g.story in
+    let old = view c.args.disk.now in
+    let mid = view c.open.new.disk in
+    let new = view c.append.new.disk in
+    begun_append s old mid c.requires.1.1.1.1.1.0 (has_before s old c.args.image.now c.requires.1.1.1.1.0 c.requires.1.0) c.requires.1.1.1.1.1.1.0
+    c.open.ensures.tells c.open.ensures.any_moment c.open.ensures.later c.in_ok-log.ensures.same new c.append.ensures.tells c.append.ensures.later
+    (λ told. subst (λ (n : ℕ). Adds mid new (λ i. IsOldOrBoth (log.Ceiling n ∷ []) (image_of mid.seen.log) (image_of i.log))) (sym c.requires.1.1.0) (c.append.ensures.any_moment told))
+
+pub returns-clause-kept : goal.returns-clause-kept
+returns-clause-kept g c =
+    let view = g.D.Disk.view in
+    let s = g.story in
+    let old = view c.args.disk.now in
+    let mid = view c.open.new.disk in
+    let new = view c.append.new.disk in
+    let ceiling = sym c.requires.1.1.0 in
+    kept_begun s old mid c.requires.1.1.1.1.1.0 (has_before s old c.args.image.now c.requires.1.1.1.1.0 c.requires.1.0) c.requires.1.1.1.1.1.1.0
+    c.open.ensures.tells c.open.ensures.any_moment c.open.ensures.later c.in_ok-log.ensures.same new c.append.ensures.tells c.append.ensures.later
+    (λ told. subst (λ (n : ℕ). Adds mid new (λ i. IsOldOrBoth (log.Ceiling n ∷ []) (image_of mid.seen.log) (image_of i.log))) ceiling (c.append.ensures.any_moment told))
+    c.append.new.self c.append.ensures.settled
+    (λ told. subst (λ (n : ℕ). image_of new.seen.log ≡ with_batch (log.Ceiling n ∷ []) (image_of mid.seen.log)) ceiling (c.in_ok-append.ensures.reads (omega arith) told))
+    (λ told i may. subst (λ (n : ℕ). image_of i.log ≡ with_batch (log.Ceiling n ∷ []) (image_of mid.seen.log)) ceiling (c.in_ok-append.ensures.acknowledged (omega arith) told i may))
+    c.calls-calls.ensures.now

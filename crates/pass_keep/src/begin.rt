@@ -1,0 +1,49 @@
+//! A session begins on a disk.
+ghost use Rattle.std.specs.Prelude.{◌≡◌, ◌⊎◌, ◌+◌, ◌<◌, ◌≤◌, ◌^◌, [], IsTrue, OnOk, IfOk, IfErr};
+ghost use Rattle.pass_entry.specs.declared.record.Record.TheVariants.{Ceiling};
+ghost use Rattle.pass_entry.specs.Ranges.{IsInRange};
+ghost use Rattle.pass_outside.specs.Areas.{Image};
+ghost use Rattle.pass_outside.specs.Moments.{IsAtEnd};
+ghost use Rattle.pass_log.specs.Log.{log_end, log_opened};
+ghost use Rattle.pass_log.specs.LogImage.{IsRead};
+ghost use Rattle.pass_keep.specs.Kept.{Story, IsBegun, IsKept};
+
+use pass_entry::{Pnode, Record};
+use pass_log::{Log, LogFault, LogImage};
+use pass_outside::Disk;
+use pass_record::spelling_length;
+use std::alloc::Global;
+
+/// Opens the log of which that image was read, and appends the ceiling of a session.
+pub fn begin<D: Disk>(
+    alloc: Global,
+    disk: &mut D,
+    image: &LogImage,
+    ceiling: Pnode,
+) -> Result<Log, LogFault>
+    ghost story: { Story }
+    requires before { story.before ≡ image.now.list.items }
+    requires ceiling { story.ceiling ≡ ceiling }
+    requires in_range { IsInRange (Ceiling ceiling) }
+    requires image { IsRead (D.view disk.old) image.now }
+    requires start { story.start ≤ (D.view disk.old).calls }
+    requires since { IsTrue (D.view disk.old).tells → (c : Image) → (D.view disk.old).left_since story.start c → c.log ≡ (D.view disk.old).seen.log }
+    requires room { image.now.end ≤ 2 ^ 38 }
+    ensures kept { IfOk result (λ log. IsKept story (D.view disk.new) log 0 []) }
+    ensures begun { IsBegun story (D.view disk.new) }
+    ensures failed { IfErr result (λ e. ((e ≡ LogFault.DiskFault) × (((D.view disk.old).faults < (D.view disk.new).faults) ⊎ IsAtEnd (D.view disk.new))) ⊎ (e ≡ LogFault.NoMemory)) }
+    ensures healthy { OnOk result ((D.view disk.new).faults ≡ (D.view disk.old).faults) }
+    ensures place { IfOk result (λ log. log_end log ≡ image.now.end + 14) }
+    ensures opened { IfOk result (λ log. log_opened log ≡ (D.view disk.new).faults) }
+    ensures tells { (D.view disk.new).tells ≡ (D.view disk.old).tells }
+    ensures rises { (D.view disk.old).faults ≤ (D.view disk.new).faults }
+    ensures later { (D.view disk.old).calls ≤ (D.view disk.new).calls }
+{
+    let mut log = Log::open(disk, image)?;
+    spelling_length();
+    let first = Record::Ceiling { pnode: ceiling };
+    log.append(alloc, disk, &[first])?;
+    // The count marks the moment.
+    let _calls = disk.calls();
+    Ok(log)
+}

@@ -1,0 +1,221 @@
+//! The keeper of a session's records and bytes.
+use crate::append::{append_frames, stage_all};
+use crate::begin::begin;
+use crate::block::write_blocks;
+use crate::fault::fault_of;
+use crate::{Block, KeepFault};
+use pass_entry::{Pnode, Record, Synced};
+use pass_log::{Log, LogImage};
+use pass_outside::Disk;
+use std::alloc::Global;
+
+/// Keeps a session on a disk: it alone writes there. It knows how many entries are durable, and each sync that came.
+///
+/// Whatever its calls answer, each crash since a sync leaves the entries that were durable then, and the ranges that it
+/// covers.
+#[derive(Drop)]
+pub struct Keeper<D> {
+    disk: D,
+    log: Log,
+    durable: u64,
+    syncs: Vec<Synced>,
+}
+
+impl<D: Disk> Keeper<D> {
+    ghost use Rattle.std.specs.Prelude.{◌≡◌, ◌⊎◌, ◌+◌, ◌*◌, ◌<◌, ◌≤◌, ◌^◌, ◌++◌, ◌∷◌, [], ℕ, length, OnOk, OnErr, IsErrOf, Err, IsTrue, IfOk, IfErr};
+    ghost use Rattle.std.specs.List.{All};
+    ghost use Rattle.std.specs.Vec.{vec_len, vec_capacity};
+    ghost use Rattle.pass_entry.specs.declared.record.Record.TheVariants.{Ceiling};
+    ghost use Rattle.pass_entry.specs.Ranges.{IsInRange};
+    ghost use Rattle.pass_outside.specs.Areas.{Image};
+    ghost use Rattle.pass_outside.specs.Moments.{IsAtEnd};
+    ghost use Rattle.pass_log.specs.Log.{log_end, log_opened};
+    ghost use Rattle.pass_log.specs.LogImage.{IsRead};
+    ghost use Rattle.pass_log.specs.Records.{spellings};
+    ghost use Rattle.pass_keep.specs.Kept.{Story, IsStory, IsBegun, AreParts};
+    ghost use Rattle.pass_keep.specs.Dirty.{AreDirty, IsAscending};
+    ghost use Rattle.pass_keep.specs.Parts.{lists_of, frames_length};
+    ghost use Rattle.pass_keep.specs.Keepers.{disk_of, log_of, durable_of, syncs_of, Past, with_sync, no_file, IsKeeper, Syncing};
+
+    /// Begins a session on a disk of which that log image was read, with nothing written since the session's start, and
+    /// appends the session's ceiling as one frame. After a fault the disk is handed back.
+    pub fn open(
+        alloc: Global,
+        disk: D,
+        image: &LogImage,
+        ceiling: Pnode,
+    ) -> Result<Keeper<D>, (KeepFault, D)>
+        ghost story: { Story }
+        requires before { story.before ≡ image.now.list.items }
+        requires ceiling { story.ceiling ≡ ceiling }
+        requires in_range { IsInRange (Ceiling ceiling) }
+        requires image { IsRead (D.view disk) image.now }
+        requires start { story.start ≤ (D.view disk).calls }
+        requires since { IsTrue (D.view disk).tells → (c : Image) → (D.view disk).left_since story.start c → c.log ≡ (D.view disk).seen.log }
+        requires room { image.now.end ≤ 2 ^ 38 }
+        requires story { IsStory story }
+
+        ensures kept { IfOk result (λ k. IsKeeper D.view (record { story = story; noted = [] }) k) }
+        ensures durable { IfOk result (λ k. durable_of k ≡ 0) }
+        ensures healthy { IfOk result (λ k. (D.view (disk_of k)).faults ≡ (D.view disk).faults) }
+        ensures place { IfOk result (λ k. log_end (log_of k) ≡ image.now.end + 14) }
+        ensures opened { IfOk result (λ k. log_opened (log_of k) ≡ (D.view (disk_of k)).faults) }
+        ensures tells { IfOk result (λ k. (D.view (disk_of k)).tells ≡ (D.view disk).tells) }
+        // A crash at any moment since the start leaves the records from before, or these and the ceiling.
+        ensures begun { IfErr result (λ e. IsBegun story (D.view e.1)) }
+        ensures failed { IfErr result (λ e. ((e.0 ≡ KeepFault.DiskFault (D.view disk).faults (D.view e.1).faults) × (((D.view disk).faults < (D.view e.1).faults) ⊎ IsAtEnd (D.view e.1))) ⊎ (e.0 ≡ KeepFault.NoMemory)) }
+    {
+        let mut disk = disk;
+        let opened = disk.faults();
+        match begin(alloc, &mut disk, image, ceiling) {
+            Ok(log) => Ok(Keeper {
+                disk,
+                log,
+                durable: 0,
+                syncs: Vec::new(alloc),
+            }),
+            Err(fault) => {
+                let now = disk.faults();
+                Err((fault_of(fault, opened, now), disk))
+            }
+        }
+    }
+
+    /// How many entries from the history's front are durable.
+    pub fn durable(&self) -> u64
+        ensures { result ≡ durable_of self.now }
+    {
+        self.durable
+    }
+
+    /// The syncs that came, in their order.
+    pub fn syncs(&self) -> &[Synced]
+        ensures { result.now ≡ syncs_of self.now }
+    {
+        &self.syncs
+    }
+
+    /// The disk, and the syncs that came.
+    pub fn into_disk(self) -> (D, Vec<Synced>)
+        ensures disk { result.0 ≡ disk_of self }
+        ensures syncs { result.1.items ≡ syncs_of self }
+    {
+        (self.disk, self.syncs)
+    }
+
+    // Tells whether the disk had a fault since the log was opened.
+    fn check(&self) -> Result<(), KeepFault>
+        ensures ok { OnOk result ((D.view (disk_of self.now)).faults ≤ log_opened (log_of self.now)) }
+        ensures err { OnErr result ((result ≡ Err (KeepFault.Broken (log_opened (log_of self.now)) (D.view (disk_of self.now)).faults)) × (log_opened (log_of self.now) < (D.view (disk_of self.now)).faults)) }
+    {
+        let opened = self.log.opened();
+        let now = self.disk.faults();
+        if now > opened {
+            return Err(KeepFault::Broken { opened, now });
+        }
+        Ok(())
+    }
+
+    // The fault of a device call that failed.
+    fn failed(&self) -> KeepFault
+        ensures { result ≡ KeepFault.DiskFault (log_opened (log_of self.now)) (D.view (disk_of self.now)).faults }
+    {
+        KeepFault::DiskFault {
+            opened: self.log.opened(),
+            now: self.disk.faults(),
+        }
+    }
+
+    // Notes a sync at this moment.
+    fn note(&mut self)
+        requires { vec_len self.old.syncs < vec_capacity self.old.syncs }
+        ensures disk { disk_of self.new ≡ disk_of self.old }
+        ensures log { log_of self.new ≡ log_of self.old }
+        ensures durable { durable_of self.new ≡ durable_of self.old }
+        ensures syncs { syncs_of self.new ≡ syncs_of self.old ++ record { calls = (D.view (disk_of self.old)).calls; entries = durable_of self.old } ∷ [] }
+        ensures now { (c : Image) → (D.view (disk_of self.old)).left_since (D.view (disk_of self.old)).calls c → (D.view (disk_of self.old)).may_leave c }
+    {
+        let calls = self.disk.calls();
+        let entries = self.durable;
+        let _pushed = self.syncs.push(Synced { calls, entries });
+    }
+
+    /// Makes the entries up to this number durable: their records, in parts of whole entries, are appended to the log, one
+    /// frame for each part. The memory for it is taken before the first device call.
+    pub fn flush(
+        &mut self,
+        alloc: Global,
+        parts: &[Vec<Record>],
+        upto: u64,
+    ) -> Result<(), KeepFault>
+        ghost past: { Past }
+        requires keeper { IsKeeper D.view past self.old }
+        requires parts { AreParts past.story (durable_of self.old) upto (lists_of parts.now) }
+        requires within { upto ≤ length past.story.history }
+        requires in_range { All (λ part. All IsInRange part.items) parts.now }
+        requires size { All (λ part. length (spellings part.items) < 2 ^ 32) parts.now }
+        requires room { log_end (log_of self.old) + frames_length parts.now < 2 ^ 39 }
+
+        ensures kept { OnOk result (IsKeeper D.view (with_sync past (D.view (disk_of self.new)).calls upto no_file) self.new) }
+        ensures err { OnErr result (IsKeeper D.view past self.new) }
+        ensures durable { OnOk result (durable_of self.new ≡ upto) }
+        ensures durable_before { OnErr result (durable_of self.new ≡ durable_of self.old) }
+        // Exactly where the disk had a fault since the log was opened.
+        ensures broken { log_opened (log_of self.old) < (D.view (disk_of self.old)).faults
+            → (result ≡ Err (KeepFault.Broken (log_opened (log_of self.old)) (D.view (disk_of self.old)).faults)) × (self.new ≡ self.old) }
+        ensures only_broken { (opened now : ℕ) → IsErrOf result (KeepFault.Broken opened now) → log_opened (log_of self.old) < (D.view (disk_of self.old)).faults }
+        ensures failed { (opened now : ℕ) → IsErrOf result (KeepFault.DiskFault opened now) → (opened ≡ log_opened (log_of self.old)) × (now ≡ (D.view (disk_of self.new)).faults)
+            × (((D.view (disk_of self.old)).faults < (D.view (disk_of self.new)).faults) ⊎ IsAtEnd (D.view (disk_of self.new))) }
+        ensures no_memory { IsErrOf result KeepFault.NoMemory → disk_of self.new ≡ disk_of self.old }
+        ensures healthy { OnOk result ((D.view (disk_of self.new)).faults ≡ (D.view (disk_of self.old)).faults) }
+        ensures calls { OnOk result ((D.view (disk_of self.new)).calls ≡ (D.view (disk_of self.old)).calls + 4 * length parts.now) }
+        ensures opened { log_opened (log_of self.new) ≡ log_opened (log_of self.old) }
+        ensures place { log_end (log_of self.new) ≤ log_end (log_of self.old) + frames_length parts.now }
+        ensures tells { (D.view (disk_of self.new)).tells ≡ (D.view (disk_of self.old)).tells }
+        ensures rises { (D.view (disk_of self.old)).faults ≤ (D.view (disk_of self.new)).faults }
+        ensures later { (D.view (disk_of self.old)).calls ≤ (D.view (disk_of self.new)).calls }
+    {
+        self.check()?;
+        let frames = stage_all(alloc, parts)?;
+        self.syncs.reserve(1)?;
+        if append_frames(&mut self.log, &mut self.disk, &frames).is_err() {
+            return Err(self.failed());
+        }
+        self.durable = upto;
+        self.note();
+        Ok(())
+    }
+
+    /// Writes dirty blocks, with the bytes that they have after the durable entries, and syncs the store area once.
+    pub fn sync_blocks(&mut self, blocks: &[Block<'_>]) -> Result<(), KeepFault>
+        ghost syncing: { Syncing }
+        requires keeper { IsKeeper D.view syncing.past self.old }
+        requires dirty { AreDirty syncing.past.story syncing.past.noted (durable_of self.old) syncing.files blocks.now }
+        requires ascending { IsAscending blocks.now }
+
+        ensures kept { OnOk result (IsKeeper D.view (with_sync syncing.past (D.view (disk_of self.new)).calls (durable_of self.old) syncing.files) self.new) }
+        ensures err { OnErr result (IsKeeper D.view syncing.past self.new) }
+        ensures durable { durable_of self.new ≡ durable_of self.old }
+        ensures log { log_of self.new ≡ log_of self.old }
+        // Exactly where the disk had a fault since the log was opened.
+        ensures broken { log_opened (log_of self.old) < (D.view (disk_of self.old)).faults
+            → (result ≡ Err (KeepFault.Broken (log_opened (log_of self.old)) (D.view (disk_of self.old)).faults)) × (self.new ≡ self.old) }
+        ensures only_broken { (opened now : ℕ) → IsErrOf result (KeepFault.Broken opened now) → log_opened (log_of self.old) < (D.view (disk_of self.old)).faults }
+        ensures failed { (opened now : ℕ) → IsErrOf result (KeepFault.DiskFault opened now) → (opened ≡ log_opened (log_of self.old)) × (now ≡ (D.view (disk_of self.new)).faults)
+            × (((D.view (disk_of self.old)).faults < (D.view (disk_of self.new)).faults) ⊎ IsAtEnd (D.view (disk_of self.new))) }
+        ensures no_memory { IsErrOf result KeepFault.NoMemory → disk_of self.new ≡ disk_of self.old }
+        ensures healthy { OnOk result ((D.view (disk_of self.new)).faults ≡ (D.view (disk_of self.old)).faults) }
+        ensures calls { OnOk result ((D.view (disk_of self.new)).calls ≡ (D.view (disk_of self.old)).calls + length blocks.now + 1) }
+        ensures tells { (D.view (disk_of self.new)).tells ≡ (D.view (disk_of self.old)).tells }
+        ensures rises { (D.view (disk_of self.old)).faults ≤ (D.view (disk_of self.new)).faults }
+        ensures later { (D.view (disk_of self.old)).calls ≤ (D.view (disk_of self.new)).calls }
+    {
+        self.check()?;
+        self.syncs.reserve(1)?;
+        if write_blocks(&mut self.disk, blocks).is_err() {
+            return Err(self.failed());
+        }
+        self.note();
+        Ok(())
+    }
+}

@@ -1,10 +1,16 @@
 -- A keeper, and what it has kept (this project's own rule).
-use Rattle.std.specs.Prelude.{◌≡◌, ℕ, Bool, false, List, [], ◌∷◌, ◌++◌, map}
+use Rattle.std.specs.Prelude.{◌≡◌, ℕ, ◌<◌, ◌≤◌, Bool, false, List, [], ◌∷◌, ◌++◌, length, map, Vec}
+use Rattle.std.specs.Vec.{vec_len, vec_capacity}
+use Rattle.std.specs.declared.alloc.Global.{Global}
 use Rattle.pass_entry.specs.declared.entry.Synced.{Synced}
+use Rattle.pass_entry.specs.declared.record.Record.{Record}
 use Rattle.pass_outside.specs.Moments.{Moment}
 use Rattle.pass_log.specs.declared.log.Log.{Log}
+use Rattle.pass_keep.specs.declared.block.Block.{Block}
 use Rattle.pass_keep.specs.declared.keeper.Keeper.{Keeper}
-use Rattle.pass_keep.specs.Kept.{Story, IsStory, Noted, synced_of, IsKept}
+use Rattle.pass_keep.specs.Kept.{Story, IsStory, Noted, synced_of, IsKept, AreParts}
+use Rattle.pass_keep.specs.Dirty.{AreDirty}
+use Rattle.pass_keep.specs.Parts.{AreFrames}
 
 -- its disk
 abbrev pub disk_of : {D : Type 0} → Keeper D → D
@@ -45,3 +51,30 @@ pub record IsKeeper {D : Type 0} (view : D → Moment) (past : Past) (k : Keeper
 pub record Syncing : Type 0 where
   pub past : Past
   pub files : ℕ → Bool
+
+-- room for one sync more
+abbrev pub HasSpare : {D : Type 0} → Keeper D → Type 0
+HasSpare k = vec_len k.syncs < vec_capacity k.syncs
+
+-- whatever it keeps is kept
+abbrev pub KeptStill : {D : Type 0} → (D → Moment) → Keeper D → Keeper D → Type 0
+KeptStill view k new = (past : Past) → IsKeeper view past k → IsKeeper view past new
+
+-- of each session that has these frames: its entries are durable up to this one
+abbrev pub KeptFlushed : {D : Type 0} → (D → Moment) → List (Vec ℕ Global) → ℕ → Keeper D → Keeper D → Type 0
+KeptFlushed view frames upto k new = (past : Past) (parts : List (List Record)) → IsKeeper view past k → upto ≤ length past.story.history
+    → AreParts past.story k.durable upto parts → AreFrames parts frames → IsKeeper view (with_sync past (view new.disk).calls upto no_file) new
+
+-- or as many as before
+abbrev pub KeptUnflushed : {D : Type 0} → (D → Moment) → List (Vec ℕ Global) → ℕ → Keeper D → Keeper D → Type 0
+KeptUnflushed view frames upto k new = (past : Past) (parts : List (List Record)) → IsKeeper view past k → upto ≤ length past.story.history
+    → AreParts past.story k.durable upto parts → AreFrames parts frames → IsKeeper view past new
+
+-- of each session that has these dirty blocks: no other block of these files was dirty, and now none is
+abbrev pub KeptSynced : {D : Type 0} → (D → Moment) → List Block → Keeper D → Keeper D → Type 0
+KeptSynced view blocks k new = (past : Past) (files : ℕ → Bool) → IsKeeper view past k → AreDirty past.story past.noted k.durable files blocks
+    → IsKeeper view (with_sync past (view new.disk).calls k.durable files) new
+
+-- or what was clean is clean
+abbrev pub KeptUnsynced : {D : Type 0} → (D → Moment) → List Block → Keeper D → Keeper D → Type 0
+KeptUnsynced view blocks k new = (past : Past) (files : ℕ → Bool) → IsKeeper view past k → AreDirty past.story past.noted k.durable files blocks → IsKeeper view past new

@@ -22,20 +22,21 @@ pub struct Keeper<D> {
 }
 
 impl<D: Disk> Keeper<D> {
-    ghost use Rattle.std.specs.Prelude.{◌≡◌, ◌⊎◌, ◌+◌, ◌*◌, ◌<◌, ◌≤◌, ◌^◌, ◌++◌, ◌∷◌, [], ℕ, length, OnOk, OnErr, IsErrOf, Err, IsTrue, IfOk, IfErr};
+    ghost use Rattle.std.specs.Prelude.{◌≡◌, ◌⊎◌, ◌+◌, ◌*◌, ◌<◌, ◌≤◌, ◌^◌, ◌++◌, ◌∷◌, [], ℕ, length, List, Vec, slice_get, Some, OnOk, OnErr, IsErrOf, Err, IsTrue, IfOk, IfErr};
     ghost use Rattle.std.specs.List.{All};
-    ghost use Rattle.std.specs.Vec.{vec_len, vec_capacity};
+    ghost use Rattle.std.specs.declared.alloc.Global.{Global as AnyGlobal};
+    ghost use Rattle.pass_entry.specs.declared.record.Record.{Record as AnyRecord};
     ghost use Rattle.pass_entry.specs.declared.record.Record.TheVariants.{Ceiling};
     ghost use Rattle.pass_entry.specs.Ranges.{IsInRange};
     ghost use Rattle.pass_outside.specs.Areas.{Image};
     ghost use Rattle.pass_outside.specs.Moments.{IsAtEnd};
-    ghost use Rattle.pass_log.specs.Log.{log_end, log_opened};
+    ghost use Rattle.pass_log.specs.Log.{log_end, log_opened, IsSettled, IsFrameOf};
     ghost use Rattle.pass_log.specs.LogImage.{IsRead};
     ghost use Rattle.pass_log.specs.Records.{spellings};
     ghost use Rattle.pass_keep.specs.Kept.{Story, IsStory, IsBegun, AreParts};
-    ghost use Rattle.pass_keep.specs.Dirty.{AreDirty, IsAscending};
-    ghost use Rattle.pass_keep.specs.Parts.{lists_of, frames_length};
-    ghost use Rattle.pass_keep.specs.Keepers.{disk_of, log_of, durable_of, syncs_of, Past, with_sync, no_file, IsKeeper, Syncing};
+    ghost use Rattle.pass_keep.specs.Dirty.{AreDirty, AreSized, IsAscending};
+    ghost use Rattle.pass_keep.specs.Parts.{lists_of, frames_length, bytes_length};
+    ghost use Rattle.pass_keep.specs.Keepers.{disk_of, log_of, durable_of, syncs_of, Past, with_sync, no_file, IsKeeper, Syncing, HasSpare, KeptStill, KeptFlushed, KeptUnflushed, KeptSynced, KeptUnsynced};
 
     /// Begins a session on a disk of which that log image was read, with nothing written since the session's start, and
     /// appends the session's ceiling as one frame. After a fault the disk is handed back.
@@ -103,16 +104,25 @@ impl<D: Disk> Keeper<D> {
         (self.disk, self.syncs)
     }
 
-    // Tells whether the disk had a fault since the log was opened.
-    fn check(&self) -> Result<(), KeepFault>
-        ensures ok { OnOk result ((D.view (disk_of self.now)).faults ≤ log_opened (log_of self.now)) }
-        ensures err { OnErr result ((result ≡ Err (KeepFault.Broken (log_opened (log_of self.now)) (D.view (disk_of self.now)).faults)) × (log_opened (log_of self.now) < (D.view (disk_of self.now)).faults)) }
+    /// Takes the memory for one sync more, unless the disk had a fault since the log was opened.
+    pub fn ready(&mut self) -> Result<(), KeepFault>
+        ensures kept { KeptStill D.view self.old self.new }
+        ensures disk { disk_of self.new ≡ disk_of self.old }
+        ensures log { log_of self.new ≡ log_of self.old }
+        ensures durable { durable_of self.new ≡ durable_of self.old }
+        ensures syncs { syncs_of self.new ≡ syncs_of self.old }
+        ensures ok { OnOk result (HasSpare self.new × ((D.view (disk_of self.old)).faults ≤ log_opened (log_of self.old))) }
+        // Exactly where the disk had a fault since the log was opened.
+        ensures broken { log_opened (log_of self.old) < (D.view (disk_of self.old)).faults
+            → (result ≡ Err (KeepFault.Broken (log_opened (log_of self.old)) (D.view (disk_of self.old)).faults)) × (self.new ≡ self.old) }
+        ensures err { IfErr result (λ e. (e ≡ KeepFault.NoMemory) ⊎ (log_opened (log_of self.old) < (D.view (disk_of self.old)).faults)) }
     {
         let opened = self.log.opened();
         let now = self.disk.faults();
         if now > opened {
             return Err(KeepFault::Broken { opened, now });
         }
+        self.syncs.reserve(1)?;
         Ok(())
     }
 
@@ -127,17 +137,85 @@ impl<D: Disk> Keeper<D> {
     }
 
     // Notes a sync at this moment.
-    fn note(&mut self)
-        requires { vec_len self.old.syncs < vec_capacity self.old.syncs }
+    fn note(&mut self) -> Synced
+        requires { HasSpare self.old }
         ensures disk { disk_of self.new ≡ disk_of self.old }
         ensures log { log_of self.new ≡ log_of self.old }
         ensures durable { durable_of self.new ≡ durable_of self.old }
+        ensures sync { result ≡ record { calls = (D.view (disk_of self.old)).calls; entries = durable_of self.old } }
         ensures syncs { syncs_of self.new ≡ syncs_of self.old ++ record { calls = (D.view (disk_of self.old)).calls; entries = durable_of self.old } ∷ [] }
         ensures now { (c : Image) → (D.view (disk_of self.old)).left_since (D.view (disk_of self.old)).calls c → (D.view (disk_of self.old)).may_leave c }
     {
         let calls = self.disk.calls();
         let entries = self.durable;
-        let _pushed = self.syncs.push(Synced { calls, entries });
+        let sync = Synced { calls, entries };
+        let _pushed = self.syncs.push(sync);
+        sync
+    }
+
+    /// Appends frames, four device calls each, after which so many entries are durable, and notes it. It takes no memory.
+    pub fn append(&mut self, frames: &[Vec<u8>], upto: u64) -> Result<Synced, KeepFault>
+        requires settled { IsSettled (log_of self.old) (D.view (disk_of self.old)) }
+        requires healthy { (D.view (disk_of self.old)).faults ≤ log_opened (log_of self.old) }
+        requires spare { HasSpare self.old }
+        requires frames { (i : ℕ) (frame : Vec ℕ AnyGlobal) → slice_get frames.now i ≡ Some frame → (batch : List AnyRecord) × IsFrameOf batch frame.items }
+        requires room { log_end (log_of self.old) + bytes_length frames.now < 2 ^ 39 }
+        ensures kept { OnOk result (KeptFlushed D.view frames.now upto self.old self.new) }
+        ensures err { OnErr result (KeptUnflushed D.view frames.now upto self.old self.new) }
+        ensures sync { IfOk result (λ s. s ≡ record { calls = (D.view (disk_of self.new)).calls; entries = upto }) }
+        ensures durable { OnOk result (durable_of self.new ≡ upto) }
+        ensures durable_before { OnErr result (durable_of self.new ≡ durable_of self.old) }
+        ensures failed { IfErr result (λ e. (e ≡ KeepFault.DiskFault (log_opened (log_of self.old)) (D.view (disk_of self.new)).faults)
+            × (((D.view (disk_of self.old)).faults < (D.view (disk_of self.new)).faults) ⊎ IsAtEnd (D.view (disk_of self.new)))) }
+        ensures healthy { OnOk result ((D.view (disk_of self.new)).faults ≡ (D.view (disk_of self.old)).faults) }
+        ensures calls { OnOk result ((D.view (disk_of self.new)).calls ≡ (D.view (disk_of self.old)).calls + 4 * length frames.now) }
+        ensures opened { log_opened (log_of self.new) ≡ log_opened (log_of self.old) }
+        ensures place { log_end (log_of self.new) ≤ log_end (log_of self.old) + bytes_length frames.now }
+        ensures tells { (D.view (disk_of self.new)).tells ≡ (D.view (disk_of self.old)).tells }
+        ensures rises { (D.view (disk_of self.old)).faults ≤ (D.view (disk_of self.new)).faults }
+        ensures later { (D.view (disk_of self.old)).calls ≤ (D.view (disk_of self.new)).calls }
+    {
+        if append_frames(&mut self.log, &mut self.disk, frames).is_err() {
+            return Err(self.failed());
+        }
+        self.durable = upto;
+        Ok(self.note())
+    }
+
+    /// Writes blocks, one device call each, syncs the store area, and notes it. It takes no memory.
+    pub fn write(&mut self, blocks: &[Block<'_>]) -> Result<Synced, KeepFault>
+        requires spare { HasSpare self.old }
+        requires ascending { IsAscending blocks.now }
+        requires sized { AreSized blocks.now }
+        ensures kept { OnOk result (KeptSynced D.view blocks.now self.old self.new) }
+        ensures err { OnErr result (KeptUnsynced D.view blocks.now self.old self.new) }
+        ensures sync { IfOk result (λ s. s ≡ record { calls = (D.view (disk_of self.new)).calls; entries = durable_of self.old }) }
+        ensures durable { durable_of self.new ≡ durable_of self.old }
+        ensures log { log_of self.new ≡ log_of self.old }
+        ensures failed { IfErr result (λ e. (e ≡ KeepFault.DiskFault (log_opened (log_of self.old)) (D.view (disk_of self.new)).faults)
+            × (((D.view (disk_of self.old)).faults < (D.view (disk_of self.new)).faults) ⊎ IsAtEnd (D.view (disk_of self.new)))) }
+        ensures healthy { OnOk result ((D.view (disk_of self.new)).faults ≡ (D.view (disk_of self.old)).faults) }
+        ensures calls { OnOk result ((D.view (disk_of self.new)).calls ≡ (D.view (disk_of self.old)).calls + length blocks.now + 1) }
+        ensures tells { (D.view (disk_of self.new)).tells ≡ (D.view (disk_of self.old)).tells }
+        ensures rises { (D.view (disk_of self.old)).faults ≤ (D.view (disk_of self.new)).faults }
+        ensures later { (D.view (disk_of self.old)).calls ≤ (D.view (disk_of self.new)).calls }
+    {
+        if write_blocks(&mut self.disk, blocks).is_err() {
+            return Err(self.failed());
+        }
+        Ok(self.note())
+    }
+
+    /// Notes a sync of files of which no block is dirty. It makes no device call and takes no memory.
+    pub fn clean(&mut self) -> Synced
+        requires spare { HasSpare self.old }
+        ensures kept { KeptSynced D.view [] self.old self.new }
+        ensures sync { result ≡ record { calls = (D.view (disk_of self.old)).calls; entries = durable_of self.old } }
+        ensures disk { disk_of self.new ≡ disk_of self.old }
+        ensures log { log_of self.new ≡ log_of self.old }
+        ensures durable { durable_of self.new ≡ durable_of self.old }
+    {
+        self.note()
     }
 
     /// Makes the entries up to this number durable: their records, in parts of whole entries, are appended to the log, one
@@ -175,14 +253,9 @@ impl<D: Disk> Keeper<D> {
         ensures rises { (D.view (disk_of self.old)).faults ≤ (D.view (disk_of self.new)).faults }
         ensures later { (D.view (disk_of self.old)).calls ≤ (D.view (disk_of self.new)).calls }
     {
-        self.check()?;
+        self.ready()?;
         let frames = stage_all(alloc, parts)?;
-        self.syncs.reserve(1)?;
-        if append_frames(&mut self.log, &mut self.disk, &frames).is_err() {
-            return Err(self.failed());
-        }
-        self.durable = upto;
-        self.note();
+        self.append(&frames, upto)?;
         Ok(())
     }
 
@@ -210,12 +283,8 @@ impl<D: Disk> Keeper<D> {
         ensures rises { (D.view (disk_of self.old)).faults ≤ (D.view (disk_of self.new)).faults }
         ensures later { (D.view (disk_of self.old)).calls ≤ (D.view (disk_of self.new)).calls }
     {
-        self.check()?;
-        self.syncs.reserve(1)?;
-        if write_blocks(&mut self.disk, blocks).is_err() {
-            return Err(self.failed());
-        }
-        self.note();
+        self.ready()?;
+        self.write(blocks)?;
         Ok(())
     }
 }

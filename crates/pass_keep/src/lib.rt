@@ -8,6 +8,7 @@ mod fault;
 mod images;
 mod keeper;
 
+pub use append::stage_all;
 pub use block::Block;
 pub use fault::KeepFault;
 pub use keeper::Keeper;

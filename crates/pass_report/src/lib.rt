@@ -12,6 +12,7 @@ mod objects;
 mod opening;
 mod processes;
 mod recorder;
+mod recording;
 mod reporting;
 mod standing;
 #[cfg(test)]
@@ -19,4 +20,5 @@ mod tests;
 mod trail;
 
 pub use objects::objects_of;
+pub use recording::recorded;
 pub use reporting::report;

@@ -75,7 +75,7 @@ few_before list pnode passes =
     few : (n : ℕ) → nat_le 1024 n ≡ false → n < 1024
     few n h = grind (arith, nat_tests)
 
-quiet_next : (list : List Record) (r : Record) → IsQuiet list → flaw_of list r ≡ None → IsQuiet (list ++ r ∷ [])
+pub quiet_next : (list : List Record) (r : Record) → IsQuiet list → flaw_of list r ≡ None → IsQuiet (list ++ r ∷ [])
 quiet_next list (log.Object made k) quiet passes = λ pnode unknown. by_test pnode (made == pnode) refl (ap is_some (sym (kind-next list (log.Object made k) pnode)) ∙ unknown)
   where
     by_kind : (pnode : ℕ) → (made == pnode) ≡ false → (t : Bool) → same_kind k kind.File ≡ t → number_of (list ++ log.Object made k ∷ []) pnode ≡ number_of list pnode

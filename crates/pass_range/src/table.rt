@@ -73,8 +73,8 @@ fn set_size(files: &mut BTreeMap<Pnode, TableFile>, pnode: Pnode, size: u64)
     }
 }
 
-// What a list does to the rows.
-fn later_of(alloc: Global, list: &[Record]) -> Result<Later, AllocError>
+/// What a list does to the rows, in time proportional to it.
+pub fn later_of(alloc: Global, list: &[Record]) -> Result<Later, AllocError>
     ensures { IfOk result (λ later. (pnode block : ℕ) → touch_in later pnode block ≡ touch pnode block list.now) }
 {
     let mut later = Later::new(alloc);

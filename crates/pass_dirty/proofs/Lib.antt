@@ -1,0 +1,3 @@
+mod Adding
+mod Setting
+mod Gathered

@@ -61,6 +61,15 @@ impl Model for Note {
     ghost invariant = { λ n. IsNote n.badge.views × (n.len ≡ length (view_in n.badge.views).seen) };
 }
 
+impl Note {
+    /// How many entries it tells of.
+    pub fn seen(&self) -> u64
+        ensures { result ≡ length self.now.seen }
+    {
+        self.len
+    }
+}
+
 /// The greater of two numbers.
 pub(crate) fn greater(a: u64, b: u64) -> u64
     ensures { result ≡ max a b }

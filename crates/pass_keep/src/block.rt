@@ -2,7 +2,6 @@
 ghost use Rattle.std.specs.Prelude.{◌≡◌, ◌+◌, IsTrue, OnOk, length};
 ghost use Rattle.pass_outside.specs.Areas.{Image};
 ghost use Rattle.pass_outside.specs.Moments.{IsAtEnd, IsRun, AfterStep, Follows};
-ghost use Rattle.pass_keep.specs.Kept.{IsKept};
 ghost use Rattle.pass_keep.specs.Dirty.{IsAscending, AreSized, AreHeld, Beside};
 
 use pass_outside::{Area, Disk, Failed};

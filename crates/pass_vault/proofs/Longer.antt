@@ -1,0 +1,75 @@
+-- A vault that has seen more of the history.
+use Rattle.std.proofs.Common.{◌≡◌, ◌≤◌, ℕ, List, [], ◌∷◌, ◌++◌, length, take, sym, ◌∙◌, ap, subst, arith}
+use Rattle.std.proofs.lemmas.List.{take-append-le}
+use mathlib.Core.List.{IsPrefix}
+use Rattle.pass_entry.specs.declared.entry.Entry.{Entry}
+use Rattle.pass_entry.specs.declared.record.Record.{Record}
+use Rattle.pass_outside.specs.Moments.{Moment}
+use Rattle.pass_plain.specs.Files.{file_after}
+use Rattle.pass_plain.specs.Legal.{IsLegal}
+use Rattle.pass_plain.specs.Records.{records_of}
+use Rattle.pass_range.specs.Rows.{range}
+use Rattle.pass_range.specs.Sources.{row_source}
+use Rattle.pass_keep.specs.declared.keeper.Keeper.{Keeper}
+use Rattle.pass_keep.specs.Kept.{Story, records_to, source_to, range_to, AreParts}
+use Rattle.pass_keep.proofs.Shown.{longer_shown}
+use Rattle.pass_vault.specs.Vaulted.{Vaulted, story_with}
+use Rattle.pass_vault.specs.Vaults.{past_of, IsVault}
+use Rattle.pass_vault.specs.Cleaned.{IsDirtyAt, AreDirtyOf}
+
+-- the first entries of a history and of one that it begins
+front : (xs ys : List Entry) (n : ℕ) → IsPrefix xs ys → n ≤ length xs → take n ys ≡ take n xs
+front xs ys n pre le = ap (take n) (sym pre.1) ∙ take-append-le n xs pre.0 le
+
+-- its disk keeps it of the longer history
+pub vault_longer : {D : Type 0} (view : D → Moment) (v : Vaulted D) (k : Keeper D) → IsVault view v k → (seen : List Entry) → IsPrefix v.seen seen → IsLegal v.book.session seen
+    → IsVault view (record v { seen = seen }) k
+vault_longer view v k is seen pre legal =
+    subst (λ (h : List Entry). IsVault view (record v { seen = h }) k) pre.1
+    (record {
+      keeper = longer_shown view (past_of v) k is.keeper pre.0
+          (record { sound = is.keeper.story.sound; tells = is.keeper.story.tells; legal = subst (IsLegal v.book.session) (sym pre.1) legal });
+      durable = is.durable;
+      late = is.late;
+    })
+
+-- parts of the one are parts of the other
+pub parts_longer : {D : Type 0} (v w : Vaulted D) (xs ys : List Entry) → w.book.session ≡ v.book.session → IsPrefix xs ys → (upto : ℕ) → upto ≤ length xs
+    → (parts : List (List Record)) (from : ℕ) → from ≤ upto → AreParts (story_with v xs) from upto parts → AreParts (story_with w ys) from upto parts
+parts_longer v w xs ys session pre upto within [] from le are = (are.0, same upto within ∙ are.1 ∙ sym (same from (omega (arith, le, within))))
+  where
+    same : (n : ℕ) → n ≤ length xs → records_to (story_with w ys) n ≡ records_to (story_with v xs) n
+    same n low = ap (λ s. records_of s (take n ys)) session ∙ ap (records_of v.book.session) (front xs ys n pre low)
+parts_longer v w xs ys session pre upto within (part ∷ parts) from le are = (
+  are.0,
+  are.1,
+  are.2,
+  same are.0 (omega (arith, are.2, within)) ∙ are.3 ∙ ap (λ (l : List Record). l ++ part) (sym (same from (omega (arith, le, within)))),
+  parts_longer v w xs ys session pre upto within parts are.0 are.2 are.4,
+)
+  where
+    same : (n : ℕ) → n ≤ length xs → records_to (story_with w ys) n ≡ records_to (story_with v xs) n
+    same n low = ap (λ s. records_of s (take n ys)) session ∙ ap (records_of v.book.session) (front xs ys n pre low)
+
+-- and so are dirty blocks
+module _ (s : Story) (ys : List Entry) (pre : IsPrefix s.history ys) (file clean n : ℕ) (within : n ≤ length s.history) where
+  abbrev longer : Story
+  longer = record s { history = ys }
+
+  same_source : (block : ℕ) → source_to longer n file block ≡ source_to s n file block
+  same_source block = ap (λ (h : List Entry). row_source s.session h file block) (front s.history ys n pre within)
+
+  same_range : (block : ℕ) → range_to longer n file block ≡ range_to s n file block
+  same_range block = ap (λ (h : List Entry). range block (file_after s.session h file)) (front s.history ys n pre within)
+
+  dirty_on : (block : ℕ) → IsDirtyAt s file clean n block → IsDirtyAt longer file clean n block
+  dirty_on block d = record { at = d.at; source = same_source block ∙ d.source; unsynced = d.unsynced }
+
+  dirty_back : (block : ℕ) → IsDirtyAt longer file clean n block → IsDirtyAt s file clean n block
+  dirty_back block d = record { at = d.at; source = sym (same_source block) ∙ d.source; unsynced = d.unsynced }
+
+  pub dirty_longer : (blocks : List (ℕ × List ℕ)) → AreDirtyOf s file clean n blocks → AreDirtyOf longer file clean n blocks
+  dirty_longer blocks are = record {
+    each = λ i x at. let g = are.each i x at in (dirty_on x.0 g.0, g.1 ∙ sym (same_range x.0));
+    all = λ block d. are.all block (dirty_back block d);
+  }

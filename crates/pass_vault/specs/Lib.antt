@@ -1,0 +1,5 @@
+pub mod Vaulted
+pub mod Cleaned
+pub mod Blocks
+pub mod Batches
+pub mod Vaults

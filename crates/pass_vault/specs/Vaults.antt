@@ -1,0 +1,51 @@
+-- What a vault keeps between two calls (this project's own rule).
+use Rattle.std.specs.Prelude.{◌≡◌, ℕ, ◌≤◌, List, ◌∷◌, map}
+use Rattle.std.specs.List.{All}
+use Rattle.pass_entry.specs.declared.entry.Synced.{Synced}
+use Rattle.pass_entry.specs.declared.record.Record.{Record}
+use Rattle.pass_outside.specs.Moments.{Moment}
+use Rattle.pass_log.specs.Log.{log_end, log_opened}
+use Rattle.pass_book.specs.declared.view.VaultSync.{VaultSync}
+use Rattle.pass_book.specs.Syncs.{durable}
+use Rattle.pass_book.specs.Tokens.{VaultState}
+use Rattle.pass_keep.specs.declared.keeper.Keeper.{Keeper}
+use Rattle.pass_keep.specs.Kept.{Story, Noted}
+use Rattle.pass_keep.specs.Keepers.{Past, no_file, disk_of, log_of, durable_of, IsKeeper}
+use Rattle.pass_vault.specs.declared.opening.Opening.{Opening}
+use Rattle.pass_vault.specs.Vaulted.{Vaulted, story_of, noted_of}
+
+-- as it was opened, each crash from then on leaves the session's ceiling: the disk has a sync of no entry there
+abbrev pub opening : ℕ → Noted
+opening calls = record { calls = calls; entries = 0; files = no_file }
+
+abbrev pub past_of : {D : Type 0} → Vaulted D → Past
+past_of v = record { story = story_of v; noted = opening v.ready ∷ map noted_of v.syncs }
+
+-- its disk keeps what it has seen, by the syncs of its list
+pub record IsVault {D : Type 0} (view : D → Moment) (v : Vaulted D) (k : Keeper D) : Type 0 where
+  pub keeper : IsKeeper view (past_of v) k
+  pub durable : durable_of k ≡ durable v.syncs
+  pub late : All (λ s. v.ready ≤ s.calls) v.syncs
+
+-- its parts, as contracts see them
+abbrev pub valued : {D : Type 0} → Keeper D → VaultState → Opening → Vaulted D
+valued k seat o = record {
+  book = seat.book;
+  seen = seat.seen;
+  syncs = seat.syncs;
+  disk = disk_of k;
+  before = o.before.value.items;
+  ceiling = o.ceiling;
+  since = o.since;
+  ready = o.ready;
+  opened = log_opened (log_of k);
+  place = log_end (log_of k);
+}
+
+-- the session with which it is opened
+abbrev pub begun_with : List Record → ℕ → VaultState → ℕ → Story
+begun_with before ceiling seat since = record { before = before; ceiling = ceiling; session = seat.book.session; history = seat.seen; start = since }
+
+-- a sync as it is handed out
+abbrev pub handed_of : VaultSync → Synced
+handed_of s = record { calls = s.calls; entries = s.entries }

@@ -1,0 +1,335 @@
+//! The vault of a session.
+ghost use Rattle.std.specs.Prelude.{◌≡◌, ℕ};
+
+use crate::VaultFault;
+use crate::blocks::blocks_of;
+use crate::frames::frames_of;
+use crate::opening::Opening;
+use crate::steps::{advance, opened, save};
+use pass_book::{Desk, Note, VaultSeat};
+use pass_entry::{Bytes, Pnode, Record, Synced};
+use pass_keep::{KeepFault, Keeper, stage_all};
+use pass_log::{LogFault, LogImage};
+use pass_outside::Disk;
+use std::alloc::Global;
+use std::marker::Model;
+use std::snapshot::Snapshot;
+
+/// What a sync has come to: the disk's count of calls as it returned, and how many entries were durable.
+#[derive(Clone, Copy, Debug, PartialEq, Eq, Drop)]
+pub struct Receipt {
+    pub calls: u64,
+    pub entries: u64,
+}
+
+/// Keeps a session's entries and the data of its files on a disk. Of what a crash leaves its type says all, whatever its
+/// calls answered.
+#[derive(Drop)]
+pub struct Vault<D: Disk> {
+    keeper: Keeper<D>,
+    pub(crate) seat: VaultSeat,
+    opening: Opening,
+}
+
+impl<D: Disk> Model for Vault<D> {
+    ghost use Rattle.std.specs.Coded.{codes};
+    ghost use Rattle.pass_entry.specs.contracts.entry.Entry as entry_type;
+    ghost use Rattle.pass_entry.specs.contracts.record.Record as record_type;
+    ghost use Rattle.pass_plain.specs.contracts.start.Start as start_type;
+    ghost use Rattle.pass_vault.specs.Vaulted.{Vaulted};
+    ghost use Rattle.pass_vault.specs.Vaults.{valued, IsVault};
+
+    ghost Value = { Vaulted D };
+
+    ghost coded = { Prim.hlevel (codes, entry_type.the_row.coded, record_type.the_row.coded, start_type.the_row.coded) };
+
+    ghost view = { λ v. valued v.keeper v.seat v.opening };
+
+    ghost invariant = { λ v. IsVault D.view (valued v.keeper v.seat v.opening) v.keeper };
+}
+
+impl<D: Disk> Vault<D> {
+    ghost use Rattle.std.specs.Prelude.{◌≡◌, ◌⊎◌, ◌+◌, ◌*◌, ◌<◌, ◌≤◌, ◌^◌, ◌++◌, ◌∷◌, [], ℕ, length, map, IsTrue, OnOk, IfOk, IfErr, IsErrOf, Ok, Err};
+    ghost use Rattle.std.specs.List.{All};
+    ghost use Rattle.pass_entry.specs.declared.record.Record.TheVariants.{Ceiling};
+    ghost use Rattle.pass_entry.specs.Ranges.{IsInRange};
+    ghost use Rattle.pass_outside.specs.Areas.{Image};
+    ghost use Rattle.pass_outside.specs.Moments.{IsAtEnd};
+    ghost use Rattle.pass_log.specs.LogImage.{IsRead};
+    ghost use Rattle.pass_log.specs.Records.{spellings};
+    ghost use Rattle.pass_range.specs.Lawful.{Tells};
+    ghost use Rattle.pass_book.specs.declared.view.Role.TheVariants as role;
+    ghost use Rattle.pass_book.specs.Names.{name};
+    ghost use Rattle.pass_book.specs.Numbers.{IsFileNumber};
+    ghost use Rattle.pass_book.specs.Syncs.{called, durable as durable_in};
+    ghost use Rattle.pass_book.specs.Tokens.{HasMet};
+    ghost use Rattle.pass_keep.specs.Kept.{IsBegun, AreParts, records_to};
+    ghost use Rattle.pass_keep.specs.Parts.{lists_of, frames_length};
+    ghost use Rattle.pass_vault.specs.Vaulted.{story_of, story_with, flushed, file_synced};
+    ghost use Rattle.pass_vault.specs.Cleaned.{cleaned, AreDirtyOf, IsRisingBy};
+    ghost use Rattle.pass_vault.specs.Vaults.{handed_of, begun_with};
+    ghost use Rattle.pass_vault.specs.Batches.{parts_of};
+    ghost use Rattle.pass_vault.specs.Blocks.{write_calls};
+
+    /// Opens the vault of a session on a disk of which that image was read, and appends the session's ceiling as one frame.
+    /// `since` is a count of the disk's calls since which each crash leaves the log of the image. After a fault the seat is
+    /// dropped, and the disk is handed back.
+    pub fn open(
+        alloc: Global,
+        disk: D,
+        image: &LogImage,
+        ceiling: Pnode,
+        seat: VaultSeat,
+        since: u64,
+    ) -> Result<Vault<D>, (LogFault, D)>
+        requires fresh { seat.syncs ≡ [] }
+        requires start { Tells image.now.list.items seat.book.session.start }
+        requires in_range { IsInRange (Ceiling ceiling) }
+        requires image { IsRead (D.view disk) image.now }
+        requires since { since ≤ (D.view disk).calls }
+        requires same { IsTrue (D.view disk).tells → (c : Image) → (D.view disk).left_since since c → c.log ≡ (D.view disk).seen.log }
+        requires room { image.now.end ≤ 2 ^ 38 }
+        ensures opened { IfOk result (λ v. v ≡ record {
+          book = seat.book;
+          seen = seat.seen;
+          syncs = [];
+          disk = v.disk;
+          before = image.now.list.items;
+          ceiling = ceiling;
+          since = since;
+          ready = (D.view v.disk).calls;
+          opened = (D.view disk).faults;
+          place = image.now.end + 14;
+        }) }
+        ensures healthy { IfOk result (λ v. (D.view v.disk).faults ≡ (D.view disk).faults) }
+        ensures tells { IfOk result (λ v. (D.view v.disk).tells ≡ (D.view disk).tells) }
+        // A crash at any moment since then leaves the records from before, or these and the ceiling.
+        ensures begun { IfErr result (λ e. IsBegun (begun_with image.now.list.items ceiling seat since) (D.view e.1)) }
+        ensures failed { IfErr result (λ e. ((e.0 ≡ LogFault.DiskFault) × (((D.view disk).faults < (D.view e.1).faults) ⊎ IsAtEnd (D.view e.1))) ⊎ (e.0 ≡ LogFault.NoMemory)) }
+    {
+        let before = Snapshot::of(&image.list);
+        let mut keeper = match opened(alloc, disk, image, ceiling, &seat, since) {
+            Ok(keeper) => keeper,
+            Err((fault, disk)) => return Err((log_fault(fault), disk)),
+        };
+        if keeper.ready().is_err() {
+            let (disk, _syncs) = keeper.into_disk();
+            return Err((LogFault::NoMemory, disk));
+        }
+        let mark = keeper.clean();
+        let opening = Opening {
+            before,
+            ceiling,
+            since,
+            ready: mark.calls,
+        };
+        Ok(Vault {
+            keeper,
+            seat,
+            opening,
+        })
+    }
+
+    /// How many entries from the history's front are durable.
+    pub fn durable(&self) -> u64
+        ensures { result ≡ durable_in self.now.syncs }
+    {
+        self.keeper.durable()
+    }
+
+    /// What the last sync came to.
+    pub fn receipt(&self) -> Receipt
+        requires { 0 < length self.now.syncs }
+        ensures { result ≡ record { calls = called self.now.syncs; entries = durable_in self.now.syncs } }
+    {
+        let syncs = self.keeper.syncs();
+        let last = syncs[syncs.len() - 1];
+        Receipt {
+            calls: last.calls,
+            entries: last.entries,
+        }
+    }
+
+    /// What the vault has seen, for others. It takes no memory.
+    pub fn note(&mut self) -> Note
+        ensures vault { self.new ≡ self.old }
+        ensures note { result ≡ record { book = self.old.book; seen = self.old.seen; syncs = self.old.syncs } }
+    {
+        self.seat.note()
+    }
+
+    /// The vault sees the longer of both histories. It takes no memory.
+    pub fn meet(&mut self, note: Note)
+        requires { note.book ≡ self.old.book }
+        ensures same { self.new ≡ record self.old { seen = self.new.seen } }
+        ensures met { HasMet (name role.Vault 0) self.old.seen self.old.syncs note.seen note.syncs self.new.seen self.new.syncs }
+    {
+        self.seat.meet(note);
+        let _ = self.seat.seen();
+    }
+
+    /// Makes the entries that the note has seen durable. The batch has the records of those from the durable number on; it
+    /// is appended to the log as one frame, and makes no device call where it is empty.
+    ///
+    /// After Broken and NoMemory the vault is as before; after DiskFault it has seen what the note had seen.
+    pub fn flush(&mut self, alloc: Global, batch: &[Record], upto: Note) -> Result<(), VaultFault>
+        requires one { upto.book ≡ self.old.book }
+        requires later { durable_in self.old.syncs ≤ length upto.seen }
+        requires batch { records_to (story_with self.old upto.seen) (length upto.seen) ≡ records_to (story_with self.old upto.seen) (durable_in self.old.syncs) ++ batch.now }
+        requires in_range { All IsInRange batch.now }
+        requires size { length (spellings batch.now) < 2 ^ 32 }
+        requires room { self.old.place + 5 + length (spellings batch.now) < 2 ^ 39 }
+        ensures done { OnOk result (self.new ≡ record self.old {
+          seen = self.new.seen;
+          disk = self.new.disk;
+          place = self.new.place;
+          syncs = self.old.syncs ++ flushed (D.view self.new.disk).calls (length upto.seen) ∷ [];
+        }) }
+        ensures met { OnOk result (HasMet (name role.Vault 0) self.old.seen self.old.syncs upto.seen upto.syncs self.new.seen self.old.syncs) }
+        ensures failed { (opened now : ℕ) → IsErrOf result (KeepFault.DiskFault opened now) → (opened ≡ self.old.opened) × (now ≡ (D.view self.new.disk).faults)
+            × (((D.view self.old.disk).faults < (D.view self.new.disk).faults) ⊎ IsAtEnd (D.view self.new.disk))
+            × (self.new ≡ record self.old { seen = self.new.seen; disk = self.new.disk; place = self.new.place })
+            × HasMet (name role.Vault 0) self.old.seen self.old.syncs upto.seen upto.syncs self.new.seen self.old.syncs }
+        // Exactly where the disk had a fault since the vault was opened.
+        ensures broken { self.old.opened < (D.view self.old.disk).faults → (result ≡ Err (KeepFault.Broken self.old.opened (D.view self.old.disk).faults)) × (self.new ≡ self.old) }
+        ensures only_broken { (opened now : ℕ) → IsErrOf result (KeepFault.Broken opened now) → self.old.opened < (D.view self.old.disk).faults }
+        ensures no_memory { IsErrOf result KeepFault.NoMemory → self.new ≡ self.old }
+        ensures healthy { OnOk result ((D.view self.new.disk).faults ≡ (D.view self.old.disk).faults) }
+        ensures tells { (D.view self.new.disk).tells ≡ (D.view self.old.disk).tells }
+        ensures rises { (D.view self.old.disk).faults ≤ (D.view self.new.disk).faults }
+        ensures later { (D.view self.old.disk).calls ≤ (D.view self.new.disk).calls }
+        ensures calls { OnOk result ((D.view self.new.disk).calls ≡ (D.view self.old.disk).calls + 4 * length (parts_of batch.now)) }
+        ensures place { self.new.place ≤ self.old.place + 5 + length (spellings batch.now) }
+    {
+        self.keeper.ready()?;
+        let frames = frames_of(alloc, batch)?;
+        advance(
+            &mut self.keeper,
+            &mut self.seat,
+            &self.opening,
+            &frames,
+            upto,
+        )
+    }
+
+    /// The same of a batch in parts, each the records of whole entries: one frame for each part. The memory for it is taken
+    /// before the first device call.
+    pub fn flush_parts(
+        &mut self,
+        alloc: Global,
+        parts: &[Vec<Record>],
+        upto: Note,
+    ) -> Result<(), VaultFault>
+        requires one { upto.book ≡ self.old.book }
+        requires parts { AreParts (story_with self.old upto.seen) (durable_in self.old.syncs) (length upto.seen) (lists_of parts.now) }
+        requires in_range { All (λ part. All IsInRange part.items) parts.now }
+        requires size { All (λ part. length (spellings part.items) < 2 ^ 32) parts.now }
+        requires room { self.old.place + frames_length parts.now < 2 ^ 39 }
+        ensures done { OnOk result (self.new ≡ record self.old {
+          seen = self.new.seen;
+          disk = self.new.disk;
+          place = self.new.place;
+          syncs = self.old.syncs ++ flushed (D.view self.new.disk).calls (length upto.seen) ∷ [];
+        }) }
+        ensures met { OnOk result (HasMet (name role.Vault 0) self.old.seen self.old.syncs upto.seen upto.syncs self.new.seen self.old.syncs) }
+        ensures failed { (opened now : ℕ) → IsErrOf result (KeepFault.DiskFault opened now) → (opened ≡ self.old.opened) × (now ≡ (D.view self.new.disk).faults)
+            × (((D.view self.old.disk).faults < (D.view self.new.disk).faults) ⊎ IsAtEnd (D.view self.new.disk))
+            × (self.new ≡ record self.old { seen = self.new.seen; disk = self.new.disk; place = self.new.place })
+            × HasMet (name role.Vault 0) self.old.seen self.old.syncs upto.seen upto.syncs self.new.seen self.old.syncs }
+        // Exactly where the disk had a fault since the vault was opened.
+        ensures broken { self.old.opened < (D.view self.old.disk).faults → (result ≡ Err (KeepFault.Broken self.old.opened (D.view self.old.disk).faults)) × (self.new ≡ self.old) }
+        ensures only_broken { (opened now : ℕ) → IsErrOf result (KeepFault.Broken opened now) → self.old.opened < (D.view self.old.disk).faults }
+        ensures no_memory { IsErrOf result KeepFault.NoMemory → self.new ≡ self.old }
+        ensures healthy { OnOk result ((D.view self.new.disk).faults ≡ (D.view self.old.disk).faults) }
+        ensures tells { (D.view self.new.disk).tells ≡ (D.view self.old.disk).tells }
+        ensures rises { (D.view self.old.disk).faults ≤ (D.view self.new.disk).faults }
+        ensures later { (D.view self.old.disk).calls ≤ (D.view self.new.disk).calls }
+        ensures calls { OnOk result ((D.view self.new.disk).calls ≡ (D.view self.old.disk).calls + 4 * length parts.now) }
+        ensures place { self.new.place ≤ self.old.place + frames_length parts.now }
+    {
+        self.keeper.ready()?;
+        let frames = stage_all(alloc, parts)?;
+        advance(
+            &mut self.keeper,
+            &mut self.seat,
+            &self.opening,
+            &frames,
+            upto,
+        )
+    }
+
+    /// Makes the data of the desk's file durable, for as many entries as are durable. The blocks are those that are dirty
+    /// after these, with their bytes then, by the syncs that the desk has seen. Each is written and the store area is synced
+    /// once; where none is dirty no device call is made.
+    ///
+    /// After Ok and DiskFault the desk has the vault's history and list, after Broken and NoMemory nothing moved.
+    pub fn sync_file(
+        &mut self,
+        alloc: Global,
+        desk: &mut Desk,
+        number: u32,
+        blocks: &[(u32, Bytes)],
+    ) -> Result<Receipt, VaultFault>
+        requires one { desk.old.book ≡ self.old.book }
+        requires number { IsFileNumber self.old.book.session desk.old.seen desk.old.what number }
+        requires dirty { AreDirtyOf (story_of self.old) desk.old.what (cleaned desk.old.what desk.old.syncs) (durable_in self.old.syncs) blocks.now }
+        requires ascending { IsRisingBy blocks.now }
+        ensures done { OnOk result (self.new ≡ record self.old {
+          seen = desk.new.seen;
+          disk = self.new.disk;
+          syncs = self.old.syncs ++ file_synced desk.old.what number (D.view self.new.disk).calls (durable_in self.old.syncs) ∷ [];
+        }) }
+        ensures receipt { IfOk result (λ r. r ≡ record { calls = (D.view self.new.disk).calls; entries = durable_in self.old.syncs }) }
+        ensures desk { OnOk result (desk.new ≡ record desk.old { seen = desk.new.seen; syncs = self.new.syncs }) }
+        ensures met { OnOk result (HasMet (name role.Desk desk.old.what) desk.old.seen desk.old.syncs self.old.seen self.old.syncs desk.new.seen self.old.syncs) }
+        ensures failed { (opened now : ℕ) → IsErrOf result (KeepFault.DiskFault opened now) → (opened ≡ self.old.opened) × (now ≡ (D.view self.new.disk).faults)
+            × (((D.view self.old.disk).faults < (D.view self.new.disk).faults) ⊎ IsAtEnd (D.view self.new.disk))
+            × (self.new ≡ record self.old { seen = desk.new.seen; disk = self.new.disk })
+            × (desk.new ≡ record desk.old { seen = desk.new.seen; syncs = self.new.syncs })
+            × HasMet (name role.Desk desk.old.what) desk.old.seen desk.old.syncs self.old.seen self.old.syncs desk.new.seen self.old.syncs }
+        // Exactly where the disk had a fault since the vault was opened.
+        ensures broken { self.old.opened < (D.view self.old.disk).faults → (result ≡ Err (KeepFault.Broken self.old.opened (D.view self.old.disk).faults)) × (self.new ≡ self.old) × (desk.new ≡ desk.old) }
+        ensures only_broken { (opened now : ℕ) → IsErrOf result (KeepFault.Broken opened now) → self.old.opened < (D.view self.old.disk).faults }
+        ensures no_memory { IsErrOf result KeepFault.NoMemory → (self.new ≡ self.old) × (desk.new ≡ desk.old) }
+        ensures healthy { OnOk result ((D.view self.new.disk).faults ≡ (D.view self.old.disk).faults) }
+        ensures calls { OnOk result ((D.view self.new.disk).calls ≡ (D.view self.old.disk).calls + write_calls (length blocks.now)) }
+        ensures idle { length blocks.now ≡ 0 → self.new.disk ≡ self.old.disk }
+        ensures tells { (D.view self.new.disk).tells ≡ (D.view self.old.disk).tells }
+        ensures rises { (D.view self.old.disk).faults ≤ (D.view self.new.disk).faults }
+        ensures later { (D.view self.old.disk).calls ≤ (D.view self.new.disk).calls }
+    {
+        self.keeper.ready()?;
+        let blocks = blocks_of(alloc, number, blocks)?;
+        save(
+            &mut self.keeper,
+            &mut self.seat,
+            &self.opening,
+            desk,
+            number,
+            &blocks,
+        )
+    }
+
+    /// The disk, and the syncs that came.
+    pub fn into_disk(self) -> (D, Vec<Synced>)
+        ensures disk { result.0 ≡ self.disk }
+        ensures syncs { result.1.items ≡ map handed_of self.syncs }
+    {
+        let Vault { keeper, .. } = self;
+        let (disk, mut syncs) = keeper.into_disk();
+        // The first one is the opening's.
+        syncs.remove(0);
+        (disk, syncs)
+    }
+}
+
+// The fault of a log for that of a keeper that was opened.
+fn log_fault(fault: KeepFault) -> LogFault
+    ensures disk { (opened now : ℕ) → fault ≡ KeepFault.DiskFault opened now → result ≡ LogFault.DiskFault }
+    ensures memory { fault ≡ KeepFault.NoMemory → result ≡ LogFault.NoMemory }
+{
+    match fault {
+        KeepFault::NoMemory => LogFault::NoMemory,
+        _ => LogFault::DiskFault,
+    }
+}

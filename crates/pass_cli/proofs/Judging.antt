@@ -18,17 +18,17 @@ use Rattle.pass_run.specs.declared.status.Status.{Status}
 use Rattle.pass_run.specs.declared.status.Status.TheVariants as status
 use Rattle.pass_run.specs.Ends.{unbuilt_line, AreNamed, EndsAs}
 use Rattle.pass_run.specs.Reading.{is_too_long}
-use Rattle.pass_cli.specs.Answers.{IsRunWord, OfBytes, IsTraced, IsRunnable, IsRefusal, IsRead, IsRecorded, IsJudged, IsReport, is_reported, session_in, lines_in}
+use Rattle.pass_cli.specs.Answers.{OfBytes, IsTraced, IsRunnable, IsRefusal, IsRead, IsRecorded, IsJudged, IsReport, is_reported, session_in, lines_in}
 use Rattle.pass_cli.proofs.StoppedTexts.{too_long_is_none, too_long_stays}
 
 -- what was read of a source
 
 -- a text that is a trace was read to its end
-pub trace_read : (words : List (List ℕ)) (tells : Bool) (text left rest : List ℕ) (before after : ℕ) (trace : Trace) → IsRunWord words → ¬ HasRisen before after
+pub trace_read : (tells : Bool) (text left rest : List ℕ) (before after : ℕ) (trace : Trace) → ¬ HasRisen before after
     → (IsTrue tells → left ≡ text ++ rest) → (IsTrue tells → is_too_long text ≡ false → rest ≡ []) → IsTraceText text → trace.lines.items ≡ trace_of text
-    → OfBytes tells left (λ bytes. IsRead words bytes before after (Ok trace))
-trace_read words tells text left rest before after trace runs unfailed front whole is same =
-    (text, λ t. sym (front t ∙ ap (λ (r : List ℕ). text ++ r) (whole t (short (is_too_long text) refl)) ∙ append-nil text), (record { runs = runs; unfailed = unfailed; text = is }, same))
+    → OfBytes tells left (λ bytes. IsRead bytes before after (Ok trace))
+trace_read tells text left rest before after trace unfailed front whole is same =
+    (text, λ t. sym (front t ∙ ap (λ (r : List ℕ). text ++ r) (whole t (short (is_too_long text) refl)) ∙ append-nil text), (record { unfailed = unfailed; text = is }, same))
   where
     short : (long : Bool) → is_too_long text ≡ long → is_too_long text ≡ false
     short true long = absurd (too_long_is_none text long is)
@@ -41,47 +41,34 @@ fault_goes text rest line why true long none first = too_long_stays text rest lo
 fault_goes text rest line why false short none first =
     subst (λ (t : List ℕ). IsFirstFault t line why) (sym (ap (λ (r : List ℕ). text ++ r) (none short) ∙ append-nil text)) first
 
-pub fault_read : (words : List (List ℕ)) (tells : Bool) (text left rest : List ℕ) (before after line : ℕ) (why : TraceReason) → IsRunWord words → ¬ HasRisen before after
+pub fault_read : (tells : Bool) (text left rest : List ℕ) (before after line : ℕ) (why : TraceReason) → ¬ HasRisen before after
     → (IsTrue tells → left ≡ text ++ rest) → (IsTrue tells → is_too_long text ≡ false → rest ≡ []) → IsFirstFault text line why
-    → OfBytes tells left (λ bytes. IsRead words bytes before after (Err (status.BadTrace line why)))
-fault_read words false text left rest before after line why runs unfailed front whole first = (text, λ t. absurd (cc), (runs, unfailed, first))
-fault_read words true text left rest before after line why runs unfailed front whole first =
-    (text ++ rest, λ t. sym (front t), (runs, unfailed, fault_goes text rest line why (is_too_long text) refl (whole refl) first))
+    → OfBytes tells left (λ bytes. IsRead bytes before after (Err (status.BadTrace line why)))
+fault_read false text left rest before after line why unfailed front whole first = (text, λ t. absurd (cc), (unfailed, first))
+fault_read true text left rest before after line why unfailed front whole first =
+    (text ++ rest, λ t. sym (front t), (unfailed, fault_goes text rest line why (is_too_long text) refl (whole refl) first))
 
 -- what is judged without a run
 
-pub refusal_judged : (words : List (List ℕ)) (bytes : List ℕ) (before after : ℕ) (start : Start) (judged : Status) → judged ≢ status.NoMemory
-    → IsRefusal words bytes before after judged → IsJudged words bytes before after start judged []
-refusal_judged words bytes before after start status.BadWords known bad = record {
-  bad_words = (λ is. bad, λ is. refl);
-  read_fault = (λ is. absurd (cc), λ is. absurd (bad is.0));
-  bad_trace = λ line why. (λ is. absurd (cc), λ is. absurd (bad is.0));
-  not_built = λ line. (λ is. absurd (cc), λ is. absurd (bad is.0.runs));
-  done = (λ is. absurd (cc), λ is. absurd (bad is.0.traced.runs));
-  stuck = (λ is. absurd (cc), λ is. absurd (bad is.0.traced.runs));
-  no_other = (λ is. absurd (cc), λ is. absurd (cc));
-  refused = λ other another. refl;
-  recorded = λ is. absurd (bad is.traced.runs);
-}
-refusal_judged words bytes before after start status.ReadFault known (runs, rose) = record {
-  bad_words = (λ is. absurd (cc), λ bad. absurd (bad runs));
-  read_fault = (λ is. (runs, rose), λ is. refl);
-  bad_trace = λ line why. (λ is. absurd (cc), λ is. absurd (is.1 rose));
+pub refusal_judged : (bytes : List ℕ) (before after : ℕ) (start : Start) (judged : Status) → judged ≢ status.NoMemory
+    → IsRefusal bytes before after judged → IsJudged bytes before after start judged []
+refusal_judged bytes before after start status.ReadFault known rose = record {
+  read_fault = (λ is. rose, λ is. refl);
+  bad_trace = λ line why. (λ is. absurd (cc), λ is. absurd (is.0 rose));
   not_built = λ line. (λ is. absurd (cc), λ is. absurd (is.0.unfailed rose));
   done = (λ is. absurd (cc), λ is. absurd (is.0.traced.unfailed rose));
   stuck = (λ is. absurd (cc), λ is. absurd (is.0.traced.unfailed rose));
-  no_other = (λ is. absurd (cc), λ is. absurd (cc));
+  no_other = refl;
   refused = λ other another. refl;
   recorded = λ is. absurd (is.traced.unfailed rose);
 }
-refusal_judged words bytes before after start (status.BadTrace line why) known (runs, unfailed, first) = record {
-  bad_words = (λ is. absurd (cc), λ bad. absurd (bad runs));
-  read_fault = (λ is. absurd (cc), λ is. absurd (unfailed is.1));
-  bad_trace = λ other another. (λ is. (runs, unfailed, moved other another is), λ is. same other another is.2);
+refusal_judged bytes before after start (status.BadTrace line why) known (unfailed, first) = record {
+  read_fault = (λ is. absurd (cc), λ is. absurd (unfailed is));
+  bad_trace = λ other another. (λ is. (unfailed, moved other another is), λ is. same other another is.1);
   not_built = λ other. (λ is. absurd (cc), λ is. absurd (not_text-from_fault bytes line why first is.0.text));
   done = (λ is. absurd (cc), λ is. absurd (not_text-from_fault bytes line why first is.0.traced.text));
   stuck = (λ is. absurd (cc), λ is. absurd (not_text-from_fault bytes line why first is.0.traced.text));
-  no_other = (λ is. absurd (cc), λ is. absurd (cc));
+  no_other = refl;
   refused = λ other another. refl;
   recorded = λ is. absurd (not_text-from_fault bytes line why first is.traced.text);
 }
@@ -96,27 +83,26 @@ refusal_judged words bytes before after start (status.BadTrace line why) known (
     same other another is =
         let both = same_fault bytes line other why another first is in
         ap (λ n. status.BadTrace n why) both.0 ∙ ap (λ (r : TraceReason). status.BadTrace other r) both.1
-refusal_judged words bytes before after start status.NoMemory known is = absurd (known refl)
-refusal_judged words bytes before after start _ known is = absurd is
+refusal_judged bytes before after start status.NoMemory known is = absurd (known refl)
+refusal_judged bytes before after start _ known is = absurd is
 
 -- what is judged by a run
 
-module _ (words : List (List ℕ)) (bytes : List ℕ) (before after : ℕ) (start : Start) (traced : IsTraced words bytes before after) where
+module _ (bytes : List ℕ) (before after : ℕ) (start : Start) (traced : IsTraced bytes before after) where
   abbrev Judged : Status → List Entry → Type 0
-  Judged judged history = IsJudged words bytes before after start judged history
+  Judged judged history = IsJudged bytes before after start judged history
 
   no_fault : (line : ℕ) (why : TraceReason) → IsFirstFault bytes line why → ⊥
   no_fault line why first = not_text-from_fault bytes line why first traced.text
 
   unbuilt_judged : (line : ℕ) → unbuilt_line (trace_of bytes) ≡ Some line → Judged (status.NotBuilt line) []
   unbuilt_judged line at = record {
-    bad_words = (λ is. absurd (cc), λ bad. absurd (bad traced.runs));
-    read_fault = (λ is. absurd (cc), λ is. absurd (traced.unfailed is.1));
-    bad_trace = λ other why. (λ is. absurd (cc), λ is. absurd (no_fault other why is.2));
+    read_fault = (λ is. absurd (cc), λ is. absurd (traced.unfailed is));
+    bad_trace = λ other why. (λ is. absurd (cc), λ is. absurd (no_fault other why is.1));
     not_built = λ other. (λ is. (traced, at ∙ ap (λ n. Some n) (number_is other is)), λ is. ap (λ n. status.NotBuilt n) (some_number line other (sym at ∙ is.1)));
     done = (λ is. absurd (cc), λ is. absurd (not_none is.0.built));
     stuck = (λ is. absurd (cc), λ is. absurd (not_none is.0.built));
-    no_other = (λ is. absurd (cc), λ is. absurd (cc));
+    no_other = refl;
     refused = λ other another. refl;
     recorded = λ is. absurd (not_none is.built);
   }
@@ -133,32 +119,30 @@ module _ (words : List (List ℕ)) (bytes : List ℕ) (before after : ℕ) (star
   ended_judged : (built : unbuilt_line (trace_of bytes) ≡ None) (history : List Entry) → IsRecorded start bytes history → (judged : Status)
       → EndsAs (session_in start bytes) (lines_in bytes) history judged → Judged judged history
   ended_judged built history recorded status.Done ends = record {
-    bad_words = (λ is. absurd (cc), λ bad. absurd (bad traced.runs));
-    read_fault = (λ is. absurd (cc), λ is. absurd (traced.unfailed is.1));
-    bad_trace = λ line why. (λ is. absurd (cc), λ is. absurd (no_fault line why is.2));
+    read_fault = (λ is. absurd (cc), λ is. absurd (traced.unfailed is));
+    bad_trace = λ line why. (λ is. absurd (cc), λ is. absurd (no_fault line why is.1));
     not_built = λ line. (λ is. absurd (cc), λ is. absurd (let z : ◌≡◌ {A = Option ℕ} None (Some line) = sym built ∙ is.1 in cc));
     done = (λ is. (runnable, ends), λ is. refl);
     stuck = (λ is. absurd (cc), λ is. absurd (let z : true ≡ false = sym is.1.waits ∙ ends is.1.process is.1.of_trace in cc));
-    no_other = (λ is. absurd (cc), λ is. absurd (cc));
+    no_other = refl;
     refused = λ other another. absurd (other refl);
     recorded = λ is. recorded;
   }
     where
-      runnable : IsRunnable words bytes before after
+      runnable : IsRunnable bytes before after
       runnable = record { traced = traced; built = built }
   ended_judged built history recorded status.Stuck ends = record {
-    bad_words = (λ is. absurd (cc), λ bad. absurd (bad traced.runs));
-    read_fault = (λ is. absurd (cc), λ is. absurd (traced.unfailed is.1));
-    bad_trace = λ line why. (λ is. absurd (cc), λ is. absurd (no_fault line why is.2));
+    read_fault = (λ is. absurd (cc), λ is. absurd (traced.unfailed is));
+    bad_trace = λ line why. (λ is. absurd (cc), λ is. absurd (no_fault line why is.1));
     not_built = λ line. (λ is. absurd (cc), λ is. absurd (let z : ◌≡◌ {A = Option ℕ} None (Some line) = sym built ∙ is.1 in cc));
     done = (λ is. absurd (cc), λ is. absurd (let z : true ≡ false = sym ends.waits ∙ is.1 ends.process ends.of_trace in cc));
     stuck = (λ is. (runnable, ends), λ is. refl);
-    no_other = (λ is. absurd (cc), λ is. absurd (cc));
+    no_other = refl;
     refused = λ other another. absurd (another refl);
     recorded = λ is. recorded;
   }
     where
-      runnable : IsRunnable words bytes before after
+      runnable : IsRunnable bytes before after
       runnable = record { traced = traced; built = built }
   ended_judged built history recorded _ ends = absurd ends
 
@@ -195,14 +179,14 @@ pub record Ran (start : Start) (lines : List TraceLine) (judged : Status) (histo
   pub reported : unbuilt_line lines ≡ None → report ≡ report_of start history lines
 
 -- both facts of a judgement
-abbrev pub Judges : List (List ℕ) → List ℕ → ℕ → ℕ → Start → Status → List Entry → List ℕ → Type 0
-Judges words bytes before after start judged history report =
-    IsJudged words bytes before after start judged history × IsReport start bytes judged history report
+abbrev pub Judges : List ℕ → ℕ → ℕ → Start → Status → List Entry → List ℕ → Type 0
+Judges bytes before after start judged history report =
+    IsJudged bytes before after start judged history × IsReport start bytes judged history report
 
-pub ran_judges : (words : List (List ℕ)) (bytes : List ℕ) (before after : ℕ) (start : Start) (lines : List TraceLine) (judged : Status) (history : List Entry) (report : List ℕ)
-    → IsTraced words bytes before after → lines ≡ trace_of bytes → Ran start lines judged history report → Judges words bytes before after start judged history report
-ran_judges words bytes before after start lines judged history report traced same ran =
-    (run_judged words bytes before after start traced judged history r.not_built r.not_begun (λ built. record { run = r.run built; named = r.named built; graph = r.graph built }) r.ends, by (unbuilt_line (trace_of bytes)) refl)
+pub ran_judges : (bytes : List ℕ) (before after : ℕ) (start : Start) (lines : List TraceLine) (judged : Status) (history : List Entry) (report : List ℕ)
+    → IsTraced bytes before after → lines ≡ trace_of bytes → Ran start lines judged history report → Judges bytes before after start judged history report
+ran_judges bytes before after start lines judged history report traced same ran =
+    (run_judged bytes before after start traced judged history r.not_built r.not_begun (λ built. record { run = r.run built; named = r.named built; graph = r.graph built }) r.ends, by (unbuilt_line (trace_of bytes)) refl)
   where
     r : Ran start (trace_of bytes) judged history report
     r = subst (λ (ls : List TraceLine). Ran start ls judged history report) same ran
@@ -211,15 +195,15 @@ ran_judges words bytes before after start lines judged history report traced sam
     by None built reported = r.reported built
     by (Some line) at reported = absurd (let z : false ≡ true = sym (ap is_reported ((r.not_built line).1 at)) ∙ reported in cc)
 
-pub refused_judges : (words : List (List ℕ)) (bytes : List ℕ) (before after : ℕ) (start : Start) (s judged : Status) (history : List Entry) (report : List ℕ)
-    → judged ≡ s → history ≡ [] → judged ≢ status.NoMemory → IsRefusal words bytes before after s → Judges words bytes before after start judged history report
-refused_judges words bytes before after start s judged history report same none known refusal = (
-  subst (λ (t : Status). IsJudged words bytes before after start t history) (sym same)
-      (subst (λ (h : List Entry). IsJudged words bytes before after start s h) (sym none) (refusal_judged words bytes before after start s (λ is. known (same ∙ is)) refusal)),
+pub refused_judges : (bytes : List ℕ) (before after : ℕ) (start : Start) (s judged : Status) (history : List Entry) (report : List ℕ)
+    → judged ≡ s → history ≡ [] → judged ≢ status.NoMemory → IsRefusal bytes before after s → Judges bytes before after start judged history report
+refused_judges bytes before after start s judged history report same none known refusal = (
+  subst (λ (t : Status). IsJudged bytes before after start t history) (sym same)
+      (subst (λ (h : List Entry). IsJudged bytes before after start s h) (sym none) (refusal_judged bytes before after start s (λ is. known (same ∙ is)) refusal)),
   λ reported. absurd (by s refusal (sym (ap is_reported same) ∙ reported)),
 )
   where
-    by : (t : Status) → IsRefusal words bytes before after t → is_reported t ≡ true → ⊥
+    by : (t : Status) → IsRefusal bytes before after t → is_reported t ≡ true → ⊥
     by status.Done is reported = is
     by status.Stuck is reported = is
     by _ is reported = cc

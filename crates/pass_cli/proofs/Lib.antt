@@ -1,4 +1,6 @@
+pub mod Counted
+pub mod Checking
 pub mod StoppedTexts
 pub mod Judging
-pub mod Words
+pub mod OneWord
 pub mod Written

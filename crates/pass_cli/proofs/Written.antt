@@ -19,3 +19,11 @@ pub stands_as : (answered judged : Status) → answered ≢ status.NoMemory → 
 stands_as answered judged known (inl same) = inl same
 stands_as answered judged known (inr (inl fault)) = inr fault
 stands_as answered judged known (inr (inr starved)) = absurd (known starved)
+
+-- but for Done no other status than one with a report has another text than its own
+pub refusal_text : (s : Status) (report : List ℕ) → s ≢ status.Done → (IsTrue (is_reported s) → s ≡ status.Done) → text_with s report ≡ status_text s
+refusal_text s report other only = by (is_reported s) (status_text s) (λ reported. other (only reported))
+  where
+    by : (reported : Bool) (own : List ℕ) → (IsTrue reported → ⊥) → cond reported report own ≡ own
+    by true own none = absurd (none refl)
+    by false own none = refl

@@ -36,29 +36,27 @@ pub record IsReadInTime (left rest : List ℕ) : Type 0 where
   pub whole : is_too_long text ≡ false → rest ≡ []
   pub stops : StopsInTime text
 
--- the words are `run`, the source didn't fail, and its bytes are the text of a trace
-pub record IsTraced (words : List (List ℕ)) (bytes : List ℕ) (before after : ℕ) : Type 0 where
-  pub runs : IsRunWord words
+-- the source didn't fail, and its bytes are the text of a trace
+pub record IsTraced (bytes : List ℕ) (before after : ℕ) : Type 0 where
   pub unfailed : ¬ HasRisen before after
   pub text : IsTraceText bytes
 
 -- and the program makes each call of the trace
-pub record IsRunnable (words : List (List ℕ)) (bytes : List ℕ) (before after : ℕ) : Type 0 where
-  pub traced : IsTraced words bytes before after
+pub record IsRunnable (bytes : List ℕ) (before after : ℕ) : Type 0 where
+  pub traced : IsTraced bytes before after
   pub built : unbuilt_line (trace_of bytes) ≡ None
 
--- by which status the words, the source and its bytes are refused before a trace is run
-abbrev pub IsRefusal : List (List ℕ) → List ℕ → ℕ → ℕ → Status → Type 0
-IsRefusal words bytes before after status.BadWords = ¬ IsRunWord words
-IsRefusal words bytes before after status.ReadFault = IsRunWord words × HasRisen before after
-IsRefusal words bytes before after (status.BadTrace line reason) = IsRunWord words × (¬ HasRisen before after) × IsFirstFault bytes line reason
-IsRefusal words bytes before after status.NoMemory = Unit {0}
-IsRefusal words bytes before after _ = ⊥
+-- by which status the source and its bytes are refused before a trace is run
+abbrev pub IsRefusal : List ℕ → ℕ → ℕ → Status → Type 0
+IsRefusal bytes before after status.ReadFault = HasRisen before after
+IsRefusal bytes before after (status.BadTrace line reason) = (¬ HasRisen before after) × IsFirstFault bytes line reason
+IsRefusal bytes before after status.NoMemory = Unit {0}
+IsRefusal bytes before after _ = ⊥
 
 -- what is read: the trace of the bytes, or a status that refuses them
-abbrev pub IsRead : List (List ℕ) → List ℕ → ℕ → ℕ → Result Trace Status → Type 0
-IsRead words bytes before after (Ok trace) = IsTraced words bytes before after × (trace.lines.items ≡ trace_of bytes)
-IsRead words bytes before after (Err refusal) = IsRefusal words bytes before after refusal
+abbrev pub IsRead : List ℕ → ℕ → ℕ → Result Trace Status → Type 0
+IsRead bytes before after (Ok trace) = IsTraced bytes before after × (trace.lines.items ≡ trace_of bytes)
+IsRead bytes before after (Err refusal) = IsRefusal bytes before after refusal
 
 -- the trace of the bytes, and the session that runs it
 abbrev pub lines_in : List ℕ → List Line
@@ -73,19 +71,27 @@ pub record IsRecorded (start : Start) (bytes : List ℕ) (history : List Entry) 
   pub named : AreNamed (session_in start bytes) (lines_in bytes) history
   pub graph : IsFaithful (session_list [] (session_in start bytes) history) [] (session_in start bytes) history
 
--- What is judged by the words, the bytes of the source, and its count of faults before and after, and with which history.
--- The words come first, then the source's faults, then the trace's, then its calls; and then the trace is run.
-pub record IsJudged (words : List (List ℕ)) (bytes : List ℕ) (before after : ℕ) (start : Start) (judged : Status) (history : List Entry) : Type 0 where
-  pub bad_words : judged ≡ status.BadWords ↔ (¬ IsRunWord words)
-  pub read_fault : judged ≡ status.ReadFault ↔ (IsRunWord words × HasRisen before after)
-  pub bad_trace : (line : ℕ) (reason : TraceReason) → judged ≡ status.BadTrace line reason ↔ (IsRunWord words × (¬ HasRisen before after) × IsFirstFault bytes line reason)
-  pub not_built : (line : ℕ) → judged ≡ status.NotBuilt line ↔ (IsTraced words bytes before after × (unbuilt_line (trace_of bytes) ≡ Some line))
+-- the statuses with which a run may end
+abbrev pub ends_run : Status → Bool
+ends_run status.ReadFault = true
+ends_run (status.BadTrace line reason) = true
+ends_run (status.NotBuilt line) = true
+ends_run status.Stuck = true
+ends_run status.Done = true
+ends_run _ = false
+
+-- What is judged by the bytes of the source, and its count of faults before and after, and with which history. The source's
+-- faults come first, then the trace's, then its calls; and then the trace is run.
+pub record IsJudged (bytes : List ℕ) (before after : ℕ) (start : Start) (judged : Status) (history : List Entry) : Type 0 where
+  pub read_fault : judged ≡ status.ReadFault ↔ HasRisen before after
+  pub bad_trace : (line : ℕ) (reason : TraceReason) → judged ≡ status.BadTrace line reason ↔ ((¬ HasRisen before after) × IsFirstFault bytes line reason)
+  pub not_built : (line : ℕ) → judged ≡ status.NotBuilt line ↔ (IsTraced bytes before after × (unbuilt_line (trace_of bytes) ≡ Some line))
   -- done where no process is open, stuck where one is and none can move; there is no third end
-  pub done : judged ≡ status.Done ↔ (IsRunnable words bytes before after × NoneOpen (session_in start bytes) (lines_in bytes) history)
-  pub stuck : judged ≡ status.Stuck ↔ (IsRunnable words bytes before after × IsStuck (session_in start bytes) (lines_in bytes) history)
-  pub no_other : (judged ≢ status.WriteFault) × (judged ≢ status.NoMemory)
+  pub done : judged ≡ status.Done ↔ (IsRunnable bytes before after × NoneOpen (session_in start bytes) (lines_in bytes) history)
+  pub stuck : judged ≡ status.Stuck ↔ (IsRunnable bytes before after × IsStuck (session_in start bytes) (lines_in bytes) history)
+  pub no_other : ends_run judged ≡ true
   pub refused : judged ≢ status.Done → judged ≢ status.Stuck → history ≡ []
-  pub recorded : IsRunnable words bytes before after → IsRecorded start bytes history
+  pub recorded : IsRunnable bytes before after → IsRecorded start bytes history
 
 -- the trace was run, so that there is a report
 abbrev pub is_reported : Status → Bool
@@ -118,13 +124,13 @@ pub record SinkSeen : Type 0 where
   pub before : List ℕ
   pub after : List ℕ
 
--- What stands behind an answer other than want of memory: the bytes that the source had left, where it tells them; the
--- status that was judged by them, which is the answer unless the sink failed; and its text, which the sink took
-pub record IsAnswer (words : List (List ℕ)) (source : SourceSeen) (sink : SinkSeen) (start : Start) (answered : Status) (history : List Entry) : Type 0 where
+-- What stands behind the answer of a run, other than want of memory: the bytes that the source had left, where it tells
+-- them; the status that was judged by them, which is the answer unless the sink failed; and its text, which the sink took
+pub record IsAnswer (source : SourceSeen) (sink : SinkSeen) (start : Start) (answered : Status) (history : List Entry) : Type 0 where
   pub bytes : List ℕ
   pub told : IsTrue source.tells → bytes ≡ source.left
   pub judged : Status
-  pub by : IsJudged words bytes source.before source.after start judged history
+  pub by : IsJudged bytes source.before source.after start judged history
   pub stands : (answered ≡ judged) ⊎ (answered ≡ status.WriteFault)
   pub whole : answered ≢ status.WriteFault → IsTrue sink.tells → sink.after ≡ sink.before ++ text_of start bytes judged history
   pub part : answered ≡ status.WriteFault → IsTrue sink.tells → IsPart (text_of start bytes judged history) sink.before sink.after

@@ -1,12 +1,17 @@
 //! The calls that the program's words make, over any source, sink, disk and gate.
 #![tactic(auto)]
 
+mod asking;
+mod counting;
+mod listing;
 mod main_call;
 mod reading;
 #[cfg(test)]
 mod tests;
 mod verdict;
+mod words;
 mod writing;
 
+pub use asking::{Asked, ask};
 pub use main_call::{Ended, pass_main};
 pub use pass_run::Status;

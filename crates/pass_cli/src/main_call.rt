@@ -1,15 +1,19 @@
 //! The call that the program makes.
 ghost use Rattle.std.specs.Prelude.{◌≡◌, ◌≢◌, ◌↔◌, IsTrue, [], map, string_bytes};
+ghost use Rattle.pass_outside.specs.Areas.{Image};
 ghost use Rattle.pass_outside.specs.Faults.{HasRisen};
 ghost use Rattle.pass_run.specs.Ends.{IsEmptyStart};
 ghost use Rattle.pass_cli.specs.Answers.{IsRunWord, IsReadInTime, IsAnswer};
+ghost use Rattle.pass_cli.specs.Checks.{IsCheckWord, IsAsked};
 
+use crate::asking::{Asked, ask};
 use crate::verdict::judge;
+use crate::words::is_run;
 use crate::writing::write_answer;
 use pass_entry::{Entry, Record, Synced};
 use pass_outside::{Disk, Gate, Sink, Source};
 use pass_plain::Start;
-use pass_run::{RunEnd, Status};
+use pass_run::{RunEnd, Status, empty_start};
 use std::alloc::Global;
 use std::sync::Wait;
 use std::thread::Threads;
@@ -26,7 +30,8 @@ pub struct Ended<D> {
     pub disk: D,
 }
 
-/// Runs the trace of the source and writes the report to the sink. `words` are the program's words after the folder.
+/// Runs the trace of the source and writes the report to the sink, or answers the words of another command. `words` are the
+/// program's words after the folder.
 pub fn pass_main<R: Threads + Wait + Sync, S: Source, K: Sink, D: Disk + Send, G: Gate + Sync>(
     _rt: &R,
     alloc: Global,
@@ -36,7 +41,45 @@ pub fn pass_main<R: Threads + Wait + Sync, S: Source, K: Sink, D: Disk + Send, G
     disk: D,
     gate: &G,
 ) -> Ended<D>
-    ensures answer { result.status ≢ Status.NoMemory → IsAnswer (map string_bytes words.now)
+    ensures run { IsRunWord (map string_bytes words.now) → result.status ≢ Status.NoMemory → IsAnswer
+        (record { tells = S.tells; left = S.left source.old; before = S.fault_count source.old; after = S.fault_count source.new })
+        (record { tells = K.tells; before = K.taken sink.old; after = K.taken sink.new })
+        result.start result.status result.history.items }
+    // Every other command is answered by `ask`.
+    ensures asked { ¬ IsRunWord (map string_bytes words.now) → result.status ≢ Status.NoMemory → IsAsked (map string_bytes words.now) (D.view disk) (D.view result.disk)
+        (record { tells = K.tells; before = K.taken sink.old; after = K.taken sink.new }) result.status }
+    ensures write_fault { result.status ≢ Status.NoMemory → (result.status ≡ Status.WriteFault
+        ↔ HasRisen (K.fault_count sink.old) (K.fault_count sink.new)) }
+    ensures no_memory { result.status ≡ Status.NoMemory → result.history.items ≡ [] }
+    ensures unwritten { result.status ≡ Status.NoMemory → sink.new ≡ sink.old }
+    // Only a run reads the source.
+    ensures unread { ¬ IsRunWord (map string_bytes words.now) → source.new ≡ source.old }
+    // The source is read to its end, or to where its bytes are seen to be too long for a trace.
+    ensures stops { IsTrue S.tells → IsRunWord (map string_bytes words.now) → result.status ≢ Status.NoMemory → ¬ HasRisen (S.fault_count source.old) (S.fault_count source.new)
+        → IsReadInTime (S.left source.old) (S.left source.new) }
+    ensures unopened { ¬ IsCheckWord (map string_bytes words.now) → result.disk ≡ disk }
+    ensures crash { (c : Image) → (D.view result.disk).may_leave c → (D.view disk).may_leave c }
+    ensures no_history { ¬ IsRunWord (map string_bytes words.now) → result.history.items ≡ [] }
+    ensures syncs { result.syncs.items ≡ [] }
+    ensures list { result.list.items ≡ [] }
+    ensures start { IsEmptyStart result.start }
+{
+    if is_run(words) {
+        run_words(alloc, source, sink, disk, gate)
+    } else {
+        asked(alloc, ask(alloc, words, sink, disk))
+    }
+}
+
+// Runs the trace of the source.
+fn run_words<S: Source, K: Sink, D: Disk + Send, G: Gate + Sync>(
+    alloc: Global,
+    source: &mut S,
+    sink: &mut K,
+    disk: D,
+    gate: &G,
+) -> Ended<D>
+    ensures answer { result.status ≢ Status.NoMemory → IsAnswer
         (record { tells = S.tells; left = S.left source.old; before = S.fault_count source.old; after = S.fault_count source.new })
         (record { tells = K.tells; before = K.taken sink.old; after = K.taken sink.new })
         result.start result.status result.history.items }
@@ -44,10 +87,7 @@ pub fn pass_main<R: Threads + Wait + Sync, S: Source, K: Sink, D: Disk + Send, G
         ↔ HasRisen (K.fault_count sink.old) (K.fault_count sink.new)) }
     ensures no_memory { result.status ≡ Status.NoMemory → result.history.items ≡ [] }
     ensures unwritten { result.status ≡ Status.NoMemory → sink.new ≡ sink.old }
-    // Words that aren't a command's are refused before the source is read.
-    ensures unread { ¬ IsRunWord (map string_bytes words.now) → source.new ≡ source.old }
-    // The source is read to its end, or to where its bytes are seen to be too long for a trace.
-    ensures stops { IsTrue S.tells → IsRunWord (map string_bytes words.now) → result.status ≢ Status.NoMemory → ¬ HasRisen (S.fault_count source.old) (S.fault_count source.new)
+    ensures stops { IsTrue S.tells → result.status ≢ Status.NoMemory → ¬ HasRisen (S.fault_count source.old) (S.fault_count source.new)
         → IsReadInTime (S.left source.old) (S.left source.new) }
     ensures disk { result.disk ≡ disk }
     ensures syncs { result.syncs.items ≡ [] }
@@ -62,13 +102,33 @@ pub fn pass_main<R: Threads + Wait + Sync, S: Source, K: Sink, D: Disk + Send, G
         start,
         report,
         disk,
-    } = judge(alloc, words, source, disk, gate);
+    } = judge(alloc, source, disk, gate);
     Ended {
         status: write_answer(alloc, sink, status, &report),
         history,
         syncs,
         list,
         start,
+        disk,
+    }
+}
+
+// The end of a command that runs no trace.
+fn asked<D>(alloc: Global, asked: Asked<D>) -> Ended<D>
+    ensures status { result.status ≡ asked.status }
+    ensures disk { result.disk ≡ asked.disk }
+    ensures history { result.history.items ≡ [] }
+    ensures syncs { result.syncs.items ≡ [] }
+    ensures list { result.list.items ≡ [] }
+    ensures start { IsEmptyStart result.start }
+{
+    let Asked { status, disk } = asked;
+    Ended {
+        status,
+        history: Vec::new(alloc),
+        syncs: Vec::new(alloc),
+        list: Vec::new(alloc),
+        start: empty_start(alloc),
         disk,
     }
 }

@@ -2,7 +2,7 @@ use Rattle.std.proofs.Common.{◌≡◌, ℕ, List, ◌++◌, ap, ◌∙◌, sub
 use Rattle.pass_run.specs.Writing.{IsPart}
 use Rattle.pass_cli.specs.Answers.{text_with, text_of}
 use Rattle.pass_cli.proofs.Written.{same_text, stands_as}
-use Rattle.pass_cli.proofs.main_call.pass_main.Goals as goal
+use Rattle.pass_cli.proofs.main_call.run_words.Goals as goal
 
 pub returns-clause-answer : goal.returns-clause-answer
 returns-clause-answer g c = λ known.
@@ -22,4 +22,4 @@ returns-clause-answer g c = λ known.
     }
 
 pub returns-clause-stops : goal.returns-clause-stops
-returns-clause-stops g c = λ t runs known. c.judge-status.ensures.stops t runs (λ is. known (c.write_answer.ensures.starved is))
+returns-clause-stops g c = λ t known. c.judge-status.ensures.stops t (λ is. known (c.write_answer.ensures.starved is))

@@ -1,5 +1,4 @@
 use Rattle.std.proofs.Common.{◌∙◌}
-use Rattle.std.specs.Prelude.{map, string_bytes}
 use Rattle.pass_cli.proofs.Judging.{ran_judges, refused_judges, same_error}
 use Rattle.pass_cli.proofs.verdict.judge.Goals as goal
 
@@ -10,7 +9,7 @@ returns-in-Ok-clause-judged g c = λ known.
     let r = c.run_trace.result in (
       bytes,
       told,
-      ran_judges (map string_bytes c.args.words.now) bytes _ _ r.start c.in-Ok.trace.lines.items r.status r.history.items r.report.items traced same
+      ran_judges bytes _ _ r.start c.in-Ok.trace.lines.items r.status r.history.items r.report.items traced same
           (record {
             not_built = e.not_built known;
             not_begun = λ some. (e.not_begun some).0;
@@ -26,7 +25,7 @@ pub returns-in-Err-clause-judged : goal.returns-in-Err-clause-judged
 returns-in-Err-clause-judged g c = λ known.
     let (bytes, told, refusal) = c.in-Err.ensures.read in
     let r = c.refused.result in
-    (bytes, told, refused_judges (map string_bytes c.args.words.now) bytes _ _ r.start c.in-Err.status r.status r.history.items r.report.items c.refused.ensures.status c.refused.ensures.history known refusal)
+    (bytes, told, refused_judges bytes _ _ r.start c.in-Err.status r.status r.history.items r.report.items c.refused.ensures.status c.refused.ensures.history known refusal)
 
 pub returns-in-Err-clause-stops : goal.returns-in-Err-clause-stops
-returns-in-Err-clause-stops g c = λ t runs known. c.in-Err.ensures.stops t runs (λ is. known (c.refused.ensures.status ∙ same_error _ _ is))
+returns-in-Err-clause-stops g c = λ t known. c.in-Err.ensures.stops t (λ is. known (c.refused.ensures.status ∙ same_error _ _ is))

@@ -1,8 +1,8 @@
 use Rattle.std.proofs.Common.{ap, ◌∙◌}
 use Rattle.std.specs.Prelude.{string_bytes, nat_eq, codes}
 use Rattle.std.specs.Cmp.Lexicographic.{pointwise}
-use Rattle.pass_cli.proofs.Words.{one_word}
-use Rattle.pass_cli.proofs.reading.is_run.Goals as goal
+use Rattle.pass_cli.proofs.OneWord.{one_word}
+use Rattle.pass_cli.proofs.words.is_run.Goals as goal
 
 pub returns-in-len1 : goal.returns-in-len1
 returns-in-len1 c =

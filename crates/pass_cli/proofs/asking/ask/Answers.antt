@@ -1,0 +1,27 @@
+use Rattle.std.proofs.Common.{◌≡◌, ℕ, List, refl, sym, ap, ◌∙◌, subst}
+use Rattle.std.specs.Prelude.{map, string_bytes}
+use Rattle.pass_run.specs.declared.status.Status.{Status}
+use Rattle.pass_cli.specs.Answers.{text_with}
+use Rattle.pass_cli.specs.Checks.{IsCheckText}
+use Rattle.pass_cli.proofs.Written.{stands_as, refusal_text}
+use Rattle.pass_cli.proofs.asking.ask.Goals as goal
+
+pub returns-clause-answer : goal.returns-clause-answer
+returns-clause-answer g c = λ known.
+    let j = c.judge_words-judged in
+    let s = j.result.status in
+    let w = c.write_answer.ensures in
+    let (bytes, told, (by, says)) = j.ensures.judged (λ is. known (w.starved is)) in
+    record {
+      bytes = bytes;
+      told = told;
+      judged = s;
+      by = by;
+      text = text_with s c.deref.result.now;
+      answer = λ done. subst (λ (t : List ℕ). IsCheckText (g.D.Disk.view c.args.disk) bytes t)
+          (sym (ap (λ (t : Status). text_with t c.deref.result.now) done ∙ c.deref.ensures.value)) (says done);
+      refusal = λ other. refusal_text s c.deref.result.now other (λ reported. (j.ensures.reported reported).0);
+      stands = stands_as c.write_answer.result s known w.stands;
+      whole = λ whole. w.whole whole known;
+      part = w.part;
+    }

@@ -1,36 +1,65 @@
-//! Runs the trace on standard input, and writes its report to standard output. The first argument is the
-//! folder of the store, and the others are the words of the command.
+//! Runs a command on the store of a folder. The first argument is the folder, and the others are the words of the command;
+//! a trace comes on standard input, and the answer goes to standard output.
 #![tactic(auto)]
 
-use pass_cli::{Status, pass_main};
-use pass_host::{HostSink, HostSource};
+use pass_cli::{Status, ask, pass_main};
+use pass_host::{HostDisk, HostFault, HostSink, HostSource};
 use pass_outside::{NoDisk, OpenGate};
 use std::process::ExitCode;
 use std::{env, io};
 
+/// The exit status where the folder or one of its files can't be opened.
+const UNOPENED: u8 = 11;
+
 fn main(rt: HostRuntime) -> ExitCode {
-    let Ok(words) = command_words(&rt) else {
+    let Ok(arguments) = arguments(&rt) else {
         return ExitCode::from(Status::NoMemory.number());
+    };
+    let [folder, words @ ..] = arguments.as_slice() else {
+        return ExitCode::from(without_folder(&rt));
+    };
+    // The folder is opened before the words are judged.
+    let disk = match HostDisk::open(&rt, rt.alloc(), folder.as_str()) {
+        Ok(disk) => disk,
+        Err(fault) => return ExitCode::from(unopened(&rt, fault)),
     };
     let mut source = HostSource::new(rt.reader());
     let mut sink = HostSink::new(io::writer(&rt));
     let ended = pass_main(
         &rt,
         rt.alloc(),
-        &words,
+        words,
         &mut source,
         &mut sink,
-        NoDisk::new(),
+        disk,
         &OpenGate,
     );
     ExitCode::from(ended.status.number())
 }
 
-// The arguments after the folder; none where one of them isn't text, since no command has such a word.
-fn command_words(rt: &HostRuntime) -> io::Result<Vec<String>> {
+// The arguments; none where one of them isn't text, since no command has such a word.
+fn arguments(rt: &HostRuntime) -> io::Result<Vec<String>> {
     match env::args(rt) {
-        Ok(words) => Ok(words.skip(2).collect(rt.alloc())?),
+        Ok(words) => Ok(words.skip(1).collect(rt.alloc())?),
         Err(error) if error.kind() == io::ErrorKind::InvalidData => Ok(Vec::new(rt.alloc())),
         Err(error) => Err(error),
+    }
+}
+
+// Refuses a call without a folder, which has no words either.
+fn without_folder(rt: &HostRuntime) -> u8 {
+    let mut sink = HostSink::new(io::writer(rt));
+    let asked = ask(rt.alloc(), &[], &mut sink, NoDisk::new());
+    asked.status.number()
+}
+
+// Says that the folder can't be opened, unless it was for want of memory.
+fn unopened(rt: &HostRuntime, fault: HostFault) -> u8 {
+    match fault {
+        HostFault::Failed => {
+            let _written = println!(rt; "fault open");
+            UNOPENED
+        }
+        HostFault::NoMemory => Status::NoMemory.number(),
     }
 }

@@ -1,4 +1,6 @@
 //! Places, and what the holders of tokens are told.
+mod two_threads;
+
 use crate::Book;
 use pass_plain::Start;
 use std::test::*;

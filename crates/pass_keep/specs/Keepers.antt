@@ -47,11 +47,6 @@ pub record IsKeeper {D : Type 0} (view : D → Moment) (past : Past) (k : Keeper
   pub kept : IsKept past.story (view k.disk) k.log k.durable past.noted
   pub syncs : k.syncs.items ≡ map synced_of past.noted
 
--- a sync's blocks: of these files no other block is dirty
-pub record Syncing : Type 0 where
-  pub past : Past
-  pub files : ℕ → Bool
-
 -- room for one sync more
 abbrev pub HasSpare : {D : Type 0} → Keeper D → Type 0
 HasSpare k = vec_len k.syncs < vec_capacity k.syncs

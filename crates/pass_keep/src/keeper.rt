@@ -22,7 +22,7 @@ pub struct Keeper<D> {
 }
 
 impl<D: Disk> Keeper<D> {
-    ghost use Rattle.std.specs.Prelude.{◌≡◌, ◌⊎◌, ◌+◌, ◌*◌, ◌<◌, ◌≤◌, ◌^◌, ◌++◌, ◌∷◌, [], ℕ, length, List, Vec, slice_get, Some, OnOk, OnErr, IsErrOf, Err, IsTrue, IfOk, IfErr};
+    ghost use Rattle.std.specs.Prelude.{◌≡◌, ◌⊎◌, ◌+◌, ◌*◌, ◌<◌, ◌≤◌, ◌^◌, ◌++◌, ◌∷◌, [], ℕ, length, Bool, List, Vec, slice_get, Some, OnOk, OnErr, IsErrOf, Err, IsTrue, IfOk, IfErr};
     ghost use Rattle.std.specs.List.{All};
     ghost use Rattle.std.specs.declared.alloc.Global.{Global as AnyGlobal};
     ghost use Rattle.pass_entry.specs.declared.record.Record.{Record as AnyRecord};
@@ -36,7 +36,7 @@ impl<D: Disk> Keeper<D> {
     ghost use Rattle.pass_keep.specs.Kept.{Story, IsStory, IsBegun, AreParts};
     ghost use Rattle.pass_keep.specs.Dirty.{AreDirty, AreSized, IsAscending};
     ghost use Rattle.pass_keep.specs.Parts.{lists_of, frames_length, bytes_length};
-    ghost use Rattle.pass_keep.specs.Keepers.{disk_of, log_of, durable_of, syncs_of, Past, with_sync, no_file, IsKeeper, Syncing, HasSpare, KeptStill, KeptFlushed, KeptUnflushed, KeptSynced, KeptUnsynced};
+    ghost use Rattle.pass_keep.specs.Keepers.{disk_of, log_of, durable_of, syncs_of, Past, with_sync, no_file, IsKeeper, HasSpare, KeptStill, KeptFlushed, KeptUnflushed, KeptSynced, KeptUnsynced};
 
     /// Begins a session on a disk of which that log image was read, with nothing written since the session's start, and
     /// appends the session's ceiling as one frame. After a fault the disk is handed back.
@@ -261,13 +261,11 @@ impl<D: Disk> Keeper<D> {
 
     /// Writes dirty blocks, with the bytes that they have after the durable entries, and syncs the store area once.
     pub fn sync_blocks(&mut self, blocks: &[Block<'_>]) -> Result<(), KeepFault>
-        ghost syncing: { Syncing }
-        requires keeper { IsKeeper D.view syncing.past self.old }
-        requires dirty { AreDirty syncing.past.story syncing.past.noted (durable_of self.old) syncing.files blocks.now }
+        requires dirty { (past : Past) × (files : ℕ → Bool) × IsKeeper D.view past self.old × AreDirty past.story past.noted (durable_of self.old) files blocks.now }
         requires ascending { IsAscending blocks.now }
 
-        ensures kept { OnOk result (IsKeeper D.view (with_sync syncing.past (D.view (disk_of self.new)).calls (durable_of self.old) syncing.files) self.new) }
-        ensures err { OnErr result (IsKeeper D.view syncing.past self.new) }
+        ensures kept { OnOk result (KeptSynced D.view blocks.now self.old self.new) }
+        ensures err { OnErr result (KeptUnsynced D.view blocks.now self.old self.new) }
         ensures durable { durable_of self.new ≡ durable_of self.old }
         ensures log { log_of self.new ≡ log_of self.old }
         // Exactly where the disk had a fault since the log was opened.

@@ -1,5 +1,5 @@
-use Rattle.std.proofs.Common.{◌≡◌}
-use Rattle.pass_keep.specs.Keepers.{IsKeeper}
+use Rattle.std.proofs.Common.{◌≡◌, ℕ, sym, subst}
+use Rattle.pass_keep.specs.Dirty.{AreDirty}
 use Rattle.pass_keep.proofs.Keeping.{covered_le}
 use Rattle.pass_keep.proofs.Writing.{sized}
 use Rattle.pass_keep.proofs.keeper.Keeper.sync_blocks.Goals as goal
@@ -7,8 +7,7 @@ use Rattle.pass_keep.proofs.keeper.Keeper.sync_blocks.Goals as goal
 pub write-requires-clause-sized : goal.write-requires-clause-sized
 write-requires-clause-sized g c =
     let k = c.args.self.now in
-    let s = g.syncing.past.story in
-    let xs = g.syncing.past.noted in
-    let keeper : IsKeeper g.D.Disk.view g.syncing.past k = c.requires.1.0 in
-    sized s keeper.story xs k.durable g.syncing.files c.args.blocks.now keeper.kept.within
-    (λ number. covered_le s (g.D.Disk.view k.disk) k.durable xs number keeper.kept.past) c.requires.1.1.0
+    let given = c.requires.dirty in
+    let s = given.0.story in
+    let xs = given.0.noted in
+    sized s given.2.story xs k.durable given.1 c.args.blocks.now given.2.kept.within (λ number. covered_le s (g.D.Disk.view k.disk) k.durable xs number given.2.kept.past) given.3

@@ -1,0 +1,17 @@
+-- What bounds the records of a log and of a history.
+use Rattle.std.specs.Prelude.{ℕ, ◌≡◌, ◌+◌, ◌<◌, ◌≤◌, ◌^◌, List, length, Ok}
+use Rattle.pass_plain.specs.WellLogged.{ceiling_of, current_of, IsWellLogged}
+use Rattle.pass_graph.specs.Bounds.{records_length}
+use Rattle.pass_log.specs.Records.{Held, image_of, spellings}
+
+-- Logs
+
+-- the records of a log area have the bytes that their lengths say, and no more than the log has
+abbrev pub ImageLaw : Type 0
+ImageLaw = (bytes : List ℕ) (log : Held) → image_of bytes ≡ Ok log
+    → (length (spellings log.list) ≡ records_length log.list) × (length (spellings log.list) ≤ log.end)
+
+-- a log that ends at most at 2 ^ 38 leaves numbers for one more session, and has no version above 2 ^ 35
+abbrev pub OpenedLaw : Type 0
+OpenedLaw = (bytes : List ℕ) (log : Held) → image_of bytes ≡ Ok log → log.end ≤ 2 ^ 38 → IsWellLogged log.list
+    → (ceiling_of log.list + 8192 < 2 ^ 48) × ((pnode : ℕ) → current_of log.list pnode ≤ 2 ^ 35)

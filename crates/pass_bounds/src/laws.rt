@@ -1,0 +1,13 @@
+//! What holds of the records of every log and of every legal history. Each function carries laws in its contract and
+//! does nothing.
+ghost use Rattle.pass_bounds.specs.Lawful.{ImageLaw, OpenedLaw};
+
+use pass_graph::bounds::lists;
+
+/// The records of a log take no more bytes than it has, so that its end bounds the numbers and the versions that they say.
+pub fn logs()
+    ensures image { ImageLaw }
+    ensures opened { OpenedLaw }
+{
+    lists();
+}

@@ -1,9 +1,11 @@
 //! Runs of the program's call over streams in memory.
+mod checks;
 mod rows;
 mod small;
 
-use crate::{Ended, Status, pass_main};
-use pass_outside::{Failed, MemSink, MemSource, NoDisk, OpenGate, Sink, Source};
+use crate::{Asked, Ended, Status, ask, pass_main};
+use checks::{CHECKS, Check};
+use pass_outside::{Disk, Failed, MemDisk, MemSink, MemSource, NoDisk, OpenGate, Sink, Source};
 use pass_trace::TraceReason;
 use rows::{PIPELINE, READ_BACK, ROWS, Row};
 use small::{NAMES, PIPELINES};
@@ -58,6 +60,62 @@ fn check<R: Threads + Wait + Sync + Abort + AllocGlobal>(rt: &R, row: Row) -> Re
         (0, 0, 0),
         "{trace}"
     );
+    Ok(())
+}
+
+// A disk with these areas, all of them synced, at which the listed device calls fail.
+fn disk_of(rt: &impl AllocGlobal, row: Check) -> Result<MemDisk, AllocError> {
+    let alloc = rt.alloc();
+    let log = row.log.to_vec(alloc)?;
+    let store = row.store.to_vec(alloc)?;
+    MemDisk::new(alloc, log, store, row.disk_fails.to_vec(alloc)?, None)
+}
+
+fn ask_word(
+    rt: &impl AllocGlobal,
+    word: &str,
+    sink: &mut MemSink,
+    disk: MemDisk,
+) -> Result<Asked<MemDisk>, AllocError> {
+    let mut words = Vec::new(rt.alloc());
+    words.push(String::from_str(rt.alloc(), word)?)?;
+    Ok(ask(rt.alloc(), &words, sink, disk))
+}
+
+fn check_store<R: Abort + AllocGlobal>(rt: &R, row: Check) -> Result<(), Fail> {
+    let mut sink = sink_of(rt, row.sink_fails)?;
+    let asked = ask_word(rt, "check", &mut sink, disk_of(rt, row)?)?;
+    let text = row.text;
+    assert_eq!(rt;
+        (asked.status, asked.status.number()),
+        (row.status, row.number),
+        "{text}"
+    );
+    assert_eq!(rt; sink.taken(), text.as_bytes());
+    assert_eq!(rt; asked.disk.log_bytes()?.as_slice(), row.log, "{text}");
+    Ok(())
+}
+
+#[test]
+fn stores_are_checked_as_stated(rt: HostRuntime) -> Result<(), Fail> {
+    for row in CHECKS {
+        check_store(&rt, *row)?;
+    }
+    Ok(())
+}
+
+#[test]
+fn other_words_leave_the_disk(rt: HostRuntime) -> Result<(), Fail> {
+    for word in ["run", "checks", ""] {
+        let mut sink = sink_of(&rt, &[])?;
+        let asked = ask_word(&rt, word, &mut sink, disk_of(&rt, CHECKS[0])?)?;
+        assert_eq!(rt;
+            (asked.status, asked.disk.calls()),
+            (Status::BadWords, 0),
+            "{word}"
+        );
+        assert_eq!(rt; sink.taken(), b"fault words\n".as_slice());
+    }
     Ok(())
 }
 

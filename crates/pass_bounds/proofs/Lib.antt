@@ -1,2 +1,5 @@
+mod Arguments
 mod Images
+mod Numbers
+mod Ranges
 mod Taken

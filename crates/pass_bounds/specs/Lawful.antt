@@ -1,5 +1,12 @@
 -- What bounds the records of a log and of a history.
 use Rattle.std.specs.Prelude.{ℕ, ◌≡◌, ◌+◌, ◌<◌, ◌≤◌, ◌^◌, List, length, Ok}
+use Rattle.std.specs.List.{All}
+use Rattle.pass_entry.specs.declared.entry.Entry.{Entry}
+use Rattle.pass_entry.specs.Ranges.{IsInRange}
+use Rattle.pass_plain.specs.Sessions.{Session, opening_version}
+use Rattle.pass_plain.specs.Sound.{IsSound}
+use Rattle.pass_plain.specs.Legal.{IsLegal}
+use Rattle.pass_plain.specs.Records.{records_of}
 use Rattle.pass_plain.specs.WellLogged.{ceiling_of, current_of, IsWellLogged}
 use Rattle.pass_graph.specs.Bounds.{records_length}
 use Rattle.pass_log.specs.Records.{Held, image_of, spellings}
@@ -15,3 +22,10 @@ ImageLaw = (bytes : List ℕ) (log : Held) → image_of bytes ≡ Ok log
 abbrev pub OpenedLaw : Type 0
 OpenedLaw = (bytes : List ℕ) (log : Held) → image_of bytes ≡ Ok log → log.end ≤ 2 ^ 38 → IsWellLogged log.list
     → (ceiling_of log.list + 8192 < 2 ^ 48) × ((pnode : ℕ) → current_of log.list pnode ≤ 2 ^ 35)
+
+-- Histories
+
+-- the records of a history are within their ranges, where its objects opened with versions that leave one for each entry
+abbrev pub InRangeLaw : Type 0
+InRangeLaw = (session : Session) → IsSound session → (history : List Entry) → IsLegal session history
+    → ((object : ℕ) → opening_version session.start object + length history < 2 ^ 48) → All IsInRange (records_of session history)

@@ -1,6 +1,6 @@
 //! What holds of the records of every log and of every legal history. Each function carries laws in its contract and
 //! does nothing.
-ghost use Rattle.pass_bounds.specs.Lawful.{ImageLaw, OpenedLaw};
+ghost use Rattle.pass_bounds.specs.Lawful.{ImageLaw, InRangeLaw, OpenedLaw};
 
 use pass_graph::bounds::lists;
 
@@ -11,3 +11,8 @@ pub fn logs()
 {
     lists();
 }
+
+/// The records of a history are within their ranges.
+pub fn histories()
+    ensures ranges { InRangeLaw }
+{}

@@ -6,3 +6,5 @@ pub mod Holding
 pub mod Imaging
 pub mod Starting
 pub mod Shown
+pub mod Fresh
+pub mod Example

@@ -27,7 +27,7 @@ grows f past list (e ∷ es) =
     let rest = grows f (past ++ e ∷ []) (list ++ f past e) es in
     (f past e ++ rest.0, rest.1 ∙ append_assoc list (f past e) rest.0)
 
-legal_take : (session : Session) (history : List Entry) (n : ℕ) → IsLegal session history → IsLegal session (take n history)
+pub legal_take : (session : Session) (history : List Entry) (n : ℕ) → IsLegal session history → IsLegal session (take n history)
 legal_take session history n legal = λ i e is.
     let low : i < n = within_take n i history e is in
     subst (λ (h : List Entry). MayFollow session h e) (sym (take-take_le i n history (omega (arith, low)))) (legal i e (slice_get-take n i history e is))

@@ -3,3 +3,4 @@ pub mod Dirty
 pub mod Parts
 pub mod Keepers
 pub mod Longer
+pub mod OneFile

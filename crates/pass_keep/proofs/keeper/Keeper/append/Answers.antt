@@ -1,4 +1,4 @@
-use Rattle.std.proofs.Common.{◌≡◌, ◌∙◌, ◌∷◌, ◌++◌, [], false, refl, sym, ap}
+use Rattle.std.proofs.Common.{false, refl}
 use Rattle.pass_keep.proofs.Keeping.{noted_alone}
 use Rattle.pass_keep.proofs.Holding.{keeper_still, keeper_noted, err_case, ok_case}
 use Rattle.pass_keep.proofs.keeper.Keeper.append.Goals as goal

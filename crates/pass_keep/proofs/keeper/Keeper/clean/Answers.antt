@@ -1,4 +1,4 @@
-use Rattle.std.proofs.Common.{◌≡◌, ◌≤◌, ◌<◌, [], ℕ, arith}
+use Rattle.std.proofs.Common.{◌≤◌, [], ℕ, arith}
 use Rattle.pass_keep.specs.Kept.{covered}
 use Rattle.pass_keep.proofs.Keeping.{noted_more, covered_le}
 use Rattle.pass_keep.proofs.Writing.{held_left}

@@ -1,4 +1,4 @@
-use Rattle.std.proofs.Common.{◌≡◌, ◌∙◌, ◌+◌, ◌*◌, ℕ, length, sym, ap, subst}
+use Rattle.std.proofs.Common.{◌∙◌, ◌+◌, ◌*◌, ℕ, length, sym, ap, subst}
 use Rattle.pass_keep.specs.Parts.{lists_of, AreFrames}
 use Rattle.pass_keep.proofs.Holding.{frame_some, frames_count}
 use Rattle.pass_keep.proofs.keeper.Keeper.flush.Goals as goal

@@ -1,5 +1,3 @@
-use Rattle.std.proofs.Common.{◌≡◌, ℕ, sym, subst}
-use Rattle.pass_keep.specs.Dirty.{AreDirty}
 use Rattle.pass_keep.proofs.Keeping.{covered_le}
 use Rattle.pass_keep.proofs.Writing.{sized}
 use Rattle.pass_keep.proofs.keeper.Keeper.sync_blocks.Goals as goal

@@ -1,9 +1,8 @@
-use Rattle.std.proofs.Common.{◌≡◌, ◌≤◌, ◌∙◌, ◌∷◌, ◌++◌, [], ℕ, IsTrue, refl, sym, ap, arith}
-use Rattle.pass_outside.specs.Areas.{Image}
+use Rattle.std.proofs.Common.{◌≤◌, ◌∙◌, ℕ, IsTrue, refl, sym, ap, arith}
 use Rattle.pass_keep.specs.Kept.{covered, IsKept}
 use Rattle.pass_keep.proofs.Keeping.{noted_more, covered_le}
 use Rattle.pass_keep.proofs.Writing.{held_left, wrote}
-use Rattle.pass_keep.proofs.Holding.{keeper_still, keeper_noted, err_case, ok_case}
+use Rattle.pass_keep.proofs.Holding.{keeper_still, keeper_noted, ok_case}
 use Rattle.pass_keep.proofs.keeper.Keeper.write.Goals as goal
 
 pub returns-then-is_err-clause-err : goal.returns-then-is_err-clause-err

@@ -66,7 +66,7 @@ abbrev AreWithin : ℕ → Result (List Record) LogFault → Type 0
 AreWithin room (Ok list) = (length (spellings list) ≡ records_length list) × (records_length list ≤ room)
 AreWithin room (Err e) = Unit {0}
 
-spellings-append : (xs ys : List Record) → length (spellings (xs ++ ys)) ≡ length (spellings xs) + length (spellings ys)
+pub spellings-append : (xs ys : List Record) → length (spellings (xs ++ ys)) ≡ length (spellings xs) + length (spellings ys)
 spellings-append [] ys = omega arith
 spellings-append (x ∷ xs) ys =
     let here = length-append (spelling x) (spellings (xs ++ ys)) in

@@ -1,5 +1,7 @@
 mod Arguments
+mod Digested
 mod Images
+mod Lengths
 mod Numbers
 mod Ranges
 mod Taken

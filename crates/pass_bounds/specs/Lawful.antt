@@ -1,5 +1,5 @@
 -- What bounds the records of a log and of a history.
-use Rattle.std.specs.Prelude.{ℕ, ◌≡◌, ◌+◌, ◌<◌, ◌≤◌, ◌^◌, List, length, Ok}
+use Rattle.std.specs.Prelude.{ℕ, ◌≡◌, ◌+◌, ◌*◌, ◌<◌, ◌≤◌, ◌^◌, List, length, Ok}
 use Rattle.std.specs.List.{All}
 use Rattle.pass_entry.specs.declared.entry.Entry.{Entry}
 use Rattle.pass_entry.specs.Ranges.{IsInRange}
@@ -29,3 +29,8 @@ OpenedLaw = (bytes : List ℕ) (log : Held) → image_of bytes ≡ Ok log → lo
 abbrev pub InRangeLaw : Type 0
 InRangeLaw = (session : Session) → IsSound session → (history : List Entry) → IsLegal session history
     → ((object : ℕ) → opening_version session.start object + length history < 2 ^ 48) → All IsInRange (records_of session history)
+
+-- an entry has at most 1,376 bytes of records: those of an exec with the longest name and arguments
+abbrev pub LengthLaw : Type 0
+LengthLaw = (session : Session) → IsSound session → (history : List Entry) → IsLegal session history
+    → length (spellings (records_of session history)) ≤ 1376 * length history

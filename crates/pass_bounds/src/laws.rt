@@ -1,6 +1,6 @@
 //! What holds of the records of every log and of every legal history. Each function carries laws in its contract and
 //! does nothing.
-ghost use Rattle.pass_bounds.specs.Lawful.{ImageLaw, InRangeLaw, OpenedLaw};
+ghost use Rattle.pass_bounds.specs.Lawful.{ImageLaw, InRangeLaw, LengthLaw, OpenedLaw};
 
 use pass_graph::bounds::lists;
 
@@ -12,7 +12,8 @@ pub fn logs()
     lists();
 }
 
-/// The records of a history are within their ranges.
+/// The records of a history are within their ranges, and an entry has few bytes of them.
 pub fn histories()
     ensures ranges { InRangeLaw }
+    ensures lengths { LengthLaw }
 {}

@@ -1,5 +1,5 @@
 -- What the limits of a call's arguments say of the texts and bytes of its acts.
-use Rattle.std.proofs.Common.{◌≡◌, ◌≤◌, ℕ, suc, Bool, true, false, ◌&&◌, List, [], ◌∷◌, ◌++◌, length, map}
+use Rattle.std.proofs.Common.{◌≡◌, ◌+◌, ◌≤◌, ℕ, suc, Bool, true, false, ◌&&◌, List, [], ◌∷◌, ◌++◌, length, map}
 use Rattle.std.specs.Prelude.{Option, Some, None, nat_le, if◌then◌else◌}
 use Rattle.std.specs.Option.{option_map_or}
 use Rattle.pass_entry.specs.Texts.{is_line, is_name}
@@ -46,9 +46,10 @@ write_texts : (who out fd at len n : ℕ) (bytes : List ℕ) → length bytes �
 write_texts who out fd at len n bytes short true = (tt, (short, tt))
 write_texts who out fd at len n bytes short false = (tt, (tt, tt))
 
-pipe_texts : (step : Descriptor → Step) → ((d : Descriptor) → HasTexts (step d).1) → (n : ℕ) (held : List Descriptor) (last : Step) → HasTexts last.1 → AllFrom HasStep n (map step held ++ last ∷ [])
-pipe_texts step each n held last here =
-    all-append HasStep n (map step held) (last ∷ []) (all-map HasStep step n held (every (λ k d. HasStep k (step d)) (λ k d. each d) n held)) (here, tt)
+-- what holds of the steps for each pipe descriptor, and of the last step
+pub pipe_steps : (P : ℕ → Step → Type 0) (step : Descriptor → Step) → ((k : ℕ) (d : Descriptor) → P k (step d)) → (n : ℕ) (held : List Descriptor) (last : Step) → ((k : ℕ) → P k last)
+    → AllFrom P n (map step held ++ last ∷ [])
+pipe_steps P step each n held last here = all-append P n (map step held) (last ∷ []) (all-map P step n held (every (λ k d. P k (step d)) each n held)) (here (length (map step held) + n), tt)
 
 steps_texts : (who : ℕ) (p : Process) (made : Made) (r : Request) → is_within r ≡ true → AllFrom HasStep 0 (steps_of who p made r)
 steps_texts who p made requests.Start within = (tt, tt)
@@ -62,10 +63,10 @@ steps_texts who p made (requests.Seek fd at) within = (tt, tt)
 steps_texts who p made (requests.Truncate fd size) within = (tt, (tt, tt))
 steps_texts who p made (requests.MakePipe reader writer) within = (tt, (tt, tt))
 steps_texts who p made requests.Fork within =
-    (tt, (tt, pipe_texts (λ d. act_on d.pnode (act.Join (end_of d.mode))) (λ d. tt) 2 (pipe_descriptors p) (act_on (pnode_at made 0) (act.Born (place_at made 1) p.descriptors)) tt))
+    (tt, (tt, pipe_steps HasStep (λ d. act_on d.pnode (act.Join (end_of d.mode))) (λ k d. tt) 2 (pipe_descriptors p) (act_on (pnode_at made 0) (act.Born (place_at made 1) p.descriptors)) (λ k. tt)))
 steps_texts who p made (requests.Exec name args) within = (tt, (tt, ((true_left (is_name name) (is_line args) within, true_right (is_name name) (is_line args) within), tt)))
 steps_texts who p made (requests.WaitChild child) within = (tt, (tt, tt))
-steps_texts who p made requests.Exit within = pipe_texts (λ d. act_on d.pnode (act.Leave (end_of d.mode))) (λ d. tt) 0 (pipe_descriptors p) (act_on who act.Finish) tt
+steps_texts who p made requests.Exit within = pipe_steps HasStep (λ d. act_on d.pnode (act.Leave (end_of d.mode))) (λ k d. tt) 0 (pipe_descriptors p) (act_on who act.Finish) (λ k. tt)
 steps_texts who p made (requests.Rename from to) within = (true_right (is_name from) (is_name to) within, tt)
 steps_texts who p made (requests.Unlink name) within = (tt, tt)
 steps_texts who p made (requests.MakeObj fd) within = (tt, (tt, tt))

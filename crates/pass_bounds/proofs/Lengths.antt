@@ -32,7 +32,7 @@ use Rattle.pass_bounds.proofs.Digested.{digested_few}
 use Rattle.pass_bounds.proofs.Images.{spellings-append}
 
 -- the bytes of records
-abbrev size : List Record → ℕ
+abbrev pub size : List Record → ℕ
 size list = length (spellings list)
 
 size-cons : (one : Record) (list : List Record) → size (one ∷ list) ≡ length (spelling one) + size list
@@ -96,6 +96,14 @@ args_size node (b ∷ args) line =
     omega (arith, one, here, short)
 
 -- one entry
+
+-- the acts that a call may have behind its third entry
+abbrev pub is_small : Act → Bool
+is_small (act.Join end) = true
+is_small (act.Leave end) = true
+is_small (act.Born out descriptors) = true
+is_small act.Finish = true
+is_small _ = false
 
 module _ (session : Session) (sound : IsSound session) (past : List Entry) (e : Entry) (text : HasTexts e.act) where
   abbrev nodes : List Node
@@ -182,12 +190,34 @@ module _ (session : Session) (sound : IsSound session) (past : List Entry) (e : 
       let extra = extra_size a is in
       omega (arith, whole, versions, extra)
 
-  entry_size : size (entry_records session past e) ≤ 1376
+  pub entry_size : size (entry_records session past e) ≤ 1376
   entry_size = by_fault (is_fault e.reply)
     where
       by_fault : (b : Bool) → size (if b then [] else act_records session past e node e.act) ≤ 1376
       by_fault true = omega arith
       by_fault false = act_size e.act text
+
+  small_of : (a : Act) → extra_records session past e node a ≡ [] → size (version_records session past e node ++ extra_records session past e node a) ≤ 50
+  small_of a none =
+      let whole = spellings-append (version_records session past e node) (extra_records session past e node a) in
+      let versions = version_most (is_freeze session past nodes e) (is_fresh session past nodes e) in
+      let nothing = ap size none in
+      omega (arith, whole, versions, nothing)
+
+  -- an act on a pipe's end, a birth and an end have no text
+  small_size : (a : Act) → is_small a ≡ true → size (act_records session past e node a) ≤ 50
+  small_size (act.Join end) small = small_of (act.Join end) refl
+  small_size (act.Leave end) small = small_of (act.Leave end) refl
+  small_size (act.Born out descriptors) small = small_of (act.Born out descriptors) refl
+  small_size act.Finish small = small_of act.Finish refl
+  small_size _ small = absurd (cc)
+
+  pub small_entry : is_small e.act ≡ true → size (entry_records session past e) ≤ 50
+  small_entry small = by_fault (is_fault e.reply)
+    where
+      by_fault : (b : Bool) → size (if b then [] else act_records session past e node e.act) ≤ 50
+      by_fault true = omega arith
+      by_fault false = small_size e.act small
 
 -- all entries
 

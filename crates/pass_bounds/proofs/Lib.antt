@@ -1,7 +1,9 @@
 mod Arguments
+mod Charged
 mod Digested
 mod Images
 mod Lengths
 mod Numbers
 mod Ranges
+mod RunCalls
 mod Taken

@@ -6,6 +6,8 @@ use Rattle.pass_entry.specs.Ranges.{IsInRange}
 use Rattle.pass_plain.specs.Sessions.{Session, opening_version}
 use Rattle.pass_plain.specs.Sound.{IsSound}
 use Rattle.pass_plain.specs.Legal.{IsLegal}
+use Rattle.pass_plain.specs.Traces.{Line}
+use Rattle.pass_plain.specs.Runs.{IsRun}
 use Rattle.pass_plain.specs.Records.{records_of}
 use Rattle.pass_plain.specs.WellLogged.{ceiling_of, current_of, IsWellLogged}
 use Rattle.pass_graph.specs.Bounds.{records_length}
@@ -34,3 +36,16 @@ InRangeLaw = (session : Session) → IsSound session → (history : List Entry) 
 abbrev pub LengthLaw : Type 0
 LengthLaw = (session : Session) → IsSound session → (history : List Entry) → IsLegal session history
     → length (spellings (records_of session history)) ≤ 1376 * length history
+
+-- Runs
+
+-- a run of a trace has at most two calls a line, and one more: a call has at most 67 entries, and these at most 7,500 bytes of records
+abbrev pub RunLaw : Type 0
+RunLaw = (session : Session) → IsSound session → (trace : List Line) (history : List Entry) → IsRun session trace history
+    → (length history ≤ 67 * (2 * length trace + 2)) × (length (spellings (records_of session history)) ≤ 7500 * (2 * length trace + 2))
+
+-- one frame holds the records of a run of a trace of at most 100,000 lines, over versions of at most 2 ^ 35
+abbrev pub FrameLaw : Type 0
+FrameLaw = (session : Session) → IsSound session → ((object : ℕ) → opening_version session.start object ≤ 2 ^ 35)
+    → (trace : List Line) (history : List Entry) → IsRun session trace history → length trace ≤ 100000
+    → All IsInRange (records_of session history) × (length (spellings (records_of session history)) < 2 ^ 32)

@@ -1,6 +1,6 @@
 //! What holds of the records of every log and of every legal history. Each function carries laws in its contract and
 //! does nothing.
-ghost use Rattle.pass_bounds.specs.Lawful.{ImageLaw, InRangeLaw, LengthLaw, OpenedLaw};
+ghost use Rattle.pass_bounds.specs.Lawful.{FrameLaw, ImageLaw, InRangeLaw, LengthLaw, OpenedLaw, RunLaw};
 
 use pass_graph::bounds::lists;
 
@@ -16,4 +16,10 @@ pub fn logs()
 pub fn histories()
     ensures ranges { InRangeLaw }
     ensures lengths { LengthLaw }
+{}
+
+/// A run of a trace has few entries and few bytes of records, so that one frame of the log holds them.
+pub fn runs()
+    ensures lengths { RunLaw }
+    ensures frame { FrameLaw }
 {}

@@ -22,6 +22,12 @@ pub mod Moves
 pub mod Turns
 pub mod Finished
 pub mod EmptyStarts
-pub mod Reported
 pub mod Pieces
 pub mod Limited
+mod Spelled
+mod Bared
+mod OneFrame
+mod Numbered
+mod Overs
+mod Handed
+mod Moved

@@ -7,3 +7,5 @@ pub mod Calling
 pub mod Tables
 pub mod Reading
 pub mod Writing
+pub mod Stored
+pub mod Grounds

@@ -1,0 +1,164 @@
+-- What the run of a trace over a disk is. This project's own rule.
+use Rattle.std.specs.Prelude.{ℕ, ◌+◌, ◌≡◌, ◌⊎◌, ◌<◌, ◌≤◌, IsTrue, List, [], ◌∷◌, ◌++◌, Option, Some, None, Result, Ok, Err, length, slice_get, nat_lt, if◌then◌else◌}
+use Rattle.pass_entry.specs.declared.entry.Entry.{Entry}
+use Rattle.pass_entry.specs.declared.entry.Synced.{Synced}
+use Rattle.pass_entry.specs.declared.record.Record.{Record}
+use Rattle.pass_graph.specs.Lawful.{IsFaithful}
+use Rattle.pass_graph.specs.Openings.{session_list}
+use Rattle.pass_keep.specs.Kept.{Story, list_to, source_to, HasRecords, IsBegun}
+use Rattle.pass_log.specs.declared.fault.LogFault.{LogFault}
+use Rattle.pass_log.specs.Records.{Held, image_of}
+use Rattle.pass_outside.specs.Areas.{Image}
+use Rattle.pass_outside.specs.Moments.{Moment}
+use Rattle.pass_plain.specs.declared.start.Start.{Start}
+use Rattle.pass_plain.specs.declared.start.StartFile.{StartFile}
+use Rattle.pass_plain.specs.Histories.{made_object}
+use Rattle.pass_plain.specs.Runs.{IsRun}
+use Rattle.pass_range.specs.Rows.{IsUnmatched}
+use Rattle.pass_recover.specs.declared.fault.OpenFault.{OpenFault}
+use Rattle.pass_recover.specs.declared.fault.OpenFault.TheVariants.{BadFrame}
+use Rattle.pass_recover.specs.Faults.{LogHas}
+use Rattle.pass_recover.specs.Starts.{IsStartOf, HasBytes}
+use Rattle.pass_report.specs.Reports.{SameButBytes, report_of}
+use Rattle.pass_report.specs.TraceLines.{objects_of, plain_trace, session_of_trace}
+use Rattle.pass_trace.specs.declared.trace.TraceLine.{TraceLine}
+use Rattle.pass_run.specs.declared.status.Status.{Status}
+use Rattle.pass_run.specs.declared.status.Status.TheVariants as status
+use Rattle.pass_run.specs.Ends.{AreNamed, EndsAs, IsEmptyStart}
+use Rattle.pass_run.specs.Stores.{store_fault}
+
+-- How the store is judged
+
+-- the last end of a log image over which a session begins, 2 ^ 38: what a session adds never makes its log too long to be read
+abbrev pub last_end : ℕ
+last_end = 274877906944
+
+abbrev pub end_fault : Result Held LogFault → Option OpenFault
+end_fault (Ok held) = if nat_lt last_end held.end then Some (BadFrame held.end) else None
+end_fault (Err fault) = None
+
+abbrev pub fault_or : Option OpenFault → Option OpenFault → Option OpenFault
+fault_or (Some fault) next = Some fault
+fault_or None next = next
+
+-- the fault for which no session begins over the bytes of a log area: that of the store, else the place of its end
+abbrev pub session_fault : List ℕ → Option OpenFault
+session_fault bytes = fault_or (store_fault bytes) (end_fault (image_of bytes))
+
+-- a store with a fault is refused with it, and any other is run
+abbrev pub IsJudged : Option OpenFault → Status → Type 0
+IsJudged (Some fault) ended = ended ≡ status.BadStore fault
+IsJudged None ended = (ended ≡ status.Done) ⊎ (ended ≡ status.Stuck)
+
+-- the status of a run that came to its end, with the whole report
+abbrev pub IsEnd : Status → Type 0
+IsEnd status.Done = Unit {0}
+IsEnd status.Stuck = Unit {0}
+IsEnd _ = ⊥
+
+abbrev pub IsOfDisk : Status → Type 0
+IsOfDisk (status.DiskFault opened now) = Unit {0}
+IsOfDisk _ = ⊥
+
+-- What was opened
+
+-- the records are those of a log area's bytes over which a session begins
+pub record IsListOf (list : List Record) (bytes : List ℕ) : Type 0 where
+  pub held : Held
+  pub image : image_of bytes ≡ Ok held
+  pub list_is : held.list ≡ list
+  pub unfaulted : session_fault bytes ≡ None
+
+-- the start has no bytes in its files
+abbrev pub IsBare : Start → Type 0
+IsBare start = (i : ℕ) (file : StartFile) → slice_get start.files.items i ≡ Some file → file.bytes.items ≡ []
+
+-- The list is that of the log area as it read at that moment, `opened` the start that it tells, with the bytes that the store
+-- area read then, and `start` is that start without those bytes.
+pub record IsOpening (m : Moment) (list : List Record) (start opened : Start) : Type 0 where
+  pub logged : LogHas m (IsListOf list)
+  pub told : IsStartOf list opened
+  pub bytes : IsTrue m.tells → HasBytes list m.seen.store opened
+  pub outline : SameButBytes start opened
+  pub bare : IsBare start
+
+-- nothing was opened, and nothing recorded
+pub record IsUnopened (list : List Record) (start : Start) (history : List Entry) (syncs : List Synced) : Type 0 where
+  pub no_list : list ≡ []
+  pub no_start : IsEmptyStart start
+  pub no_history : history ≡ []
+  pub no_syncs : syncs ≡ []
+
+-- What was recorded
+
+-- a run of the trace from that start, whose graph joins what its flows and the records before it join
+pub record HasRecorded (list : List Record) (opened : Start) (lines : List TraceLine) (history : List Entry) : Type 0 where
+  pub run : IsRun (session_of_trace opened lines) (plain_trace lines) history
+  pub named : AreNamed (session_of_trace opened lines) (plain_trace lines) history
+  pub graph : IsFaithful (session_list list (session_of_trace opened lines) history) list (session_of_trace opened lines) history
+
+-- its end and its report
+pub record HasReported (opened : Start) (lines : List TraceLine) (history : List Entry) (ended : Status) (text : List ℕ) : Type 0 where
+  pub ends : EndsAs (session_of_trace opened lines) (plain_trace lines) history ended
+  pub report : text ≡ report_of opened history lines
+
+-- What crashes leave
+
+-- the session of a run: its records are kept since the two syncs with which the store opened, behind so many device calls
+abbrev pub story_of : ℕ → List Record → Start → List TraceLine → List Entry → Story
+story_of calls list opened lines history = record {
+  before = list;
+  ceiling = opened.ceiling + objects_of lines;
+  session = session_of_trace opened lines;
+  history = history;
+  start = calls + 2;
+}
+
+-- a crash left the records of the session's first entries, at least so many
+pub record HasFirst (s : Story) (least : ℕ) (c : Image) : Type 0 where
+  pub count : ℕ
+  pub enough : least ≤ count
+  pub within : count ≤ length s.history
+  pub records : HasRecords (list_to s count) c.log
+
+-- since the opening a crash leaves the records before the session, or the session's with those of its first entries; and since
+-- each sync at least as many as were durable then
+pub record IsStored (s : Story) (m : Moment) (syncs : List Synced) : Type 0 where
+  pub begun : IsBegun s m
+  pub since : IsTrue m.tells → (i : ℕ) (x : Synced) → slice_get syncs i ≡ Some x → (c : Image) → m.left_since x.calls c → HasFirst s x.entries c
+
+-- the last sync has all entries, and since then a crash leaves all their records, and matches each range whose row comes from
+-- one of them
+pub record IsSettled (s : Story) (m : Moment) (syncs : List Synced) : Type 0 where
+  pub front : List Synced
+  pub last : Synced
+  pub are : syncs ≡ front ++ last ∷ []
+  pub all : last.entries ≡ length s.history
+  pub records : IsTrue m.tells → (c : Image) → m.left_since last.calls c → HasRecords (list_to s (length s.history)) c.log
+  pub matched : IsTrue m.tells → (c : Image) → m.left_since last.calls c → (pnode block at : ℕ)
+      → source_to s (length s.history) pnode block ≡ Some at → IsUnmatched (list_to s (length s.history)) c.store pnode block → ⊥
+
+-- each object that the history makes has a number above the start's ceiling and up to the session's, above which the next
+-- session's numbers begin
+abbrev pub AreNumbered : Story → Type 0
+AreNumbered s = (i n : ℕ) (e : Entry) → slice_get s.history i ≡ Some e → made_object e.act e.reply ≡ Some n → (s.session.start.ceiling < n) × (n ≤ s.ceiling)
+
+-- What a run hands out
+
+-- An opened store, with the history that was recorded over it, if any, and what of it stands on the disk: `old` is the moment
+-- at which the run began, behind so many device calls, and `new` the one at which it ended.
+pub record IsOverStore (calls : ℕ) (old new : Moment) (lines : List TraceLine) (list : List Record) (start : Start) (history : List Entry) (syncs : List Synced) : Type 0 where
+  pub opened : Start
+  pub opening : IsOpening old list start opened
+  pub recorded : (history ≡ []) ⊎ HasRecorded list opened lines history
+  pub stored : IsStored (story_of calls list opened lines history) new syncs
+
+-- such a run that came to its end
+pub record HasEnded (calls : ℕ) (old new : Moment) (lines : List TraceLine) (list : List Record) (start : Start) (history : List Entry) (syncs : List Synced) (ended : Status) (text : List ℕ) : Type 0 where
+  pub opened : Start
+  pub opening : IsOpening old list start opened
+  pub recorded : HasRecorded list opened lines history
+  pub reported : HasReported opened lines history ended text
+  pub stored : IsStored (story_of calls list opened lines history) new syncs
+  pub settled : IsSettled (story_of calls list opened lines history) new syncs
+  pub numbered : AreNumbered (story_of calls list opened lines history)

@@ -1,0 +1,282 @@
+//! The run of a trace over a disk.
+ghost use Rattle.std.specs.Prelude.{◌≡◌, ◌≢◌, ◌↔◌, ◌⊎◌, ◌+◌, ◌≤◌, ◌<◌, ◌^◌, ℕ, [], Some, None, IsSome, IfSome, OnOk, OnErr, IfErr, length};
+ghost use Rattle.pass_graph.specs.Openings.{Continues};
+ghost use Rattle.pass_keep.specs.Kept.{Story};
+ghost use Rattle.pass_keep.specs.Keepers.{disk_of, log_of, durable_of, IsKeeper};
+ghost use Rattle.pass_log.specs.Log.{log_end, log_opened};
+ghost use Rattle.pass_outside.specs.Moments.{IsAtEnd};
+ghost use Rattle.pass_plain.specs.Recording.{IsRecording};
+ghost use Rattle.pass_report.specs.Reports.{SameButBytes};
+ghost use Rattle.pass_report.specs.TraceLines.{objects_of as objects_of_lines};
+ghost use Rattle.pass_recover.specs.declared.fault.OpenFault.{OpenFault as AnyFault};
+ghost use Rattle.pass_recover.specs.Faults.{LogHas};
+ghost use Rattle.pass_run.specs.Ends.{IsTrace, unbuilt_line};
+ghost use Rattle.pass_run.specs.Grounds.{IsGround, story_over, IsAllKept, IsSomeKept, IsRunOver};
+ghost use Rattle.pass_run.specs.Stored.{session_fault, IsJudged, IsBare, IsEnd, IsOfDisk, IsUnopened, IsOverStore, HasEnded};
+
+use crate::ending::{RunEnd, bare, first_unbuilt, unopened};
+use crate::performing::{Performed, fits_frame};
+use crate::status::{Status, opening_status};
+use pass_dirty::dirty_blocks;
+use pass_entry::{Entry, Pnode, Synced};
+use pass_graph::laws::graph;
+use pass_keep::{KeepFault, Keeper};
+use pass_log::LogImage;
+use pass_outside::{Disk, Gate};
+use pass_plain::Start;
+use pass_recover::{OpenFault, Opening, recover};
+use pass_report::objects_of;
+use pass_trace::Trace;
+use std::alloc::{AllocError, Global};
+use std::slice::from_ref;
+
+/// The last end of a log image over which a session begins.
+const LAST_END: u64 = 1 << 38;
+
+/// The number of the first object that no record names.
+const NUMBERS: u64 = 1 << 48;
+
+/// The most objects of one session.
+const OBJECTS: u64 = 8192;
+
+/// What a run goes over: the log image and the start of the store, the trace, and the disk's count of device calls as the
+/// run began.
+#[derive(Drop)]
+struct Ground<'a> {
+    image: LogImage,
+    start: Start,
+    trace: &'a Trace,
+    calls: u64,
+}
+
+/// Runs a trace over the store of a disk, and keeps what it records there. A trace with a call that the program doesn't make
+/// isn't begun. Else the store is opened, its ceiling raised by what the trace may make, and the trace run until no process
+/// can move; then the history's records are appended to the log as one frame, each changed block is written, by file number
+/// and block, and the store area is synced once. After the frame and after that sync a sync is noted. The turns are taken on
+/// the caller's thread, in ascending order of the processes.
+pub fn run_trace<D: Disk + Send, G: Gate + Sync>(
+    alloc: Global,
+    trace: &Trace,
+    workers: u32,
+    disk: D,
+    gate: &G,
+) -> RunEnd<D>
+    requires trace { IsTrace trace.now.lines.items }
+    requires workers { (1 ≤ workers) × (workers ≤ 64) }
+
+    // The statuses, in the order in which they are judged. Want of memory alone is free.
+    ensures no_memory { result.status ≡ Status.NoMemory → IsUnopened result.list.items result.start result.history.items result.syncs.items }
+    ensures not_built { result.status ≢ Status.NoMemory → (line : ℕ) → result.status ≡ Status.NotBuilt line ↔ (unbuilt_line trace.now.lines.items ≡ Some line) }
+    ensures disk_fault { (opened now : ℕ) → result.status ≡ Status.DiskFault opened now
+        → (opened ≡ (D.view disk).faults) × (now ≡ (D.view result.disk).faults) × ((opened < now) ⊎ IsAtEnd (D.view result.disk)) }
+    ensures no_fault { result.status ≢ Status.NoMemory → (IsOfDisk result.status → ⊥) → (D.view result.disk).faults ≡ (D.view disk).faults }
+    ensures judged { result.status ≢ Status.NoMemory → unbuilt_line trace.now.lines.items ≡ None → (IsOfDisk result.status → ⊥)
+        → LogHas (D.view disk) (λ bytes. IsJudged (session_fault bytes) result.status) }
+
+    // What stands after each. A trace that isn't begun leaves the disk untouched.
+    ensures not_begun { IsSome (unbuilt_line trace.now.lines.items) → (result.disk ≡ disk) × IsUnopened result.list.items result.start result.history.items result.syncs.items }
+    ensures bad_store { (fault : AnyFault) → result.status ≡ Status.BadStore fault → IsUnopened result.list.items result.start result.history.items result.syncs.items }
+    ensures recorded { IsUnopened result.list.items result.start result.history.items result.syncs.items
+        ⊎ IsOverStore (D.view disk).calls (D.view disk) (D.view result.disk) trace.now.lines.items result.list.items result.start result.history.items result.syncs.items }
+    ensures ended { IsEnd result.status
+        → HasEnded (D.view disk).calls (D.view disk) (D.view result.disk) trace.now.lines.items result.list.items result.start result.history.items result.syncs.items result.status result.report.items }
+    ensures no_report { (IsEnd result.status → ⊥) → result.report.items ≡ [] }
+{
+    if let Some(line) = first_unbuilt(&trace.lines) {
+        return unopened(alloc, Status::NotBuilt { line }, disk);
+    }
+    let mut disk = disk;
+    let calls = disk.calls();
+    let opened = disk.faults();
+    match recover(alloc, &mut disk) {
+        Ok(Opening { image, start, .. }) => {
+            let ground = Ground {
+                image,
+                start,
+                trace,
+                calls,
+            };
+            run_opened(alloc, ground, disk)
+        }
+        Err(fault) => {
+            let now = disk.faults();
+            unopened(alloc, opening_status(fault, opened, now), disk)
+        }
+    }
+}
+
+// Runs a trace over an opened store, unless the image of its log ends too late.
+fn run_opened<D: Disk>(alloc: Global, ground: Ground<'_>, disk: D) -> RunEnd<D>
+    requires trace { IsTrace ground.trace.now.lines.items }
+    requires ground { IsGround (D.view disk) ground }
+    ensures { IsRunOver D.view (D.view disk) ground.entry.calls ground.entry.trace.now.lines.items result }
+{
+    let end = ground.image.end;
+    if end > LAST_END {
+        let fault = OpenFault::BadFrame { at: end };
+        return unopened(alloc, Status::BadStore(fault), disk);
+    }
+    run_session(alloc, ground, disk)
+}
+
+// The session's ceiling, which leaves a number for each object that the trace may make.
+fn session_ceiling(ground: &Ground<'_>) -> Option<Pnode>
+    requires { length ground.now.trace.now.lines.items ≤ 100000 }
+    ensures { IfSome result (λ ceiling. (ceiling ≡ ground.now.start.ceiling + objects_of_lines ground.now.trace.now.lines.items) × (ceiling < 2 ^ 48) × (objects_of_lines ground.now.trace.now.lines.items ≤ 8192)) }
+{
+    let objects = u64::from(objects_of(&ground.trace.lines));
+    let ceiling = ground.start.ceiling.checked_add(objects)?;
+    if ceiling < NUMBERS && objects <= OBJECTS {
+        Some(Pnode(ceiling))
+    } else {
+        None
+    }
+}
+
+// Runs a trace over an opened store.
+fn run_session<D: Disk>(alloc: Global, ground: Ground<'_>, disk: D) -> RunEnd<D>
+    ghost story: { Story }
+    requires trace { IsTrace ground.trace.now.lines.items }
+    requires ground { IsGround (D.view disk) ground }
+    requires short { ground.image.end ≤ 2 ^ 38 }
+    requires story { story ≡ story_over ground [] }
+    ensures { IsRunOver D.view (D.view disk) ground.entry.calls ground.entry.trace.now.lines.items result }
+{
+    let Some(ceiling) = session_ceiling(&ground) else {
+        return unopened(alloc, Status::NoMemory, disk);
+    };
+    let mut keeper = match Keeper::open(alloc, disk, &ground.image, ceiling) {
+        Ok(keeper) => keeper,
+        Err((fault, disk)) => {
+            return stopped(
+                alloc,
+                ground,
+                fault,
+                Vec::new(alloc),
+                (disk, Vec::new(alloc)),
+            );
+        }
+    };
+    let performed = match Performed::run(alloc, ground.trace, &ground.start) {
+        Ok(performed) => performed,
+        Err(AllocError) => {
+            let (disk, _syncs) = keeper.into_disk();
+            return unopened(alloc, Status::NoMemory, disk);
+        }
+    };
+    graph();
+    let stored = store(alloc, &mut keeper, &performed);
+    let kept = keeper.into_disk();
+    match stored {
+        Ok(()) => ended(ground, performed, kept),
+        Err(fault) => stopped(alloc, ground, fault, performed.history, kept),
+    }
+}
+
+// Keeps the records of a run as one frame, and then the blocks that it changed.
+fn store<D: Disk>(
+    alloc: Global,
+    keeper: &mut Keeper<D>,
+    performed: &Performed,
+) -> Result<(), KeepFault>
+    ghost story: { Story }
+    requires keeper { IsKeeper D.view (record { story = story; noted = [] }) keeper.old }
+    requires first { durable_of keeper.old ≡ 0 }
+    requires healthy { (D.view (disk_of keeper.old)).faults ≤ log_opened (log_of keeper.old) }
+    requires room { log_end (log_of keeper.old) ≤ 2 ^ 38 + 14 }
+    requires continues { Continues story.before story.session }
+    requires ceiling { story.ceiling ≡ story.session.start.ceiling + story.session.objects }
+    requires history { performed.now.history.items ≡ story.history }
+    requires recording { IsRecording story.session.start story.history performed.now.recording }
+    ensures kept { OnOk result (IsAllKept D.view story keeper.new) }
+    ensures some { OnErr result (IsSomeKept D.view story keeper.new) }
+    ensures healthy { OnOk result ((D.view (disk_of keeper.new)).faults ≡ (D.view (disk_of keeper.old)).faults) }
+    ensures failed { IfErr result (λ e. (e ≡ KeepFault.NoMemory) ⊎ ((e ≡ KeepFault.DiskFault (log_opened (log_of keeper.old)) (D.view (disk_of keeper.new)).faults)
+        × (((D.view (disk_of keeper.old)).faults < (D.view (disk_of keeper.new)).faults) ⊎ IsAtEnd (D.view (disk_of keeper.new))))) }
+{
+    let blocks = dirty_blocks(alloc, &performed.recording)?;
+    if !fits_frame(&performed.recording.list) {
+        return Err(KeepFault::NoMemory);
+    }
+    let parts = from_ref(&performed.recording.list);
+    keeper.flush(alloc, parts, performed.history.len() as u64)?;
+    keeper.sync_blocks(&blocks)
+}
+
+// The status of a run of which a call on its keeper failed.
+fn stopped_status(fault: KeepFault) -> Status
+    ensures disk { (opened now : ℕ) → fault ≡ KeepFault.DiskFault opened now → result ≡ Status.DiskFault opened now }
+    ensures memory { fault ≡ KeepFault.NoMemory → result ≡ Status.NoMemory }
+{
+    match fault {
+        KeepFault::DiskFault { opened, now } | KeepFault::Broken { opened, now } => {
+            Status::DiskFault { opened, now }
+        }
+        KeepFault::NoMemory => Status::NoMemory,
+    }
+}
+
+// The end of a run of which a call on its keeper failed.
+fn stopped<D>(
+    alloc: Global,
+    ground: Ground<'_>,
+    fault: KeepFault,
+    history: Vec<Entry>,
+    kept: (D, Vec<Synced>),
+) -> RunEnd<D>
+    ensures memory { fault ≡ KeepFault.NoMemory → (result.status ≡ Status.NoMemory) × IsUnopened result.list.items result.start result.history.items result.syncs.items }
+    ensures status { (opened now : ℕ) → fault ≡ KeepFault.DiskFault opened now → result.status ≡ Status.DiskFault opened now }
+    ensures history { (opened now : ℕ) → fault ≡ KeepFault.DiskFault opened now → result.history.items ≡ history.items }
+    ensures syncs { (opened now : ℕ) → fault ≡ KeepFault.DiskFault opened now → result.syncs.items ≡ kept.1.items }
+    ensures list { (opened now : ℕ) → fault ≡ KeepFault.DiskFault opened now → result.list.items ≡ ground.entry.image.list.items }
+    ensures start { (opened now : ℕ) → fault ≡ KeepFault.DiskFault opened now → SameButBytes result.start ground.entry.start × IsBare result.start }
+    ensures report { result.report.items ≡ [] }
+    ensures disk { result.disk ≡ kept.0 }
+{
+    let (disk, syncs) = kept;
+    let status = stopped_status(fault);
+    if let KeepFault::NoMemory = fault {
+        return unopened(alloc, status, disk);
+    }
+    let Ground { image, start, .. } = ground;
+    let LogImage { list, .. } = image;
+    RunEnd {
+        status,
+        history,
+        syncs,
+        list,
+        start: bare(start),
+        report: Vec::new(alloc),
+        disk,
+    }
+}
+
+// The end of a run of which all is kept.
+fn ended<D>(ground: Ground<'_>, performed: Performed, kept: (D, Vec<Synced>)) -> RunEnd<D>
+    ensures status { result.status ≡ performed.status }
+    ensures history { result.history.items ≡ performed.history.items }
+    ensures report { result.report.items ≡ performed.report.items }
+    ensures syncs { result.syncs.items ≡ kept.1.items }
+    ensures list { result.list.items ≡ ground.entry.image.list.items }
+    ensures start { SameButBytes result.start ground.entry.start × IsBare result.start }
+    ensures disk { result.disk ≡ kept.0 }
+{
+    let (disk, syncs) = kept;
+    let Ground { image, start, .. } = ground;
+    let LogImage { list, .. } = image;
+    let Performed {
+        status,
+        history,
+        report,
+        ..
+    } = performed;
+    RunEnd {
+        status,
+        history,
+        syncs,
+        list,
+        start: bare(start),
+        report,
+        disk,
+    }
+}

@@ -1,11 +1,18 @@
 -- The records of a whole history as one part.
 use Rattle.std.proofs.Common.{◌≡◌, ◌≤◌, ◌<◌, ◌+◌, ◌++◌, ◌∷◌, [], ℕ, zero, List, length, take, map, refl, ap, sym, ◌∙◌, subst, arith, Vec, Global}
+use Rattle.std.specs.Prelude.{Result, Ok, Err, OnOk, OnErr}
 use Rattle.std.specs.List.{All, sum_by}
 use Rattle.std.proofs.lemmas.List.{take_all}
 use Rattle.std.proofs.lemmas.List.Elements.{All-push}
 use Rattle.pass_entry.specs.declared.entry.Entry.{Entry}
 use Rattle.pass_entry.specs.declared.record.Record.{Record}
 use Rattle.pass_keep.specs.Kept.{Story, records_to, AreParts}
+use Rattle.pass_dirty.specs.Gathering.{every_file}
+use Rattle.pass_keep.specs.declared.keeper.Keeper.{Keeper}
+use Rattle.pass_keep.specs.Kept.{Noted}
+use Rattle.pass_keep.specs.Keepers.{Past, with_sync, no_file, IsKeeper}
+use Rattle.pass_outside.specs.Moments.{Moment}
+use Rattle.pass_run.specs.Grounds.{both_syncs, IsAllKept, IsSomeKept}
 use Rattle.pass_keep.specs.Parts.{lists_of, frames_length}
 use Rattle.pass_log.specs.Records.{spellings}
 use Rattle.pass_plain.specs.Records.{records_of}
@@ -28,3 +35,29 @@ of_one P part parts is holds = subst (λ (ps : List (Vec Record Global)). All P 
 
 pub one_length : (part : Vec Record Global) (parts : List (Vec Record Global)) → parts ≡ part ∷ [] → frames_length parts ≡ 5 + length (spellings part.items)
 one_length part parts is = ap (λ (ps : List (Vec Record Global)). frames_length ps) is ∙ omega arith
+
+-- A keeper behind the frame, and behind the blocks
+
+pub on_ok : {T E A B : Type 0} (r : Result T E) → OnOk r A → (A → B) → OnOk r B
+on_ok (Ok x) a f = f a
+on_ok (Err e) a f = tt
+
+pub on_err : {T E A B : Type 0} (r : Result T E) → OnErr r A → (A → B) → OnErr r B
+on_err (Ok x) a f = tt
+on_err (Err e) a f = f a
+
+-- every entry is durable
+abbrev pub flushed : Story → ℕ → Past
+flushed s first = record { story = s; noted = record { calls = first; entries = length s.history; files = no_file } ∷ [] }
+
+pub all_kept : {D : Type 0} (view : D → Moment) (s : Story) (mid new : Keeper D) → (view mid.disk).calls ≤ (view new.disk).calls → mid.durable ≡ length s.history
+    → IsKeeper view (with_sync (flushed s (view mid.disk).calls) (view new.disk).calls mid.durable every_file) new → IsAllKept view s new
+all_kept view s mid new later durable kept = record {
+  first = (view mid.disk).calls;
+  second = (view new.disk).calls;
+  ordered = later;
+  keeper = subst (λ n. IsKeeper view (with_sync (flushed s (view mid.disk).calls) (view new.disk).calls n every_file) new) durable kept;
+}
+
+pub some_kept : {D : Type 0} (view : D → Moment) (s : Story) (noted : List Noted) (k : Keeper D) → IsKeeper view (record { story = s; noted = noted }) k → IsSomeKept view s k
+some_kept view s noted k kept = record { noted = noted; keeper = kept }

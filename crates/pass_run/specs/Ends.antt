@@ -1,5 +1,5 @@
 -- How the run of a trace ends. This project's own rule.
-use Rattle.std.specs.Prelude.{ℕ, ◌+◌, ◌≡◌, ◌↔◌, Bool, true, false, not, List, [], Option, Some, None, IsSome, find, option_map, slice_get}
+use Rattle.std.specs.Prelude.{ℕ, ◌+◌, ◌≡◌, Bool, true, false, not, List, [], Option, Some, find, option_map, slice_get}
 use Rattle.pass_entry.specs.declared.entry.Entry.{Entry}
 use Rattle.pass_entry.specs.declared.entry.CallName.{CallName}
 use Rattle.pass_entry.specs.declared.entry.CallName.TheVariants as call
@@ -8,11 +8,7 @@ use Rattle.pass_plain.specs.Histories.{call_entries}
 use Rattle.pass_plain.specs.Sessions.{Session}
 use Rattle.pass_plain.specs.Calls.{name_of}
 use Rattle.pass_plain.specs.Traces.{Line, LineCall, given, write_last, fork_as, wait_for, calls_of}
-use Rattle.pass_plain.specs.Runs.{IsRun, IsOfTrace, CanMove, is_open, pnode_of_process}
-use Rattle.pass_report.specs.Reports.{report_of}
-use Rattle.pass_report.specs.TraceLines.{plain_trace, session_of_trace}
-use Rattle.pass_graph.specs.Lawful.{IsFaithful}
-use Rattle.pass_graph.specs.Openings.{session_list}
+use Rattle.pass_plain.specs.Runs.{IsOfTrace, CanMove, is_open, pnode_of_process}
 use Rattle.pass_trace.specs.declared.trace.Command.{Command}
 use Rattle.pass_trace.specs.declared.trace.Command.TheVariants as command
 use Rattle.pass_trace.specs.declared.trace.TraceLine.{TraceLine}
@@ -72,17 +68,3 @@ abbrev pub EndsAs : Session → List Line → List Entry → Status → Type 0
 EndsAs session trace history status.Done = NoneOpen session trace history
 EndsAs session trace history status.Stuck = IsStuck session trace history
 EndsAs session trace history _ = ⊥
-
--- what a run of a trace from this start has recorded
-pub record HasRun (start : Start) (lines : List TraceLine) (ended : Status) (history : List Entry) (text : List ℕ) : Type 0 where
-  pub run : IsRun (session_of_trace start lines) (plain_trace lines) history
-  pub named : AreNamed (session_of_trace start lines) (plain_trace lines) history
-  pub ends : EndsAs (session_of_trace start lines) (plain_trace lines) history ended
-  pub graph : IsFaithful (session_list [] (session_of_trace start lines) history) [] (session_of_trace start lines) history
-  pub report : text ≡ report_of start history lines
-
--- a trace with a call that isn't built isn't begun; any other is run
-pub record IsReported (start : Start) (lines : List TraceLine) (ended : Status) (history : List Entry) (text : List ℕ) : Type 0 where
-  pub not_built : (line : ℕ) → ended ≡ status.NotBuilt line ↔ (unbuilt_line lines ≡ Some line)
-  pub not_begun : IsSome (unbuilt_line lines) → (history ≡ []) × (text ≡ [])
-  pub begun : unbuilt_line lines ≡ None → HasRun start lines ended history text

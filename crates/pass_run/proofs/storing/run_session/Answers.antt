@@ -28,14 +28,28 @@ open-requires g c κs within =
     let fact : IsGround m ground = c.requires.1.1.0 in
     let (ceiling, high, few) = c.in-Some.ensures in
     let low : ground.start.ceiling + objects_of ground.trace.now.lines.items < 2 ^ 48 = omega (arith, ceiling, high) in
-    let first = ap (λ (s : Story). s.start) is in
-    (within, (ap (λ (s : Story). s.before) is, (ap (λ (s : Story). s.ceiling) is ∙ sym ceiling, (
-      number_is c.in-Some.ceiling (omega (arith, ceiling)) high,
-      (fact.read, (omega (arith, first, fact.earlier), (
-        (λ told image left. fact.since told image (subst (λ n. m.left_since n image) first left)),
-        (c.requires.1.1.1.0, subst IsStory (sym is) (is_story m ground fact c.requires.1.1.1.0 few low [] (none_legal (session_of_trace ground.start ground.trace.now.lines.items)))),
-      ))),
-    ))))
+    let first = ap (λ (s : Story). s.start) is in (
+      within,
+      (
+        ap (λ (s : Story). s.before) is,
+        (
+          ap (λ (s : Story). s.ceiling) is ∙ sym ceiling,
+          (
+            number_is c.in-Some.ceiling (omega (arith, ceiling)) high,
+            (
+              fact.read,
+              (
+                omega (arith, first, fact.earlier),
+                (
+                  (λ told image left. fact.since told image (subst (λ n. m.left_since n image) first left)),
+                  (c.requires.1.1.1.0, subst IsStory (sym is) (is_story m ground fact c.requires.1.1.1.0 few low [] (none_legal (session_of_trace ground.start ground.trace.now.lines.items)))),
+                ),
+              ),
+            ),
+          ),
+        ),
+      ),
+    )
 
 pub returns-in-Err : goal.returns-in-Err
 returns-in-Err g c =
@@ -80,17 +94,31 @@ store-stored-requires g c κs within =
     let story : IsStory (with_entries g.story history) =
     subst (λ (s : Story). IsStory (with_entries s history)) (sym is) (is_story m ground fact short few low history performed.run.legal) in
     let opened = c.in-Ok.ensures in
-    let ceil = ap (λ (s : Story). s.ceiling) is in
-    (within, (
-      longer_shown view (record { story = g.story; noted = [] }) c.in-Ok.keeper opened.kept history story,
-      (opened.durable, (omega (arith, opened.opened), (omega (arith, opened.place, short), (
-        subst (λ (s : Story). Continues s.before s.session) (sym is) (continues m ground fact short few low),
-        (subst (λ (s : Story). s.ceiling ≡ s.session.start.ceiling + s.session.objects) (sym is) refl, (
-          subst (λ (s : Story). history ≡ (with_entries s history).history) (sym is) refl,
-          subst (λ (s : Story). IsRecording s.session.start (with_entries s history).history c.in-Ok-run.performed.recording) (sym is) performed.recording,
-        )),
-      )))),
-    ))
+    let ceil = ap (λ (s : Story). s.ceiling) is in (
+      within,
+      (
+        longer_shown view (record { story = g.story; noted = [] }) c.in-Ok.keeper opened.kept history story,
+        (
+          opened.durable,
+          (
+            omega (arith, opened.opened),
+            (
+              omega (arith, opened.place, short),
+              (
+                subst (λ (s : Story). Continues s.before s.session) (sym is) (continues m ground fact short few low),
+                (
+                  subst (λ (s : Story). s.ceiling ≡ s.session.start.ceiling + s.session.objects) (sym is) refl,
+                  (
+                    subst (λ (s : Story). history ≡ (with_entries s history).history) (sym is) refl,
+                    subst (λ (s : Story). IsRecording s.session.start (with_entries s history).history c.in-Ok-run.performed.recording) (sym is) performed.recording,
+                  ),
+                ),
+              ),
+            ),
+          ),
+        ),
+      ),
+    )
 
 pub returns-in-Ok-stored : goal.returns-in-Ok-stored
 returns-in-Ok-stored g c =

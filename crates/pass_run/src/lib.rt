@@ -2,6 +2,8 @@
 #![tactic(auto)]
 
 mod calling;
+#[cfg(test)]
+mod disk_tests;
 mod ending;
 mod performing;
 mod places;

@@ -1,6 +1,6 @@
 //! Runs of whole traces, streams that fail, and the texts of the statuses.
 use crate::{ReadEnd, Status, read_source, run_trace, write_text};
-use pass_outside::{Failed, MemSink, MemSource, NoDisk, OpenGate};
+use pass_outside::{Failed, MemDisk, MemSink, MemSource, OpenGate};
 use pass_trace::{TraceReason, parse};
 use std::process::Abort;
 use std::test::Fail;
@@ -84,8 +84,16 @@ const ROWS: [Row; 12] = [
 ];
 
 fn check(rt: &(impl Abort + AllocGlobal), row: Row) -> Result<(), Fail> {
-    let trace = parse(rt.alloc(), row.text.as_bytes())?;
-    let end = run_trace(rt.alloc(), &trace, 1, NoDisk::new(), &OpenGate);
+    let alloc = rt.alloc();
+    let trace = parse(alloc, row.text.as_bytes())?;
+    let disk = MemDisk::new(
+        alloc,
+        Vec::new(alloc),
+        Vec::new(alloc),
+        Vec::new(alloc),
+        None,
+    )?;
+    let end = run_trace(alloc, &trace, 1, disk, &OpenGate);
     assert_eq!(rt; end.status, row.status);
     assert_eq!(rt; end.history.len(), row.entries);
     assert_eq!(rt; end.report.is_empty(), row.entries == 0);

@@ -6,7 +6,7 @@ use Rattle.pass_entry.specs.declared.entry.Entry.{Entry}
 use Rattle.pass_entry.specs.declared.entry.Synced.{Synced}
 use Rattle.pass_entry.specs.declared.record.Record.{Record}
 use Rattle.pass_entry.specs.Ranges.{is_number}
-use Rattle.pass_graph.specs.Lawful.{GraphLaw}
+use Rattle.pass_graph.specs.Lawful.{GraphLaw, VersionRecordLaw, InputRecordLaw}
 use Rattle.pass_keep.specs.declared.keeper.Keeper.{Keeper}
 use Rattle.pass_keep.specs.Kept.{Story, IsBegun}
 use Rattle.pass_outside.specs.Areas.{Image}
@@ -66,7 +66,7 @@ module _ {D : Type 0} (view : D → Moment) (m : Moment) (g : Ground) (ground : 
       (subst (λ (h : List Entry). IsBegun (story_of g.calls list g.start lines h) (view e.disk)) (sym none) (subst (λ (s : Story). IsBegun s (view e.disk)) is begun)))
 
   -- what is performed, with a number for each object
-  module _ (few : objects_of lines ≤ 8192) (low : g.start.ceiling + objects_of lines < 2 ^ 48) (law : GraphLaw) (p : Performed) (performed : HasPerformed g.start lines p)
+  module _ (few : objects_of lines ≤ 8192) (low : g.start.ceiling + objects_of lines < 2 ^ 48) (law : GraphLaw × VersionRecordLaw × InputRecordLaw) (p : Performed) (performed : HasPerformed g.start lines p)
       (history : e.history.items ≡ p.history.items) (k : Keeper D) (disk : e.disk ≡ k.disk) (syncs : e.syncs.items ≡ k.syncs.items) where
     recorded : HasRecorded list g.start lines e.history.items
     recorded = subst (λ (h : List Entry). HasRecorded list g.start lines h) (sym history) (has_recorded m g ground short few low law p performed)

@@ -6,7 +6,7 @@ use Rattle.pass_entry.specs.declared.entry.Entry.{Entry}
 use Rattle.pass_entry.specs.declared.entry.Synced.{Synced}
 use Rattle.pass_entry.specs.declared.record.FlawReason.{FlawReason}
 use Rattle.pass_entry.specs.declared.record.Record.{Record}
-use Rattle.pass_graph.specs.Lawful.{IsFaithful, GraphLaw}
+use Rattle.pass_graph.specs.Lawful.{IsFaithful, GraphLaw, VersionRecordLaw, InputRecordLaw}
 use Rattle.pass_graph.specs.Openings.{Continues, session_list}
 use Rattle.pass_keep.specs.declared.fault.KeepFault.{KeepFault}
 use Rattle.pass_keep.specs.declared.fault.KeepFault.TheVariants as keep
@@ -85,11 +85,15 @@ module _ (m : Moment) (g : Ground) (ground : IsGround m g) (short : g.image.end 
     pub is_story : (history : List Entry) → IsLegal (session_of_trace g.start lines) history → IsStory (story_over g history)
     is_story history legal = record { sound = ground.sound (objects_of lines) (omega arith) low; tells = ground.files; legal = legal }
 
-    pub has_recorded : GraphLaw → (p : Performed) → HasPerformed g.start lines p → HasRecorded g.image.list.items g.start lines p.history.items
-    has_recorded law p performed = record {
+    pub has_recorded : GraphLaw × VersionRecordLaw × InputRecordLaw → (p : Performed) → HasPerformed g.start lines p → HasRecorded g.image.list.items g.start lines p.history.items
+    has_recorded (law, versions, inputs) p performed = record {
       run = performed.run;
       named = performed.named;
       graph = law g.image.list.items (session_of_trace g.start lines) p.history.items continues.opens performed.run.legal;
+      exact = record {
+        frozen = versions (session_of_trace g.start lines) p.history.items performed.run.legal;
+        linked = inputs (session_of_trace g.start lines) p.history.items performed.run.legal;
+      };
     }
 
 pub none_legal : (session : Session) → IsLegal session []

@@ -1,10 +1,13 @@
 -- What the run of a trace over a disk is. This project's own rule.
-use Rattle.std.specs.Prelude.{ℕ, ◌+◌, ◌≡◌, ◌⊎◌, ◌<◌, ◌≤◌, IsTrue, List, [], ◌∷◌, ◌++◌, Option, Some, None, Result, Ok, Err, length, slice_get, nat_lt, if◌then◌else◌}
+use Rattle.std.specs.Prelude.{ℕ, ◌+◌, ◌≡◌, ◌⊎◌, ◌↔◌, ◌<◌, ◌≤◌, true, Contains, IsTrue, List, [], ◌∷◌, ◌++◌, Option, Some, None, Result, Ok, Err, length, slice_get, nat_lt, if◌then◌else◌}
 use Rattle.pass_entry.specs.declared.entry.Entry.{Entry}
 use Rattle.pass_entry.specs.declared.entry.Synced.{Synced}
+use Rattle.pass_entry.specs.declared.objects.Node.{Node}
 use Rattle.pass_entry.specs.declared.record.Record.{Record}
+use Rattle.pass_entry.specs.declared.record.Record.TheVariants as log
 use Rattle.pass_graph.specs.Lawful.{IsFaithful}
 use Rattle.pass_graph.specs.Openings.{session_list}
+use Rattle.pass_graph.specs.Places.{node_at, source_at, is_fresh_at, is_freeze_at}
 use Rattle.pass_keep.specs.Kept.{Story, list_to, source_to, HasRecords, IsBegun}
 use Rattle.pass_log.specs.declared.fault.LogFault.{LogFault}
 use Rattle.pass_log.specs.Records.{Held, image_of}
@@ -13,7 +16,9 @@ use Rattle.pass_outside.specs.Moments.{Moment}
 use Rattle.pass_plain.specs.declared.start.Start.{Start}
 use Rattle.pass_plain.specs.declared.start.StartFile.{StartFile}
 use Rattle.pass_plain.specs.Histories.{made_object}
+use Rattle.pass_plain.specs.Records.{records_of}
 use Rattle.pass_plain.specs.Runs.{IsRun}
+use Rattle.pass_plain.specs.Sessions.{Session}
 use Rattle.pass_range.specs.Rows.{IsUnmatched}
 use Rattle.pass_recover.specs.declared.fault.OpenFault.{OpenFault}
 use Rattle.pass_recover.specs.declared.fault.OpenFault.TheVariants.{BadFrame}
@@ -91,11 +96,19 @@ pub record IsUnopened (list : List Record) (start : Start) (history : List Entry
 
 -- What was recorded
 
+-- its records have a new version exactly where an entry freezes its object, and an edge from a target to a source exactly
+-- where an IN is fresh
+pub record AreExact (session : Session) (history : List Entry) : Type 0 where
+  pub frozen : (n : Node) → Contains (records_of session history) (log.Version n) ↔ ((place : ℕ) × (is_freeze_at session history place ≡ true) × (node_at session history place ≡ Some n))
+  pub linked : (target source : Node) → Contains (records_of session history) (log.Input target source)
+      ↔ ((place : ℕ) × (is_fresh_at session history place ≡ true) × (node_at session history place ≡ Some target) × (source_at session history place ≡ Some source))
+
 -- a run of the trace from that start, whose graph joins what its flows and the records before it join
 pub record HasRecorded (list : List Record) (opened : Start) (lines : List TraceLine) (history : List Entry) : Type 0 where
   pub run : IsRun (session_of_trace opened lines) (plain_trace lines) history
   pub named : AreNamed (session_of_trace opened lines) (plain_trace lines) history
   pub graph : IsFaithful (session_list list (session_of_trace opened lines) history) list (session_of_trace opened lines) history
+  pub exact : AreExact (session_of_trace opened lines) history
 
 -- its end and its report
 pub record HasReported (opened : Start) (lines : List TraceLine) (history : List Entry) (ended : Status) (text : List ℕ) : Type 0 where

@@ -19,7 +19,7 @@ use crate::performing::{Performed, fits_frame};
 use crate::status::{Status, opening_status};
 use pass_dirty::dirty_blocks;
 use pass_entry::{Entry, Pnode, Synced};
-use pass_graph::laws::graph;
+use pass_graph::laws::{edges, graph};
 use pass_keep::{KeepFault, Keeper};
 use pass_log::LogImage;
 use pass_outside::{Disk, Gate};
@@ -165,6 +165,7 @@ fn run_session<D: Disk>(alloc: Global, ground: Ground<'_>, disk: D) -> RunEnd<D>
         }
     };
     graph();
+    edges();
     let stored = store(alloc, &mut keeper, &performed);
     let kept = keeper.into_disk();
     match stored {

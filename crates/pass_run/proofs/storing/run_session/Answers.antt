@@ -136,7 +136,7 @@ returns-in-Ok-stored g c =
     let said = c.ended.ensures in
     let all : IsAllKept view (story_over ground p.history.items) k =
     subst (λ (s : Story). IsAllKept view (with_entries s p.history.items) k) is c.in-Ok-stored.ensures.kept in
-    whole_run view m ground fact short c.ended.result said.list said.start.0 said.start.1 few low c.graph.ensures.after_records p c.in-Ok-run.ensures said.history k
+    whole_run view m ground fact short c.ended.result said.list said.start.0 said.start.1 few low (c.graph.ensures.after_records, c.edges.ensures.versions, c.edges.ensures.inputs) p c.in-Ok-run.ensures said.history k
     (said.disk ∙ c.into_disk-kept.ensures.disk) (said.syncs ∙ c.into_disk-kept.ensures.syncs) all (λ t u i le left. g.met.D.Disk.counts_more k.disk t u i le left) said.status said.report
     (ap (λ d. (view d).faults) (said.disk ∙ c.into_disk-kept.ensures.disk) ∙ c.in-Ok-stored.ensures.healthy ∙ c.in-Ok.ensures.healthy)
 
@@ -169,6 +169,6 @@ returns-in-Err-stored g c =
     let start = said.start opened now f.0 in
     over_disk view m ground.calls lines e (λ _. said.report) opened now (said.status opened now f.0) entry (ap (λ d. (view d).faults) (sym disk))
     (⊎_elim (λ (rose : (view (disk_of c.in-Ok.keeper)).faults < now). inl (omega (arith, rose, c.in-Ok.ensures.opened))) (λ end. inr (subst (λ d. IsAtEnd (view d)) (sym disk) end)) f.1)
-    (behind_run view m ground fact short e (said.list opened now f.0) start.0 start.1 few low c.graph.ensures.after_records p c.in-Ok-run.ensures (said.history opened now f.0) k disk
+    (behind_run view m ground fact short e (said.list opened now f.0) start.0 start.1 few low (c.graph.ensures.after_records, c.edges.ensures.versions, c.edges.ensures.inputs) p c.in-Ok-run.ensures (said.history opened now f.0) k disk
     (said.syncs opened now f.0 ∙ c.into_disk-kept.ensures.syncs) some))
     c.in-Err-stored.ensures.failed

@@ -4,7 +4,7 @@ ghost use Rattle.std.specs.Prelude.{◌≡◌};
 mod requests;
 mod stores;
 
-use crate::{objects_of, report};
+use crate::{objects_of, recorded, report};
 use pass_entry::{Act, CallName, Entry, Kind, Pnode, Reply};
 use pass_plain::steps::{call_steps, is_last};
 use pass_plain::{Plain, ProcessState, Request};
@@ -337,6 +337,8 @@ fn check(rt: &(impl Abort + AllocGlobal), row: Row) -> Result<(), Fail> {
     let text = report(alloc, &bare, plain.entries(), &trace)?;
     let text = String::from_utf8(text)?;
     assert_eq!(rt; text.as_str(), row.report);
+    let recording = recorded(alloc, &start, plain.entries())?;
+    assert_eq!(rt; recording.list, plain.records()?);
     Ok(())
 }
 

@@ -15,7 +15,7 @@ use Rattle.pass_run.specs.declared.status.Status.{Status}
 use Rattle.pass_run.specs.declared.status.Status.TheVariants as status
 use Rattle.pass_run.specs.Statuses.{status_of_opening}
 use Rattle.pass_run.specs.Stores.{store_fault, image_fault}
-use Rattle.pass_cli.specs.Checks.{IsCheckWord, IsNoDiskFault, IsCheckJudged, IsCheckText, check_text}
+use Rattle.pass_cli.specs.Checks.{IsCheckWord, IsCheckJudged, IsCheckText, check_text}
 
 -- other words
 pub words_judged : (words : List (List ℕ)) (m : Moment) (bytes : List ℕ) → ¬ IsCheckWord words → IsCheckJudged words m m bytes status.BadWords
@@ -33,7 +33,14 @@ pub disk_judged : (words : List (List ℕ)) (old new : Moment) (bytes : List ℕ
     → IsCheckJudged words old new bytes (status.DiskFault old.faults new.faults)
 disk_judged words old new bytes check failed = record {
   bad_words = (λ is. absurd (cc), λ bad. absurd (bad check));
-  disk_fault = λ opened now is. (check, opened_is opened now is, now_is opened now is, by opened now (opened_is opened now is) (now_is opened now is) failed);
+  disk_fault = λ opened now is. (
+    check,
+    record {
+      before = opened_is opened now is;
+      after = now_is opened now is;
+      risen = by opened now (opened_is opened now is) (now_is opened now is) failed;
+    },
+  );
   unhidden = λ words rose. refl;
   bad_store = λ fault. (λ is. absurd (cc), λ is. absurd (is.1 old.faults new.faults refl));
   done = (λ is. absurd (cc), λ is. absurd (is.1 old.faults new.faults refl));

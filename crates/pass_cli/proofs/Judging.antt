@@ -1,14 +1,13 @@
 -- What is judged, from what was read and run.
-use Rattle.std.proofs.Common.{◌≡◌, ℕ, List, [], ◌++◌, refl, ap, sym, ◌∙◌, subst, Bool, true, false, append-nil}
+use Rattle.std.proofs.Common.{◌≡◌, ℕ, ◌<◌, List, [], ◌∷◌, ◌++◌, refl, ap, sym, ◌∙◌, subst, ◌⊎◌, inl, inr, Bool, true, false, append-nil, length, length-append, arith}
 use Rattle.std.specs.Prelude.{◌≢◌, ◌↔◌, Option, Some, None, IsSome, Result, Ok, Err, IsTrue}
 use Rattle.pass_entry.specs.declared.entry.Entry.{Entry}
 use Rattle.pass_outside.specs.Faults.{HasRisen}
+use Rattle.pass_outside.specs.Moments.{Moment, IsAtEnd}
 use Rattle.pass_plain.specs.declared.start.Start.{Start}
-use Rattle.pass_plain.specs.Runs.{IsRun}
-use Rattle.pass_graph.specs.Openings.{session_list}
-use Rattle.pass_graph.specs.Lawful.{IsFaithful}
+use Rattle.pass_recover.specs.declared.fault.OpenFault.{OpenFault}
+use Rattle.pass_recover.specs.Faults.{LogHas}
 use Rattle.pass_report.specs.Reports.{report_of}
-use Rattle.pass_report.specs.TraceLines.{plain_trace, session_of_trace}
 use Rattle.pass_trace.specs.declared.trace.Trace.{Trace}
 use Rattle.pass_trace.specs.declared.trace.TraceLine.{TraceLine}
 use Rattle.pass_trace.specs.declared.trace.TraceReason.{TraceReason}
@@ -16,9 +15,11 @@ use Rattle.pass_trace.specs.Traces.{trace_of, IsTraceText, IsFirstFault}
 use Rattle.pass_trace.proofs.Faults.{not_text-from_fault, same_fault}
 use Rattle.pass_run.specs.declared.status.Status.{Status}
 use Rattle.pass_run.specs.declared.status.Status.TheVariants as status
-use Rattle.pass_run.specs.Ends.{unbuilt_line, AreNamed, EndsAs}
+use Rattle.pass_run.specs.Ends.{unbuilt_line}
 use Rattle.pass_run.specs.Reading.{is_too_long}
-use Rattle.pass_cli.specs.Answers.{OfBytes, IsTraced, IsRunnable, IsRefusal, IsRead, IsRecorded, IsJudged, IsReport, is_reported, session_in, lines_in}
+use Rattle.pass_run.specs.Stored.{session_fault, IsEnd, IsOfDisk, IsOverStore, HasEnded}
+use Rattle.pass_run.specs.Stored as stored
+use Rattle.pass_cli.specs.Answers.{OfBytes, IsTraced, IsRunnable, IsRefusal, IsRead, IsNoDiskFault, HasFailed, IsJudged, Outcome, IsNothing, IsRecorded, IsUntouched, HasRun, is_reported, comes_before, ends_run}
 use Rattle.pass_cli.proofs.StoppedTexts.{too_long_is_none, too_long_stays}
 
 -- what was read of a source
@@ -48,118 +49,7 @@ fault_read false text left rest before after line why unfailed front whole first
 fault_read true text left rest before after line why unfailed front whole first =
     (text ++ rest, λ t. sym (front t), (unfailed, fault_goes text rest line why (is_too_long text) refl (whole refl) first))
 
--- what is judged without a run
-
-pub refusal_judged : (bytes : List ℕ) (before after : ℕ) (start : Start) (judged : Status) → judged ≢ status.NoMemory
-    → IsRefusal bytes before after judged → IsJudged bytes before after start judged []
-refusal_judged bytes before after start status.ReadFault known rose = record {
-  read_fault = (λ is. rose, λ is. refl);
-  bad_trace = λ line why. (λ is. absurd (cc), λ is. absurd (is.0 rose));
-  not_built = λ line. (λ is. absurd (cc), λ is. absurd (is.0.unfailed rose));
-  done = (λ is. absurd (cc), λ is. absurd (is.0.traced.unfailed rose));
-  stuck = (λ is. absurd (cc), λ is. absurd (is.0.traced.unfailed rose));
-  no_other = refl;
-  refused = λ other another. refl;
-  recorded = λ is. absurd (is.traced.unfailed rose);
-}
-refusal_judged bytes before after start (status.BadTrace line why) known (unfailed, first) = record {
-  read_fault = (λ is. absurd (cc), λ is. absurd (unfailed is));
-  bad_trace = λ other another. (λ is. (unfailed, moved other another is), λ is. same other another is.1);
-  not_built = λ other. (λ is. absurd (cc), λ is. absurd (not_text-from_fault bytes line why first is.0.text));
-  done = (λ is. absurd (cc), λ is. absurd (not_text-from_fault bytes line why first is.0.traced.text));
-  stuck = (λ is. absurd (cc), λ is. absurd (not_text-from_fault bytes line why first is.0.traced.text));
-  no_other = refl;
-  refused = λ other another. refl;
-  recorded = λ is. absurd (not_text-from_fault bytes line why first is.traced.text);
-}
-  where
-    moved : (other : ℕ) (another : TraceReason) → status.BadTrace line why ≡ status.BadTrace other another → IsFirstFault bytes other another
-    moved other another is =
-        let place : line ≡ other = cc in
-        let reason : why ≡ another = cc in
-        subst (λ (r : TraceReason). IsFirstFault bytes other r) reason (subst (λ n. IsFirstFault bytes n why) place first)
-
-    same : (other : ℕ) (another : TraceReason) → IsFirstFault bytes other another → status.BadTrace line why ≡ status.BadTrace other another
-    same other another is =
-        let both = same_fault bytes line other why another first is in
-        ap (λ n. status.BadTrace n why) both.0 ∙ ap (λ (r : TraceReason). status.BadTrace other r) both.1
-refusal_judged bytes before after start status.NoMemory known is = absurd (known refl)
-refusal_judged bytes before after start _ known is = absurd is
-
--- what is judged by a run
-
-module _ (bytes : List ℕ) (before after : ℕ) (start : Start) (traced : IsTraced bytes before after) where
-  abbrev Judged : Status → List Entry → Type 0
-  Judged judged history = IsJudged bytes before after start judged history
-
-  no_fault : (line : ℕ) (why : TraceReason) → IsFirstFault bytes line why → ⊥
-  no_fault line why first = not_text-from_fault bytes line why first traced.text
-
-  unbuilt_judged : (line : ℕ) → unbuilt_line (trace_of bytes) ≡ Some line → Judged (status.NotBuilt line) []
-  unbuilt_judged line at = record {
-    read_fault = (λ is. absurd (cc), λ is. absurd (traced.unfailed is));
-    bad_trace = λ other why. (λ is. absurd (cc), λ is. absurd (no_fault other why is.1));
-    not_built = λ other. (λ is. (traced, at ∙ ap (λ n. Some n) (number_is other is)), λ is. ap (λ n. status.NotBuilt n) (some_number line other (sym at ∙ is.1)));
-    done = (λ is. absurd (cc), λ is. absurd (not_none is.0.built));
-    stuck = (λ is. absurd (cc), λ is. absurd (not_none is.0.built));
-    no_other = refl;
-    refused = λ other another. refl;
-    recorded = λ is. absurd (not_none is.built);
-  }
-    where
-      number_is : (other : ℕ) → status.NotBuilt line ≡ status.NotBuilt other → line ≡ other
-      number_is other same = cc
-
-      some_number : (a b : ℕ) → ◌≡◌ {A = Option ℕ} (Some a) (Some b) → a ≡ b
-      some_number a b same = cc
-
-      not_none : unbuilt_line (trace_of bytes) ≡ None → ⊥
-      not_none none = let z : ◌≡◌ {A = Option ℕ} (Some line) None = sym at ∙ none in cc
-
-  ended_judged : (built : unbuilt_line (trace_of bytes) ≡ None) (history : List Entry) → IsRecorded start bytes history → (judged : Status)
-      → EndsAs (session_in start bytes) (lines_in bytes) history judged → Judged judged history
-  ended_judged built history recorded status.Done ends = record {
-    read_fault = (λ is. absurd (cc), λ is. absurd (traced.unfailed is));
-    bad_trace = λ line why. (λ is. absurd (cc), λ is. absurd (no_fault line why is.1));
-    not_built = λ line. (λ is. absurd (cc), λ is. absurd (let z : ◌≡◌ {A = Option ℕ} None (Some line) = sym built ∙ is.1 in cc));
-    done = (λ is. (runnable, ends), λ is. refl);
-    stuck = (λ is. absurd (cc), λ is. absurd (let z : true ≡ false = sym is.1.waits ∙ ends is.1.process is.1.of_trace in cc));
-    no_other = refl;
-    refused = λ other another. absurd (other refl);
-    recorded = λ is. recorded;
-  }
-    where
-      runnable : IsRunnable bytes before after
-      runnable = record { traced = traced; built = built }
-  ended_judged built history recorded status.Stuck ends = record {
-    read_fault = (λ is. absurd (cc), λ is. absurd (traced.unfailed is));
-    bad_trace = λ line why. (λ is. absurd (cc), λ is. absurd (no_fault line why is.1));
-    not_built = λ line. (λ is. absurd (cc), λ is. absurd (let z : ◌≡◌ {A = Option ℕ} None (Some line) = sym built ∙ is.1 in cc));
-    done = (λ is. absurd (cc), λ is. absurd (let z : true ≡ false = sym ends.waits ∙ is.1 ends.process ends.of_trace in cc));
-    stuck = (λ is. (runnable, ends), λ is. refl);
-    no_other = refl;
-    refused = λ other another. absurd (another refl);
-    recorded = λ is. recorded;
-  }
-    where
-      runnable : IsRunnable bytes before after
-      runnable = record { traced = traced; built = built }
-  ended_judged built history recorded _ ends = absurd ends
-
-  -- the run answered as its contract says
-  pub run_judged : (judged : Status) (history : List Entry)
-      → ((line : ℕ) → judged ≡ status.NotBuilt line ↔ (unbuilt_line (trace_of bytes) ≡ Some line))
-      → (IsSome (unbuilt_line (trace_of bytes)) → history ≡ [])
-      → (unbuilt_line (trace_of bytes) ≡ None → IsRecorded start bytes history)
-      → (unbuilt_line (trace_of bytes) ≡ None → EndsAs (session_in start bytes) (lines_in bytes) history judged)
-      → Judged judged history
-  run_judged judged history not_built not_begun recorded ends = by (unbuilt_line (trace_of bytes)) refl
-    where
-      by : (found : Option ℕ) → unbuilt_line (trace_of bytes) ≡ found → Judged judged history
-      by (Some line) at =
-          let none : history ≡ [] = not_begun (subst IsSome (sym at) refl) in
-          subst (λ (s : Status). Judged s history) (sym ((not_built line).1 at)) (subst (λ (h : List Entry). Judged (status.NotBuilt line) h) (sym none) (unbuilt_judged line at))
-      by None built = ended_judged built history (recorded built) judged (ends built)
+-- small facts
 
 pub not_failed : {A E : Type 0} (v : A) (e : E) → ◌≡◌ {A = Result A E} (Ok v) (Err e) → ⊥
 not_failed v e same = cc
@@ -167,43 +57,254 @@ not_failed v e same = cc
 pub same_error : {A E : Type 0} (a b : E) → ◌≡◌ {A = Result A E} (Err a) (Err b) → a ≡ b
 same_error a b same = cc
 
--- what the run of a trace has answered, and what is judged by it
+some_number : (a b : ℕ) → ◌≡◌ {A = Option ℕ} (Some a) (Some b) → a ≡ b
+some_number a b same = cc
 
-pub record Ran (start : Start) (lines : List TraceLine) (judged : Status) (history : List Entry) (report : List ℕ) : Type 0 where
+none_is_none : {A : Type 0} (a : A) → ◌≡◌ {A = Option A} None (Some a) → ⊥
+none_is_none a same = cc
+
+same_fault_of : (a b : OpenFault) → ◌≡◌ {A = Option OpenFault} (Some a) (Some b) → a ≡ b
+same_fault_of a b same = cc
+
+store_is : (a b : OpenFault) → status.BadStore a ≡ status.BadStore b → a ≡ b
+store_is a b same = cc
+
+opened_is : (a b opened now : ℕ) → status.DiskFault a b ≡ status.DiskFault opened now → a ≡ opened
+opened_is a b opened now same = cc
+
+now_is : (a b opened now : ℕ) → status.DiskFault a b ≡ status.DiskFault opened now → b ≡ now
+now_is a b opened now same = cc
+
+-- what is judged without a run
+
+module _ (bytes : List ℕ) (before after : ℕ) (log : List ℕ) (m : Moment) where
+  abbrev Refused : Status → Type 0
+  Refused judged = IsJudged bytes before after log m m judged
+
+  pub refusal_judged : (judged : Status) → judged ≢ status.NoMemory → IsRefusal bytes before after judged → Refused judged
+  refusal_judged status.ReadFault known rose = record {
+    read_fault = (λ is. rose, λ is. refl);
+    bad_trace = λ line why. (λ is. absurd (cc), λ is. absurd (is.0 rose));
+    not_built = λ line. (λ is. absurd (cc), λ is. absurd (is.0.unfailed rose));
+    disk_fault = λ opened now is. absurd (cc);
+    unhidden = λ runs risen. absurd (runs.traced.unfailed rose);
+    bad_store = λ fault. (λ is. absurd (cc), λ is. absurd (is.0.traced.unfailed rose));
+    ended = (λ is. absurd is, λ is. absurd (is.0.traced.unfailed rose));
+    no_other = refl;
+  }
+  refusal_judged (status.BadTrace line why) known (unfailed, first) = record {
+    read_fault = (λ is. absurd (cc), λ is. absurd (unfailed is));
+    bad_trace = λ other another. (λ is. (unfailed, moved other another is), λ is. same other another is.1);
+    not_built = λ other. (λ is. absurd (cc), λ is. absurd (not_text-from_fault bytes line why first is.0.text));
+    disk_fault = λ opened now is. absurd (cc);
+    unhidden = λ runs risen. absurd (not_text-from_fault bytes line why first runs.traced.text);
+    bad_store = λ fault. (λ is. absurd (cc), λ is. absurd (not_text-from_fault bytes line why first is.0.traced.text));
+    ended = (λ is. absurd is, λ is. absurd (not_text-from_fault bytes line why first is.0.traced.text));
+    no_other = refl;
+  }
+    where
+      moved : (other : ℕ) (another : TraceReason) → status.BadTrace line why ≡ status.BadTrace other another → IsFirstFault bytes other another
+      moved other another is =
+          let place : line ≡ other = cc in
+          let reason : why ≡ another = cc in
+          subst (λ (r : TraceReason). IsFirstFault bytes other r) reason (subst (λ n. IsFirstFault bytes n why) place first)
+
+      same : (other : ℕ) (another : TraceReason) → IsFirstFault bytes other another → status.BadTrace line why ≡ status.BadTrace other another
+      same other another is =
+          let both = same_fault bytes line other why another first is in
+          ap (λ n. status.BadTrace n why) both.0 ∙ ap (λ (r : TraceReason). status.BadTrace other r) both.1
+  refusal_judged status.NoMemory known is = absurd (known refl)
+  refusal_judged _ known is = absurd is
+
+untouched_same : (m : Moment) → IsUntouched m m
+untouched_same m = record { calls = refl; faults = refl; seen = refl }
+
+-- a refused run
+pub refusal_run : (bytes : List ℕ) (before after : ℕ) (m : Moment) (out : Outcome) (judged : Status) (report : List ℕ) → judged ≢ status.NoMemory
+    → IsRefusal bytes before after judged → IsNothing out → HasRun bytes before after m m out judged report
+refusal_run bytes before after m out judged report known refusal nothing = record {
+  log = m.seen.log;
+  logged = λ tells. refl;
+  by = refusal_judged bytes before after m.seen.log m judged known refusal;
+  untouched = λ stays. untouched_same m;
+  refused = λ comes. nothing;
+  recorded = inl nothing;
+  whole = λ ends. absurd (no_end judged refusal ends);
+}
+  where
+    no_end : (s : Status) → IsRefusal bytes before after s → IsEnd s → ⊥
+    no_end status.Done is ends = is
+    no_end status.Stuck is ends = is
+    no_end _ is ends = ends
+
+-- what is judged by a run
+
+module _ (bytes : List ℕ) (before after : ℕ) (old new : Moment) (traced : IsTraced bytes before after) where
+  abbrev Judged : List ℕ → Status → Type 0
+  Judged log judged = IsJudged bytes before after log old new judged
+
+  no_fault : (line : ℕ) (why : TraceReason) → IsFirstFault bytes line why → ⊥
+  no_fault line why first = not_text-from_fault bytes line why first traced.text
+
+  unbuilt_judged : (log : List ℕ) (line : ℕ) → unbuilt_line (trace_of bytes) ≡ Some line → Judged log (status.NotBuilt line)
+  unbuilt_judged log line at = record {
+    read_fault = (λ is. absurd (cc), λ is. absurd (traced.unfailed is));
+    bad_trace = λ other why. (λ is. absurd (cc), λ is. absurd (no_fault other why is.1));
+    not_built = λ other. (λ is. (traced, at ∙ ap (λ n. Some n) (number_is other is)), λ is. ap (λ n. status.NotBuilt n) (some_number line other (sym at ∙ is.1)));
+    disk_fault = λ opened now is. absurd (cc);
+    unhidden = λ runs risen. absurd (not_run runs);
+    bad_store = λ fault. (λ is. absurd (cc), λ is. absurd (not_run is.0));
+    ended = (λ is. absurd is, λ is. absurd (not_run is.0));
+    no_other = refl;
+  }
+    where
+      number_is : (other : ℕ) → status.NotBuilt line ≡ status.NotBuilt other → line ≡ other
+      number_is other same = cc
+
+      not_run : IsRunnable bytes before after → ⊥
+      not_run runs = none_is_none line (sym runs.built ∙ at)
+
+  module _ (built : unbuilt_line (trace_of bytes) ≡ None) where
+    runnable : IsRunnable bytes before after
+    runnable = record { traced = traced; built = built }
+
+    not_unbuilt : (line : ℕ) → unbuilt_line (trace_of bytes) ≡ Some line → ⊥
+    not_unbuilt line at = none_is_none line (sym built ∙ at)
+
+    disk_judged : (log : List ℕ) (a b : ℕ) → HasFailed old new a b → Judged log (status.DiskFault a b)
+    disk_judged log a b failed = record {
+      read_fault = (λ is. absurd (cc), λ is. absurd (traced.unfailed is));
+      bad_trace = λ line why. (λ is. absurd (cc), λ is. absurd (no_fault line why is.1));
+      not_built = λ line. (λ is. absurd (cc), λ is. absurd (not_unbuilt line is.1));
+      disk_fault = λ opened now is. (runnable, moved opened now (opened_is a b opened now is) (now_is a b opened now is));
+      unhidden = λ runs risen. ap (λ n. status.DiskFault n b) failed.before ∙ ap (λ n. status.DiskFault old.faults n) failed.after;
+      bad_store = λ fault. (λ is. absurd (cc), λ is. absurd (is.1 a b refl));
+      ended = (λ is. absurd is, λ is. absurd (is.1 a b refl));
+      no_other = refl;
+    }
+      where
+        moved : (opened now : ℕ) → a ≡ opened → b ≡ now → HasFailed old new opened now
+        moved opened now same also = subst (λ n. HasFailed old new opened n) also (subst (λ n. HasFailed old new n b) same failed)
+
+    store_judged : (log : List ℕ) (fault : OpenFault) → new.faults ≡ old.faults → session_fault log ≡ Some fault → Judged log (status.BadStore fault)
+    store_judged log fault still has = record {
+      read_fault = (λ is. absurd (cc), λ is. absurd (traced.unfailed is));
+      bad_trace = λ line why. (λ is. absurd (cc), λ is. absurd (no_fault line why is.1));
+      not_built = λ line. (λ is. absurd (cc), λ is. absurd (not_unbuilt line is.1));
+      disk_fault = λ opened now is. absurd (cc);
+      unhidden = λ runs risen. absurd (omega (arith, still, risen));
+      bad_store = λ other. (λ is. (runnable, λ opened now fails. absurd (cc), has ∙ ap Some (store_is fault other is)), λ is. ap status.BadStore (same_fault_of fault other (sym has ∙ is.2)));
+      ended = (λ is. absurd is, λ is. absurd (none_is_none fault (sym is.2 ∙ has)));
+      no_other = refl;
+    }
+
+    end_judged : (log : List ℕ) (judged : Status) → IsEnd judged → new.faults ≡ old.faults → session_fault log ≡ None → Judged log judged
+    end_judged log status.Done is still none = record {
+      read_fault = (λ is. absurd (cc), λ is. absurd (traced.unfailed is));
+      bad_trace = λ line why. (λ is. absurd (cc), λ is. absurd (no_fault line why is.1));
+      not_built = λ line. (λ is. absurd (cc), λ is. absurd (not_unbuilt line is.1));
+      disk_fault = λ opened now is. absurd (cc);
+      unhidden = λ runs risen. absurd (omega (arith, still, risen));
+      bad_store = λ other. (λ is. absurd (cc), λ is. absurd (none_is_none other (sym none ∙ is.2)));
+      ended = (λ is. (runnable, λ opened now fails. absurd (cc), none), λ is. tt);
+      no_other = refl;
+    }
+    end_judged log status.Stuck is still none = record {
+      read_fault = (λ is. absurd (cc), λ is. absurd (traced.unfailed is));
+      bad_trace = λ line why. (λ is. absurd (cc), λ is. absurd (no_fault line why is.1));
+      not_built = λ line. (λ is. absurd (cc), λ is. absurd (not_unbuilt line is.1));
+      disk_fault = λ opened now is. absurd (cc);
+      unhidden = λ runs risen. absurd (omega (arith, still, risen));
+      bad_store = λ other. (λ is. absurd (cc), λ is. absurd (none_is_none other (sym none ∙ is.2)));
+      ended = (λ is. (runnable, λ opened now fails. absurd (cc), none), λ is. tt);
+      no_other = refl;
+    }
+    end_judged log _ is still none = absurd is
+
+-- what the run of a trace has answered
+
+pub record Ran (old new : Moment) (lines : List TraceLine) (out : Outcome) (judged : Status) (report : List ℕ) : Type 0 where
   pub not_built : (line : ℕ) → judged ≡ status.NotBuilt line ↔ (unbuilt_line lines ≡ Some line)
-  pub not_begun : IsSome (unbuilt_line lines) → history ≡ []
-  pub run : unbuilt_line lines ≡ None → IsRun (session_of_trace start lines) (plain_trace lines) history
-  pub named : unbuilt_line lines ≡ None → AreNamed (session_of_trace start lines) (plain_trace lines) history
-  pub ends : unbuilt_line lines ≡ None → EndsAs (session_of_trace start lines) (plain_trace lines) history judged
-  pub graph : unbuilt_line lines ≡ None → IsFaithful (session_list [] (session_of_trace start lines) history) [] (session_of_trace start lines) history
-  pub reported : unbuilt_line lines ≡ None → report ≡ report_of start history lines
+  pub disk_fault : (opened now : ℕ) → judged ≡ status.DiskFault opened now → HasFailed old new opened now
+  pub no_fault : (IsOfDisk judged → ⊥) → new.faults ≡ old.faults
+  pub by_log : unbuilt_line lines ≡ None → (IsOfDisk judged → ⊥) → LogHas old (λ log. stored.IsJudged (session_fault log) judged)
+  pub not_begun : IsSome (unbuilt_line lines) → IsUntouched old new × IsNothing out
+  pub bad_store : (fault : OpenFault) → judged ≡ status.BadStore fault → IsNothing out
+  pub recorded : IsNothing out ⊎ IsOverStore old.calls old new lines out.list out.start out.history out.syncs
+  pub ended : IsEnd judged → HasEnded old.calls old new lines out.list out.start out.history out.syncs judged report
 
--- both facts of a judgement
-abbrev pub Judges : List ℕ → ℕ → ℕ → Start → Status → List Entry → List ℕ → Type 0
-Judges bytes before after start judged history report =
-    IsJudged bytes before after start judged history × IsReport start bytes judged history report
+-- and what is judged by it
+module _ (bytes : List ℕ) (before after : ℕ) (old new : Moment) (out : Outcome) (judged : Status) (report : List ℕ) (traced : IsTraced bytes before after)
+    (r : Ran old new (trace_of bytes) out judged report) where
+  abbrev Goal : Type 0
+  Goal = HasRun bytes before after old new out judged report
 
-pub ran_judges : (bytes : List ℕ) (before after : ℕ) (start : Start) (lines : List TraceLine) (judged : Status) (history : List Entry) (report : List ℕ)
-    → IsTraced bytes before after → lines ≡ trace_of bytes → Ran start lines judged history report → Judges bytes before after start judged history report
-ran_judges bytes before after start lines judged history report traced same ran =
-    (run_judged bytes before after start traced judged history r.not_built r.not_begun (λ built. record { run = r.run built; named = r.named built; graph = r.graph built }) r.ends, by (unbuilt_line (trace_of bytes)) refl)
-  where
-    r : Ran start (trace_of bytes) judged history report
-    r = subst (λ (ls : List TraceLine). Ran start ls judged history report) same ran
+  unbuilt_run : (line : ℕ) → unbuilt_line (trace_of bytes) ≡ Some line → Goal
+  unbuilt_run line at =
+      let is : judged ≡ status.NotBuilt line = (r.not_built line).1 at in
+      let stays = r.not_begun (subst IsSome (sym at) refl) in
+      record {
+        log = old.seen.log;
+        logged = λ tells. refl;
+        by = subst (λ (s : Status). IsJudged bytes before after old.seen.log old new s) (sym is) (unbuilt_judged bytes before after old new traced old.seen.log line at);
+        untouched = λ stops. stays.0;
+        refused = λ comes. stays.1;
+        recorded = inl stays.1;
+        whole = λ ends. absurd (subst IsEnd is ends);
+      }
 
-    by : (found : Option ℕ) → unbuilt_line (trace_of bytes) ≡ found → IsReport start bytes judged history report
-    by None built reported = r.reported built
-    by (Some line) at reported = absurd (let z : false ≡ true = sym (ap is_reported ((r.not_built line).1 at)) ∙ reported in cc)
+  module _ (built : unbuilt_line (trace_of bytes) ≡ None) where
+    with_log : (log : List ℕ) → (IsTrue old.tells → log ≡ old.seen.log) → (s : Status) → judged ≡ s → IsJudged bytes before after log old new s
+        → (comes_before s ≡ true → IsNothing out) → Goal
+    with_log log logged s is by refused = record {
+      log = log;
+      logged = logged;
+      by = subst (λ (t : Status). IsJudged bytes before after log old new t) (sym is) by;
+      untouched = λ stops. absurd (stops (record { traced = traced; built = built }));
+      refused = λ comes. refused (sym (ap comes_before is) ∙ comes);
+      recorded = r.recorded;
+      whole = r.ended;
+    }
 
-pub refused_judges : (bytes : List ℕ) (before after : ℕ) (start : Start) (s judged : Status) (history : List Entry) (report : List ℕ)
-    → judged ≡ s → history ≡ [] → judged ≢ status.NoMemory → IsRefusal bytes before after s → Judges bytes before after start judged history report
-refused_judges bytes before after start s judged history report same none known refusal = (
-  subst (λ (t : Status). IsJudged bytes before after start t history) (sym same)
-      (subst (λ (h : List Entry). IsJudged bytes before after start s h) (sym none) (refusal_judged bytes before after start s (λ is. known (same ∙ is)) refusal)),
-  λ reported. absurd (by s refusal (sym (ap is_reported same) ∙ reported)),
-)
-  where
-    by : (t : Status) → IsRefusal bytes before after t → is_reported t ≡ true → ⊥
-    by status.Done is reported = is
-    by status.Stuck is reported = is
-    by _ is reported = cc
+    of_store : (log : List ℕ) → (IsTrue old.tells → log ≡ old.seen.log) → new.faults ≡ old.faults → (found : Option OpenFault) → session_fault log ≡ found
+        → stored.IsJudged found judged → Goal
+    of_store log logged still (Some fault) has is =
+        with_log log logged (status.BadStore fault) is (store_judged bytes before after old new traced built log fault still has) (λ comes. r.bad_store fault is)
+    of_store log logged still None has (inl is) =
+        with_log log logged status.Done is (end_judged bytes before after old new traced built log status.Done tt still has) (λ comes. absurd (cc))
+    of_store log logged still None has (inr is) =
+        with_log log logged status.Stuck is (end_judged bytes before after old new traced built log status.Stuck tt still has) (λ comes. absurd (cc))
+
+    of_log : (IsOfDisk judged → ⊥) → Goal
+    of_log not_disk = let (log, logged, is) = r.by_log built not_disk in of_store log logged (r.no_fault not_disk) (session_fault log) refl is
+
+    by_status : (s : Status) → judged ≡ s → Goal
+    by_status (status.DiskFault a b) is =
+        with_log old.seen.log (λ tells. refl) (status.DiskFault a b) is (disk_judged bytes before after old new traced built old.seen.log a b (r.disk_fault a b is)) (λ comes. absurd (cc))
+    by_status _ is = of_log (λ disk. subst IsOfDisk is disk)
+
+  by_line : (found : Option ℕ) → unbuilt_line (trace_of bytes) ≡ found → Goal
+  by_line (Some line) at = unbuilt_run line at
+  by_line None built = by_status built judged refl
+
+pub ran_run : (bytes : List ℕ) (before after : ℕ) (old new : Moment) (lines : List TraceLine) (out : Outcome) (judged : Status) (report : List ℕ)
+    → IsTraced bytes before after → lines ≡ trace_of bytes → Ran old new lines out judged report → HasRun bytes before after old new out judged report
+ran_run bytes before after old new lines out judged report traced same ran =
+    by_line bytes before after old new out judged report traced (subst (λ (ls : List TraceLine). Ran old new ls out judged report) same ran) (unbuilt_line (trace_of bytes)) refl
+
+-- a status that a run may end with isn't one of the sink
+pub no_write : (s : Status) → ends_run s ≡ true → s ≢ status.WriteFault
+no_write s ends is = let z : true ≡ false = sym ends ∙ ap ends_run is in cc
+
+-- a status with a report is that of a run that came to its end
+pub reported_ends : (s : Status) → IsTrue (is_reported s) → IsEnd s
+reported_ends status.Done is = tt
+reported_ends status.Stuck is = tt
+reported_ends _ is = absurd (cc)
+
+some_cons : (a : List ℕ) (b : ℕ) (bs : List ℕ) → 0 < length (a ++ b ∷ bs)
+some_cons a b bs = let n = length-append a (b ∷ bs) in omega (arith, n)
+
+-- and the report isn't empty
+pub some_report : (start : Start) (history : List Entry) (lines : List TraceLine) → 0 < length (report_of start history lines)
+some_report start history lines = some_cons _ _ _

@@ -6,13 +6,6 @@ use Rattle.pass_run.specs.declared.status.Status.TheVariants as status
 use Rattle.pass_run.specs.Statuses.{status_text}
 use Rattle.pass_cli.specs.Answers.{is_reported, text_with}
 
-pub same_text : (s : Status) (a b : List ℕ) → (IsTrue (is_reported s) → a ≡ b) → text_with s a ≡ text_with s b
-same_text s a b same = by (is_reported s) (status_text s) same
-  where
-    by : (reported : Bool) (other : List ℕ) → (IsTrue reported → a ≡ b) → cond reported a other ≡ cond reported b other
-    by true other same = same refl
-    by false other same = refl
-
 -- an answer that isn't want of memory is what was judged, or a fault of the sink
 pub stands_as : (answered judged : Status) → answered ≢ status.NoMemory → (answered ≡ judged) ⊎ ((answered ≡ status.WriteFault) ⊎ (answered ≡ status.NoMemory))
     → (answered ≡ judged) ⊎ (answered ≡ status.WriteFault)

@@ -1,24 +1,24 @@
 -- What the program answers, and what it writes. This project's own rule.
-use Rattle.std.specs.Prelude.{ℕ, ◌≡◌, ◌≢◌, ◌⊎◌, ◌↔◌, Bool, true, false, IsTrue, List, [], ◌∷◌, ◌++◌, Some, None, Result, Ok, Err, codes, if◌then◌else◌}
+use Rattle.std.specs.Prelude.{ℕ, ◌≡◌, ◌≢◌, ◌⊎◌, ◌↔◌, ◌<◌, Bool, true, false, IsTrue, List, [], ◌∷◌, ◌++◌, Some, None, Result, Ok, Err, codes, if◌then◌else◌}
 use Rattle.pass_entry.specs.declared.entry.Entry.{Entry}
+use Rattle.pass_entry.specs.declared.entry.Synced.{Synced}
+use Rattle.pass_entry.specs.declared.record.Record.{Record}
 use Rattle.pass_outside.specs.Faults.{HasRisen}
+use Rattle.pass_outside.specs.Moments.{Moment, IsAtEnd}
 use Rattle.pass_plain.specs.declared.start.Start.{Start}
-use Rattle.pass_plain.specs.Sessions.{Session}
-use Rattle.pass_plain.specs.Traces.{Line}
-use Rattle.pass_plain.specs.Runs.{IsRun}
+use Rattle.pass_recover.specs.declared.fault.OpenFault.{OpenFault}
 use Rattle.pass_trace.specs.declared.trace.Trace.{Trace}
 use Rattle.pass_trace.specs.declared.trace.TraceReason.{TraceReason}
 use Rattle.pass_trace.specs.Traces.{trace_of, IsTraceText, IsFirstFault}
-use Rattle.pass_report.specs.TraceLines.{plain_trace, session_of_trace}
-use Rattle.pass_report.specs.Reports.{report_of}
-use Rattle.pass_graph.specs.Openings.{session_list}
-use Rattle.pass_graph.specs.Lawful.{IsFaithful}
+use Rattle.pass_run.specs.declared.ending.RunEnd.{RunEnd}
 use Rattle.pass_run.specs.declared.status.Status.{Status}
 use Rattle.pass_run.specs.declared.status.Status.TheVariants as status
 use Rattle.pass_run.specs.Statuses.{status_text}
-use Rattle.pass_run.specs.Ends.{unbuilt_line, AreNamed, NoneOpen, IsStuck}
+use Rattle.pass_run.specs.Ends.{unbuilt_line}
 use Rattle.pass_run.specs.Reading.{is_too_long, StopsInTime}
+use Rattle.pass_run.specs.Stored.{session_fault, IsEnd, IsUnopened, IsOverStore, HasEnded}
 use Rattle.pass_run.specs.Writing.{IsPart}
+use Rattle.pass_cli.specs.declared.main_call.Ended.{Ended}
 
 -- the words are the one word `run`
 abbrev pub IsRunWord : List (List ℕ) → Type 0
@@ -58,40 +58,90 @@ abbrev pub IsRead : List ℕ → ℕ → ℕ → Result Trace Status → Type 0
 IsRead bytes before after (Ok trace) = IsTraced bytes before after × (trace.lines.items ≡ trace_of bytes)
 IsRead bytes before after (Err refusal) = IsRefusal bytes before after refusal
 
--- the trace of the bytes, and the session that runs it
-abbrev pub lines_in : List ℕ → List Line
-lines_in bytes = plain_trace (trace_of bytes)
-
-abbrev pub session_in : Start → List ℕ → Session
-session_in start bytes = session_of_trace start (trace_of bytes)
-
--- the history is a run of the trace of the bytes, each of its calls is recorded by its name, and its graph is that of its flows
-pub record IsRecorded (start : Start) (bytes : List ℕ) (history : List Entry) : Type 0 where
-  pub run : IsRun (session_in start bytes) (lines_in bytes) history
-  pub named : AreNamed (session_in start bytes) (lines_in bytes) history
-  pub graph : IsFaithful (session_list [] (session_in start bytes) history) [] (session_in start bytes) history
-
 -- the statuses with which a run may end
 abbrev pub ends_run : Status → Bool
 ends_run status.ReadFault = true
 ends_run (status.BadTrace line reason) = true
 ends_run (status.NotBuilt line) = true
+ends_run (status.DiskFault opened now) = true
+ends_run (status.BadStore fault) = true
 ends_run status.Stuck = true
 ends_run status.Done = true
 ends_run _ = false
 
--- What is judged by the bytes of the source, and its count of faults before and after, and with which history. The source's
--- faults come first, then the trace's, then its calls; and then the trace is run.
-pub record IsJudged (bytes : List ℕ) (before after : ℕ) (start : Start) (judged : Status) (history : List Entry) : Type 0 where
+-- no device call failed
+abbrev pub IsNoDiskFault : Status → Type 0
+IsNoDiskFault judged = (opened now : ℕ) → judged ≢ status.DiskFault opened now
+
+-- a device call failed: these are the counts of faults before and after, and the count rose, or a count stands at its end
+pub record HasFailed (old new : Moment) (opened now : ℕ) : Type 0 where
+  pub before : opened ≡ old.faults
+  pub after : now ≡ new.faults
+  pub risen : (opened < now) ⊎ IsAtEnd new
+
+-- What a run is judged by: the bytes of the source, its count of faults before and after, the bytes of the log area, and the
+-- disk before and after. The source's faults come first, then the trace's, then its calls, the device's faults, and what the
+-- log has; and then the trace is run.
+pub record IsJudged (bytes : List ℕ) (before after : ℕ) (log : List ℕ) (old new : Moment) (judged : Status) : Type 0 where
   pub read_fault : judged ≡ status.ReadFault ↔ HasRisen before after
   pub bad_trace : (line : ℕ) (reason : TraceReason) → judged ≡ status.BadTrace line reason ↔ ((¬ HasRisen before after) × IsFirstFault bytes line reason)
   pub not_built : (line : ℕ) → judged ≡ status.NotBuilt line ↔ (IsTraced bytes before after × (unbuilt_line (trace_of bytes) ≡ Some line))
-  -- done where no process is open, stuck where one is and none can move; there is no third end
-  pub done : judged ≡ status.Done ↔ (IsRunnable bytes before after × NoneOpen (session_in start bytes) (lines_in bytes) history)
-  pub stuck : judged ≡ status.Stuck ↔ (IsRunnable bytes before after × IsStuck (session_in start bytes) (lines_in bytes) history)
+  pub disk_fault : (opened now : ℕ) → judged ≡ status.DiskFault opened now → IsRunnable bytes before after × HasFailed old new opened now
+  -- and wherever the count rose
+  pub unhidden : IsRunnable bytes before after → old.faults < new.faults → judged ≡ status.DiskFault old.faults new.faults
+  pub bad_store : (fault : OpenFault) → judged ≡ status.BadStore fault ↔ (IsRunnable bytes before after × IsNoDiskFault judged × (session_fault log ≡ Some fault))
+  -- Done and Stuck; which of them is told by what was recorded
+  pub ended : IsEnd judged ↔ (IsRunnable bytes before after × IsNoDiskFault judged × (session_fault log ≡ None))
   pub no_other : ends_run judged ≡ true
-  pub refused : judged ≢ status.Done → judged ≢ status.Stuck → history ≡ []
-  pub recorded : IsRunnable bytes before after → IsRecorded start bytes history
+
+-- what a run hands out: the records and the start of the store that it opened, its history, and the syncs of the store
+pub record Outcome : Type 0 where
+  pub list : List Record
+  pub start : Start
+  pub history : List Entry
+  pub syncs : List Synced
+
+abbrev pub outcome_of : {D : Type 0} → Ended D → Outcome
+outcome_of e = record { list = e.list.items; start = e.start; history = e.history.items; syncs = e.syncs.items }
+
+abbrev pub outcome_of_run : {D : Type 0} → RunEnd D → Outcome
+outcome_of_run e = record { list = e.list.items; start = e.start; history = e.history.items; syncs = e.syncs.items }
+
+-- the store wasn't opened, and nothing was recorded
+abbrev pub IsNothing : Outcome → Type 0
+IsNothing out = IsUnopened out.list out.start out.history out.syncs
+
+-- the store was opened, and the history, if any, is a run of the trace of the bytes, of which a crash leaves a beginning
+abbrev pub IsRecorded : Moment → Moment → List ℕ → Outcome → Type 0
+IsRecorded old new bytes out = IsOverStore old.calls old new (trace_of bytes) out.list out.start out.history out.syncs
+
+-- the trace was run until no process could move, all of it is kept, and the report is that of the history
+abbrev pub IsWhole : Moment → Moment → List ℕ → Outcome → Status → List ℕ → Type 0
+IsWhole old new bytes out judged report = HasEnded old.calls old new (trace_of bytes) out.list out.start out.history out.syncs judged report
+
+-- the statuses that come before a store is open
+abbrev pub comes_before : Status → Bool
+comes_before status.Done = false
+comes_before status.Stuck = false
+comes_before (status.DiskFault opened now) = false
+comes_before _ = true
+
+-- no device call was made
+pub record IsUntouched (old new : Moment) : Type 0 where
+  pub calls : new.calls ≡ old.calls
+  pub faults : new.faults ≡ old.faults
+  pub seen : new.seen ≡ old.seen
+
+-- how a run is judged, and what was recorded, with the report of Done and Stuck
+pub record HasRun (bytes : List ℕ) (before after : ℕ) (old new : Moment) (out : Outcome) (judged : Status) (report : List ℕ) : Type 0 where
+  -- the bytes of the log area, where the disk tells them
+  pub log : List ℕ
+  pub logged : IsTrue old.tells → log ≡ old.seen.log
+  pub by : IsJudged bytes before after log old new judged
+  pub untouched : ¬ IsRunnable bytes before after → IsUntouched old new
+  pub refused : comes_before judged ≡ true → IsNothing out
+  pub recorded : IsNothing out ⊎ IsRecorded old new bytes out
+  pub whole : IsEnd judged → IsWhole old new bytes out judged report
 
 -- the trace was run, so that there is a report
 abbrev pub is_reported : Status → Bool
@@ -102,14 +152,6 @@ is_reported _ = false
 -- what is written for a status, given the report
 abbrev pub text_with : Status → List ℕ → List ℕ
 text_with judged report = if is_reported judged then report else status_text judged
-
--- what is written for a status with this history
-abbrev pub text_of : Start → List ℕ → Status → List Entry → List ℕ
-text_of start bytes judged history = text_with judged (report_of start history (trace_of bytes))
-
--- where there is to be a report, it is that of the history
-abbrev pub IsReport : Start → List ℕ → Status → List Entry → List ℕ → Type 0
-IsReport start bytes judged history report = IsTrue (is_reported judged) → report ≡ report_of start history (trace_of bytes)
 
 -- what a call saw of its source: whether it tells its bytes, the bytes that it had left, and its count of faults before and after
 pub record SourceSeen : Type 0 where
@@ -126,11 +168,12 @@ pub record SinkSeen : Type 0 where
 
 -- What stands behind the answer of a run, other than want of memory: the bytes that the source had left, where it tells
 -- them; the status that was judged by them, which is the answer unless the sink failed; and its text, which the sink took
-pub record IsAnswer (source : SourceSeen) (sink : SinkSeen) (start : Start) (answered : Status) (history : List Entry) : Type 0 where
+pub record IsAnswer (source : SourceSeen) (sink : SinkSeen) (old new : Moment) (out : Outcome) (answered : Status) : Type 0 where
   pub bytes : List ℕ
   pub told : IsTrue source.tells → bytes ≡ source.left
   pub judged : Status
-  pub by : IsJudged bytes source.before source.after start judged history
+  pub report : List ℕ
+  pub by : HasRun bytes source.before source.after old new out judged report
   pub stands : (answered ≡ judged) ⊎ (answered ≡ status.WriteFault)
-  pub whole : answered ≢ status.WriteFault → IsTrue sink.tells → sink.after ≡ sink.before ++ text_of start bytes judged history
-  pub part : answered ≡ status.WriteFault → IsTrue sink.tells → IsPart (text_of start bytes judged history) sink.before sink.after
+  pub whole : answered ≢ status.WriteFault → IsTrue sink.tells → sink.after ≡ sink.before ++ text_with judged report
+  pub part : answered ≡ status.WriteFault → IsTrue sink.tells → IsPart (text_with judged report) sink.before sink.after

@@ -4,7 +4,7 @@ use Rattle.std.specs.Fmt.{decimal}
 use Rattle.pass_entry.specs.declared.record.Record.{Record}
 use Rattle.pass_graph.specs.ListRanks.{graph_nodes}
 use Rattle.pass_log.specs.Records.{Held, image_of}
-use Rattle.pass_outside.specs.Moments.{Moment, IsAtEnd}
+use Rattle.pass_outside.specs.Moments.{Moment}
 use Rattle.pass_range.specs.declared.range.Range.{Range}
 use Rattle.pass_range.specs.Tables.{AreUnmatched}
 use Rattle.pass_recover.specs.declared.fault.OpenFault.{OpenFault}
@@ -14,7 +14,7 @@ use Rattle.pass_run.specs.declared.status.Status.TheVariants as status
 use Rattle.pass_run.specs.Statuses.{status_text}
 use Rattle.pass_run.specs.Stores.{store_fault}
 use Rattle.pass_run.specs.Writing.{IsPart}
-use Rattle.pass_cli.specs.Answers.{SinkSeen}
+use Rattle.pass_cli.specs.Answers.{SinkSeen, IsNoDiskFault, HasFailed}
 
 -- the words are the one word `check`
 abbrev pub IsCheckWord : List (List ℕ) → Type 0
@@ -45,18 +45,12 @@ abbrev pub IsCheckText : Moment → List ℕ → List ℕ → Type 0
 IsCheckText old bytes text = (held : Held) × (image_of bytes ≡ Ok held)
     × ((unmatched : List Range) × (IsTrue old.tells → AreUnmatched held.list old.seen.store unmatched) × (text ≡ check_text held.list unmatched))
 
--- no device call failed
-abbrev pub IsNoDiskFault : Status → Type 0
-IsNoDiskFault judged = (opened now : ℕ) → judged ≢ status.DiskFault opened now
-
 -- What is judged by the words, the disk before and after, and the bytes of its log area. The words come first, then the
 -- device's faults, and then what the log has.
 pub record IsCheckJudged (words : List (List ℕ)) (old new : Moment) (bytes : List ℕ) (judged : Status) : Type 0 where
   pub bad_words : judged ≡ status.BadWords ↔ (¬ IsCheckWord words)
-  -- with the count of faults before and after, only where it rose, or a count stands at its end
-  pub disk_fault : (opened now : ℕ) → judged ≡ status.DiskFault opened now
-      → IsCheckWord words × (opened ≡ old.faults) × (now ≡ new.faults) × ((opened < now) ⊎ IsAtEnd new)
-  -- and wherever it rose
+  pub disk_fault : (opened now : ℕ) → judged ≡ status.DiskFault opened now → IsCheckWord words × HasFailed old new opened now
+  -- and wherever the count rose
   pub unhidden : IsCheckWord words → old.faults < new.faults → judged ≡ status.DiskFault old.faults new.faults
   pub bad_store : (fault : OpenFault) → judged ≡ status.BadStore fault ↔ (IsCheckWord words × IsNoDiskFault judged × (store_fault bytes ≡ Some fault))
   pub done : judged ≡ status.Done ↔ (IsCheckWord words × IsNoDiskFault judged × (store_fault bytes ≡ None))

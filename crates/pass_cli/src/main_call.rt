@@ -1,9 +1,8 @@
 //! The call that the program makes.
-ghost use Rattle.std.specs.Prelude.{◌≡◌, ◌≢◌, ◌↔◌, IsTrue, [], map, string_bytes};
+ghost use Rattle.std.specs.Prelude.{◌≡◌, ◌≢◌, ◌↔◌, ◌⊎◌, IsTrue, map, string_bytes};
 ghost use Rattle.pass_outside.specs.Areas.{Image};
 ghost use Rattle.pass_outside.specs.Faults.{HasRisen};
-ghost use Rattle.pass_run.specs.Ends.{IsEmptyStart};
-ghost use Rattle.pass_cli.specs.Answers.{IsRunWord, IsReadInTime, IsAnswer};
+ghost use Rattle.pass_cli.specs.Answers.{IsRunWord, OfBytes, IsReadInTime, IsAnswer, IsNothing, IsRecorded, outcome_of};
 ghost use Rattle.pass_cli.specs.Checks.{IsCheckWord, IsAsked};
 
 use crate::asking::{Asked, ask};
@@ -43,26 +42,24 @@ pub fn pass_main<R: Threads + Wait + Sync, S: Source, K: Sink, D: Disk + Send, G
 ) -> Ended<D>
     ensures run { IsRunWord (map string_bytes words.now) → result.status ≢ Status.NoMemory → IsAnswer
         (record { tells = S.tells; left = S.left source.old; before = S.fault_count source.old; after = S.fault_count source.new })
-        (record { tells = K.tells; before = K.taken sink.old; after = K.taken sink.new })
-        result.start result.status result.history.items }
-    // Every other command is answered by `ask`.
+        (record { tells = K.tells; before = K.taken sink.old; after = K.taken sink.new }) (D.view disk) (D.view result.disk) (outcome_of result) result.status }
+    // What a run hands out, also where memory was refused.
+    ensures recorded { IsRunWord (map string_bytes words.now) → OfBytes S.tells (S.left source.old)
+        (λ bytes. IsNothing (outcome_of result) ⊎ IsRecorded (D.view disk) (D.view result.disk) bytes (outcome_of result)) }
+    // Every other command is answered by `ask`, and records nothing.
     ensures asked { ¬ IsRunWord (map string_bytes words.now) → result.status ≢ Status.NoMemory → IsAsked (map string_bytes words.now) (D.view disk) (D.view result.disk)
         (record { tells = K.tells; before = K.taken sink.old; after = K.taken sink.new }) result.status }
+    ensures unrecorded { ¬ IsRunWord (map string_bytes words.now) → IsNothing (outcome_of result) }
+    ensures unwritten { ¬ IsRunWord (map string_bytes words.now) → (c : Image) → (D.view result.disk).may_leave c → (D.view disk).may_leave c }
+    ensures unopened { ¬ IsRunWord (map string_bytes words.now) → ¬ IsCheckWord (map string_bytes words.now) → result.disk ≡ disk }
     ensures write_fault { result.status ≢ Status.NoMemory → (result.status ≡ Status.WriteFault
         ↔ HasRisen (K.fault_count sink.old) (K.fault_count sink.new)) }
-    ensures no_memory { result.status ≡ Status.NoMemory → result.history.items ≡ [] }
-    ensures unwritten { result.status ≡ Status.NoMemory → sink.new ≡ sink.old }
+    ensures untaken { result.status ≡ Status.NoMemory → sink.new ≡ sink.old }
     // Only a run reads the source.
     ensures unread { ¬ IsRunWord (map string_bytes words.now) → source.new ≡ source.old }
     // The source is read to its end, or to where its bytes are seen to be too long for a trace.
     ensures stops { IsTrue S.tells → IsRunWord (map string_bytes words.now) → result.status ≢ Status.NoMemory → ¬ HasRisen (S.fault_count source.old) (S.fault_count source.new)
         → IsReadInTime (S.left source.old) (S.left source.new) }
-    ensures unopened { ¬ IsCheckWord (map string_bytes words.now) → result.disk ≡ disk }
-    ensures crash { (c : Image) → (D.view result.disk).may_leave c → (D.view disk).may_leave c }
-    ensures no_history { ¬ IsRunWord (map string_bytes words.now) → result.history.items ≡ [] }
-    ensures syncs { result.syncs.items ≡ [] }
-    ensures list { result.list.items ≡ [] }
-    ensures start { IsEmptyStart result.start }
 {
     if is_run(words) {
         run_words(alloc, source, sink, disk, gate)
@@ -79,20 +76,16 @@ fn run_words<S: Source, K: Sink, D: Disk + Send, G: Gate + Sync>(
     disk: D,
     gate: &G,
 ) -> Ended<D>
-    ensures answer { result.status ≢ Status.NoMemory → IsAnswer
+    ensures run { result.status ≢ Status.NoMemory → IsAnswer
         (record { tells = S.tells; left = S.left source.old; before = S.fault_count source.old; after = S.fault_count source.new })
-        (record { tells = K.tells; before = K.taken sink.old; after = K.taken sink.new })
-        result.start result.status result.history.items }
+        (record { tells = K.tells; before = K.taken sink.old; after = K.taken sink.new }) (D.view disk) (D.view result.disk) (outcome_of result) result.status }
+    ensures recorded { OfBytes S.tells (S.left source.old)
+        (λ bytes. IsNothing (outcome_of result) ⊎ IsRecorded (D.view disk) (D.view result.disk) bytes (outcome_of result)) }
     ensures write_fault { result.status ≢ Status.NoMemory → (result.status ≡ Status.WriteFault
         ↔ HasRisen (K.fault_count sink.old) (K.fault_count sink.new)) }
-    ensures no_memory { result.status ≡ Status.NoMemory → result.history.items ≡ [] }
-    ensures unwritten { result.status ≡ Status.NoMemory → sink.new ≡ sink.old }
+    ensures untaken { result.status ≡ Status.NoMemory → sink.new ≡ sink.old }
     ensures stops { IsTrue S.tells → result.status ≢ Status.NoMemory → ¬ HasRisen (S.fault_count source.old) (S.fault_count source.new)
         → IsReadInTime (S.left source.old) (S.left source.new) }
-    ensures disk { result.disk ≡ disk }
-    ensures syncs { result.syncs.items ≡ [] }
-    ensures list { result.list.items ≡ [] }
-    ensures start { IsEmptyStart result.start }
 {
     let RunEnd {
         status,
@@ -117,10 +110,7 @@ fn run_words<S: Source, K: Sink, D: Disk + Send, G: Gate + Sync>(
 fn asked<D>(alloc: Global, asked: Asked<D>) -> Ended<D>
     ensures status { result.status ≡ asked.status }
     ensures disk { result.disk ≡ asked.disk }
-    ensures history { result.history.items ≡ [] }
-    ensures syncs { result.syncs.items ≡ [] }
-    ensures list { result.list.items ≡ [] }
-    ensures start { IsEmptyStart result.start }
+    ensures nothing { IsNothing (outcome_of result) }
 {
     let Asked { status, disk } = asked;
     Ended {

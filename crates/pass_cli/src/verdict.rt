@@ -1,8 +1,7 @@
-//! Judges what is to be answered, before any of it is written.
-ghost use Rattle.std.specs.Prelude.{◌≡◌, ◌≢◌, IsTrue, []};
+//! Judges what is to be answered of a run, before any of it is written.
+ghost use Rattle.std.specs.Prelude.{◌≡◌, ◌≢◌, ◌⊎◌, ◌<◌, IsTrue, length};
 ghost use Rattle.pass_outside.specs.Faults.{HasRisen};
-ghost use Rattle.pass_run.specs.Ends.{IsEmptyStart};
-ghost use Rattle.pass_cli.specs.Answers.{OfBytes, IsJudged, IsReport, IsReadInTime};
+ghost use Rattle.pass_cli.specs.Answers.{OfBytes, HasRun, IsNothing, IsRecorded, IsReadInTime, is_reported, outcome_of_run};
 
 use crate::reading::read_trace;
 use pass_outside::{Disk, Gate, Source};
@@ -12,7 +11,7 @@ use std::alloc::Global;
 /// How many workers take the turns.
 const WORKERS: u32 = 1;
 
-/// Judges the source, then its bytes, and runs their trace.
+/// Judges the source, then its bytes, and runs their trace over the store.
 pub fn judge<S: Source, D: Disk + Send, G: Gate + Sync>(
     alloc: Global,
     source: &mut S,
@@ -20,15 +19,14 @@ pub fn judge<S: Source, D: Disk + Send, G: Gate + Sync>(
     gate: &G,
 ) -> RunEnd<D>
     ensures judged { result.status ≢ Status.NoMemory → OfBytes S.tells (S.left source.old)
-        (λ bytes. IsJudged bytes (S.fault_count source.old) (S.fault_count source.new) result.start result.status result.history.items
-        × IsReport result.start bytes result.status result.history.items result.report.items) }
-    ensures no_memory { result.status ≡ Status.NoMemory → result.history.items ≡ [] }
+        (λ bytes. HasRun bytes (S.fault_count source.old) (S.fault_count source.new) (D.view disk) (D.view result.disk) (outcome_of_run result) result.status result.report.items) }
+    // Also where memory was refused.
+    ensures recorded { OfBytes S.tells (S.left source.old)
+        (λ bytes. IsNothing (outcome_of_run result) ⊎ IsRecorded (D.view disk) (D.view result.disk) bytes (outcome_of_run result)) }
+    ensures some { IsTrue (is_reported result.status) → 0 < length result.report.items }
+    ensures no_write { result.status ≢ Status.WriteFault }
     ensures stops { IsTrue S.tells → result.status ≢ Status.NoMemory → ¬ HasRisen (S.fault_count source.old) (S.fault_count source.new)
         → IsReadInTime (S.left source.old) (S.left source.new) }
-    ensures disk { result.disk ≡ disk }
-    ensures syncs { result.syncs.items ≡ [] }
-    ensures list { result.list.items ≡ [] }
-    ensures start { IsEmptyStart result.start }
 {
     match read_trace(alloc, source) {
         Ok(trace) => run_trace(alloc, &trace, WORKERS, disk, gate),
@@ -39,11 +37,8 @@ pub fn judge<S: Source, D: Disk + Send, G: Gate + Sync>(
 // The end of a run that hasn't begun.
 fn refused<D>(alloc: Global, status: Status, disk: D) -> RunEnd<D>
     ensures status { result.status ≡ status }
-    ensures history { result.history.items ≡ [] }
+    ensures nothing { IsNothing (outcome_of_run result) }
     ensures disk { result.disk ≡ disk }
-    ensures syncs { result.syncs.items ≡ [] }
-    ensures list { result.list.items ≡ [] }
-    ensures start { IsEmptyStart result.start }
 {
     RunEnd {
         status,

@@ -1,5 +1,12 @@
-use Rattle.std.proofs.Common.{◌∙◌}
-use Rattle.pass_cli.proofs.Judging.{ran_judges, refused_judges, same_error}
+use Rattle.std.proofs.Common.{◌≡◌, ◌∙◌, ap, sym, subst, List, ℕ, ◌<◌, length, ◌⊎◌, inl, inr, refl}
+use Rattle.std.specs.Prelude.{◌≢◌}
+use Rattle.pass_trace.specs.declared.trace.TraceLine.{TraceLine}
+use Rattle.pass_trace.specs.Traces.{trace_of}
+use Rattle.pass_run.specs.declared.status.Status.{Status}
+use Rattle.pass_run.specs.declared.status.Status.TheVariants as status
+use Rattle.pass_run.specs.Stored.{IsOverStore}
+use Rattle.pass_cli.specs.Answers.{IsRefusal, HasRun, IsNothing, outcome_of_run}
+use Rattle.pass_cli.proofs.Judging.{ran_run, refusal_run, same_error, no_write, reported_ends, some_report}
 use Rattle.pass_cli.proofs.verdict.judge.Goals as goal
 
 pub returns-in-Ok-clause-judged : goal.returns-in-Ok-clause-judged
@@ -9,23 +16,60 @@ returns-in-Ok-clause-judged g c = λ known.
     let r = c.run_trace.result in (
       bytes,
       told,
-      ran_judges bytes _ _ r.start c.in-Ok.trace.lines.items r.status r.history.items r.report.items traced same
+      ran_run bytes _ _ (g.D.Disk.view c.args.disk) (g.D.Disk.view r.disk) c.in-Ok.trace.lines.items (outcome_of_run r) r.status r.report.items traced same
           (record {
             not_built = e.not_built known;
-            not_begun = λ some. (e.not_begun some).0;
-            run = e.run known;
-            named = e.named known;
-            ends = e.ends known;
-            graph = e.graph known;
-            reported = e.report known;
+            disk_fault = λ opened now is. let (before, after, risen) = e.disk_fault opened now is in record { before = before; after = after; risen = risen };
+            no_fault = e.no_fault known;
+            by_log = e.judged known;
+            not_begun = λ some. (
+              record {
+                calls = ap (λ d. (g.D.Disk.view d).calls) (e.not_begun some).0;
+                faults = ap (λ d. (g.D.Disk.view d).faults) (e.not_begun some).0;
+                seen = ap (λ d. (g.D.Disk.view d).seen) (e.not_begun some).0;
+              },
+              (e.not_begun some).1,
+            );
+            bad_store = e.bad_store;
+            recorded = e.recorded;
+            ended = e.ended;
           }),
     )
+
+pub returns-in-Ok-clause-recorded : goal.returns-in-Ok-clause-recorded
+returns-in-Ok-clause-recorded g c =
+    let (bytes, told, (traced, same)) = c.in-Ok.ensures.read in
+    (bytes, told, subst (λ (ls : List TraceLine). IsNothing (outcome_of_run c.run_trace.result) ⊎ IsOverStore (g.D.Disk.view c.args.disk).calls (g.D.Disk.view c.args.disk) (g.D.Disk.view c.run_trace.result.disk) ls c.run_trace.result.list.items c.run_trace.result.start c.run_trace.result.history.items c.run_trace.result.syncs.items) same c.run_trace.ensures.recorded)
+
+pub returns-in-Ok-clause-some : goal.returns-in-Ok-clause-some
+returns-in-Ok-clause-some g c = λ reported.
+    let whole = c.run_trace.ensures.ended (reported_ends c.run_trace.result.status reported) in
+    subst (λ (text : List ℕ). 0 < length text) (sym whole.reported.report) (some_report whole.opened c.run_trace.result.history.items c.in-Ok.trace.lines.items)
+
+pub returns-in-Ok-clause-no_write : goal.returns-in-Ok-clause-no_write
+returns-in-Ok-clause-no_write g c = λ is.
+    let (bytes, told, run) = returns-in-Ok-clause-judged g c (λ starved. let z : status.WriteFault ≡ status.NoMemory = sym is ∙ starved in cc) in
+    no_write c.run_trace.result.status run.by.no_other is
 
 pub returns-in-Err-clause-judged : goal.returns-in-Err-clause-judged
 returns-in-Err-clause-judged g c = λ known.
     let (bytes, told, refusal) = c.in-Err.ensures.read in
     let r = c.refused.result in
-    (bytes, told, refused_judges bytes _ _ r.start c.in-Err.status r.status r.history.items r.report.items c.refused.ensures.status c.refused.ensures.history known refusal)
+    let e = c.refused.ensures in (
+      bytes,
+      told,
+      subst (λ d. HasRun bytes (g.S.Source.fault_count c.args.source.now) (g.S.Source.fault_count c.read_trace.new.source) (g.D.Disk.view c.args.disk) (g.D.Disk.view d) (outcome_of_run r) r.status r.report.items) (sym e.disk)
+          (subst (λ (s : Status). HasRun bytes (g.S.Source.fault_count c.args.source.now) (g.S.Source.fault_count c.read_trace.new.source) (g.D.Disk.view c.args.disk) (g.D.Disk.view c.args.disk) (outcome_of_run r) s r.report.items) (sym e.status)
+          (refusal_run bytes _ _ (g.D.Disk.view c.args.disk) (outcome_of_run r) c.in-Err.status r.report.items (λ is. known (e.status ∙ is)) refusal e.nothing)),
+    )
+
+pub returns-in-Err-clause-recorded : goal.returns-in-Err-clause-recorded
+returns-in-Err-clause-recorded g c = let (bytes, told, refusal) = c.in-Err.ensures.read in (bytes, told, inl c.refused.ensures.nothing)
+
+pub returns-in-Err-clause-no_write : goal.returns-in-Err-clause-no_write
+returns-in-Err-clause-no_write g c = λ is.
+    let (bytes, told, refusal) = c.in-Err.ensures.read in
+    subst (λ (s : Status). IsRefusal bytes (g.S.Source.fault_count c.args.source.now) (g.S.Source.fault_count c.read_trace.new.source) s) (sym c.refused.ensures.status ∙ is) refusal
 
 pub returns-in-Err-clause-stops : goal.returns-in-Err-clause-stops
 returns-in-Err-clause-stops g c = λ t known. c.in-Err.ensures.stops t (λ is. known (c.refused.ensures.status ∙ same_error _ _ is))

@@ -1,11 +1,13 @@
 //! Runs of the program's call over streams in memory.
 mod checks;
 mod rows;
+mod sessions;
 mod small;
+mod stops;
 
 use crate::{Asked, Ended, Status, ask, pass_main};
 use checks::{CHECKS, Check};
-use pass_outside::{Disk, Failed, MemDisk, MemSink, MemSource, NoDisk, OpenGate, Sink, Source};
+use pass_outside::{Disk, Failed, MemDisk, MemSink, MemSource, OpenGate, Sink, Source};
 use pass_trace::TraceReason;
 use rows::{PIPELINE, READ_BACK, ROWS, Row};
 use small::{NAMES, PIPELINES};
@@ -15,25 +17,29 @@ use std::sync::Wait;
 use std::test::Fail;
 use std::thread::Threads;
 
+fn run_on<R: Threads + Wait + Sync + AllocGlobal, S: Source, K: Sink, D: Disk + Send + Drop>(
+    rt: &R,
+    words: &[&str],
+    source: &mut S,
+    sink: &mut K,
+    disk: D,
+) -> Result<Ended<D>, AllocError> {
+    let mut owned = Vec::new(rt.alloc());
+    for word in words {
+        owned.push(String::from_str(rt.alloc(), word)?)?;
+    }
+    Ok(pass_main(rt, rt.alloc(), &owned, source, sink, disk, &OpenGate))
+}
+
+// A run over a new disk.
 fn run<R: Threads + Wait + Sync + AllocGlobal, S: Source, K: Sink>(
     rt: &R,
     words: &[&str],
     source: &mut S,
     sink: &mut K,
-) -> Result<Ended<NoDisk>, AllocError> {
-    let mut owned = Vec::new(rt.alloc());
-    for word in words {
-        owned.push(String::from_str(rt.alloc(), word)?)?;
-    }
-    Ok(pass_main(
-        rt,
-        rt.alloc(),
-        &owned,
-        source,
-        sink,
-        NoDisk::new(),
-        &OpenGate,
-    ))
+) -> Result<Ended<MemDisk>, AllocError> {
+    let disk = disk_of(rt, CHECKS[0])?;
+    run_on(rt, words, source, sink, disk)
 }
 
 fn source_of(rt: &impl AllocGlobal, row: Row) -> Result<MemSource, AllocError> {
@@ -55,11 +61,11 @@ fn check<R: Threads + Wait + Sync + Abort + AllocGlobal>(rt: &R, row: Row) -> Re
     assert_eq!(rt; ended.status, row.status, "{trace}");
     assert_eq!(rt; sink.taken(), row.text.as_bytes(), "{trace}");
     assert_eq!(rt; ended.history.len(), row.entries, "{trace}");
-    assert_eq!(rt;
-        (ended.syncs.len(), ended.list.len(), ended.start.ceiling),
-        (0, 0, 0),
-        "{trace}"
-    );
+    assert_eq!(rt; (ended.list.len(), ended.start.ceiling), (0, 0), "{trace}");
+    let noted = if row.entries == 0 { 0 } else { 2 };
+    assert_eq!(rt; ended.syncs.len(), noted, "{trace}");
+    let durable = ended.syncs.last().map_or(0, |last| last.entries);
+    assert_eq!(rt; durable, row.entries as u64, "{trace}");
     Ok(())
 }
 

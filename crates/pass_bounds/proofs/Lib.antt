@@ -1,5 +1,6 @@
 mod Arguments
 mod Charged
+mod Created
 mod Digested
 mod Images
 mod Lengths

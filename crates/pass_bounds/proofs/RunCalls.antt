@@ -1,12 +1,19 @@
 -- The calls of a run of a trace: one for each line, and an exit for each process.
-use Rattle.std.proofs.Common.{◌≡◌, ◌∙◌, ◌==◌, ◌+◌, ◌*◌, ◌<◌, ◌≤◌, ℕ, zero, suc, Bool, true, false, cond, List, [], ◌∷◌, ◌++◌, length, take, map, refl, ap, sym, arith, inl, inr, length-append}
-use Rattle.std.specs.Prelude.{Option, Some, slice_get, find, option_map}
+use Rattle.std.proofs.Common.{◌≡◌, ◌∙◌, ◌==◌, ◌^◌, ◌||◌, ◌+◌, ◌*◌, ◌<◌, ◌≤◌, ℕ, zero, suc, Bool, true, false, cond, List, [], ◌∷◌, ◌++◌, length, take, map, refl, ap, sym, arith, inl, inr, length-append}
+use Rattle.std.specs.Prelude.{Option, Some, None, is_some, slice_get, find, option_map}
 use Rattle.std.specs.Option.{option_map_or}
 use Rattle.std.proofs.lemmas.List.{length-map}
 use Rattle.std.proofs.lemmas.List.Elements.{filter-append}
 use Rattle.std.proofs.lemmas.Option.{slice_get-map}
 use Rattle.pass_entry.specs.declared.entry.Entry.{Entry}
-use Rattle.pass_plain.specs.Sessions.{Session}
+use Rattle.pass_entry.specs.declared.objects.Node.{Node}
+use Rattle.pass_entry.specs.declared.record.Record.{Record}
+use Rattle.pass_plain.specs.declared.start.StartFile.{StartFile}
+use Rattle.pass_plain.specs.WellLogged.{current_of}
+use Rattle.pass_graph.specs.Bounds.{CeilingLengthLaw, VersionLengthLaw}
+use Rattle.pass_graph.specs.Openings.{Opens}
+use Rattle.pass_bounds.proofs.Images.{opened_law}
+use Rattle.pass_plain.specs.Sessions.{Session, opened_file, opened_app, opening_version}
 use Rattle.pass_plain.specs.Processes.{begins, has_begun}
 use Rattle.pass_plain.specs.Calls.{pnode_at}
 use Rattle.pass_plain.specs.Histories.{call_entries}
@@ -180,7 +187,21 @@ run_law session sound trace history run =
     let bytes = bytes_spent session sound history run.legal (run_calls session trace history run) (are_called session trace history run) in
     (omega (arith, few, entries), omega (arith, few, bytes))
 
-pub frame_law : FrameLaw
-frame_law session sound opened trace history run short =
-    let (entries, bytes) = run_law session sound trace history run in
-    (in_range_law session sound history run.legal (λ object. let low = opened object in omega (arith, low, entries, short)), omega (arith, bytes, short))
+-- an object opens with its version in the records before, or with 1
+opened_low : (before : List Record) (session : Session) → Opens before session → (most : ℕ) → 1 ≤ most → ((object : ℕ) → current_of before object ≤ most) → (object : ℕ)
+    → opening_version session.start object ≤ most
+opened_low before session opens most some low object = by_files (opened_file session.start object) (opened_app session.start object) (λ is. (opens.current object is).1)
+  where
+    by_files : (f : Option StartFile) (n : Option Node)
+        → (is_some f || is_some n ≡ true → option_map_or (λ (f : StartFile). f.node.version) f (option_map_or (λ (n : Node). n.version) n 1) ≡ current_of before object)
+        → option_map_or (λ (f : StartFile). f.node.version) f (option_map_or (λ (n : Node). n.version) n 1) ≤ most
+    by_files (Some f) n is = let same = is refl in let z = low object in omega (arith, same, z)
+    by_files None (Some n) is = let same = is refl in let z = low object in omega (arith, same, z)
+    by_files None None is = some
+
+pub frame_law : CeilingLengthLaw → VersionLengthLaw → FrameLaw
+frame_law ceilings versions bytes log image short session opens trace history run few =
+    let (numbers, currents) = opened_law ceilings versions bytes log image short opens.logged in
+    let (entries, size) = run_law session opens.sound trace history run in
+    let young = opened_low log.list session opens (2 ^ 35) (omega arith) currents in
+    (in_range_law session opens.sound history run.legal (λ object. let low = young object in omega (arith, low, entries, few)), omega (arith, size, few))

@@ -11,6 +11,9 @@ use Rattle.pass_plain.specs.Runs.{IsRun}
 use Rattle.pass_plain.specs.Records.{records_of}
 use Rattle.pass_plain.specs.WellLogged.{ceiling_of, current_of, IsWellLogged}
 use Rattle.pass_graph.specs.Bounds.{records_length}
+use Rattle.pass_graph.specs.Openings.{Opens}
+use Rattle.pass_trace.specs.Rules.{count_created}
+use Rattle.pass_trace.specs.Traces.{trace_of, IsTraceText}
 use Rattle.pass_log.specs.Records.{Held, image_of, spellings}
 
 -- Logs
@@ -44,8 +47,12 @@ abbrev pub RunLaw : Type 0
 RunLaw = (session : Session) → IsSound session → (trace : List Line) (history : List Entry) → IsRun session trace history
     → (length history ≤ 67 * (2 * length trace + 2)) × (length (spellings (records_of session history)) ≤ 7500 * (2 * length trace + 2))
 
--- one frame holds the records of a run of a trace of at most 100,000 lines, over versions of at most 2 ^ 35
+-- over a log that ends at most at 2 ^ 38, one frame holds the records of a run of a trace of at most 100,000 lines
 abbrev pub FrameLaw : Type 0
-FrameLaw = (session : Session) → IsSound session → ((object : ℕ) → opening_version session.start object ≤ 2 ^ 35)
+FrameLaw = (bytes : List ℕ) (log : Held) → image_of bytes ≡ Ok log → log.end ≤ 2 ^ 38 → (session : Session) → Opens log.list session
     → (trace : List Line) (history : List Entry) → IsRun session trace history → length trace ≤ 100000
     → All IsInRange (records_of session history) × (length (spellings (records_of session history)) < 2 ^ 32)
+
+-- the trace of a text makes at most 8,191 objects beside its first process
+abbrev pub ObjectsLaw : Type 0
+ObjectsLaw = (bytes : List ℕ) → IsTraceText bytes → count_created (trace_of bytes) ≤ 8191

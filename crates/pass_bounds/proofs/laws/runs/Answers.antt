@@ -5,4 +5,4 @@ pub returns-clause-lengths : goal.returns-clause-lengths
 returns-clause-lengths c = run_law
 
 pub returns-clause-frame : goal.returns-clause-frame
-returns-clause-frame c = frame_law
+returns-clause-frame c = frame_law c.lists.ensures.ceiling c.lists.ensures.versions

@@ -42,7 +42,8 @@ LengthLaw = (session : Session) → IsSound session → (history : List Entry) �
 
 -- Runs
 
--- a run of a trace has at most two calls a line, and one more: a call has at most 67 entries, and these at most 7,500 bytes of records
+-- a run of a trace has at most two calls a line, its start, and the exit of its first process; a call has at most 67 entries, and
+-- these have at most 7,500 bytes of records
 abbrev pub RunLaw : Type 0
 RunLaw = (session : Session) → IsSound session → (trace : List Line) (history : List Entry) → IsRun session trace history
     → (length history ≤ 67 * (2 * length trace + 2)) × (length (spellings (records_of session history)) ≤ 7500 * (2 * length trace + 2))

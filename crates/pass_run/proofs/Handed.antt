@@ -1,6 +1,6 @@
 -- What a run hands out, from what its steps gave.
-use Rattle.std.proofs.Common.{◌≡◌, ◌⊎◌, ◌<◌, ◌≤◌, ◌+◌, ◌^◌, ◌&&◌, ℕ, Bool, true, List, [], ◌∷◌, ◌++◌, length, refl, ap, sym, ◌∙◌, subst, inl, inr, ⊎_elim, arith}
-use Rattle.std.specs.Prelude.{nat_le, nat_lt, slice_get, Some, IsTrue}
+use Rattle.std.proofs.Common.{◌≡◌, ◌⊎◌, ◌<◌, ◌≤◌, ◌+◌, ◌^◌, ℕ, true, List, [], ap, sym, ◌∙◌, subst, inl, inr, ⊎_elim, arith}
+use Rattle.std.specs.Prelude.{nat_le, nat_lt, slice_get, Some}
 use Rattle.std.proofs.lemmas.Bool.Decides.{nat_tests}
 use Rattle.pass_entry.specs.declared.entry.Entry.{Entry}
 use Rattle.pass_entry.specs.declared.entry.Synced.{Synced}
@@ -10,10 +10,8 @@ use Rattle.pass_graph.specs.Lawful.{GraphLaw, VersionRecordLaw, InputRecordLaw}
 use Rattle.pass_keep.specs.declared.keeper.Keeper.{Keeper}
 use Rattle.pass_keep.specs.Kept.{Story, IsBegun}
 use Rattle.pass_outside.specs.Areas.{Image}
-use Rattle.pass_outside.specs.Moments.{Moment, IsAtEnd}
-use Rattle.pass_plain.specs.declared.start.Start.{Start}
+use Rattle.pass_outside.specs.Moments.{Moment}
 use Rattle.pass_plain.proofs.Lists.{both_true}
-use Rattle.pass_recover.specs.Faults.{LogHas}
 use Rattle.pass_report.specs.Reports.{SameButBytes, report_of}
 use Rattle.pass_report.specs.TraceLines.{objects_of, plain_trace, session_of_trace}
 use Rattle.pass_trace.specs.declared.trace.TraceLine.{TraceLine}
@@ -24,9 +22,9 @@ use Rattle.pass_run.specs.declared.status.Status.TheVariants as status
 use Rattle.pass_run.specs.declared.storing.Ground.{Ground}
 use Rattle.pass_run.specs.Ends.{EndsAs}
 use Rattle.pass_run.specs.Grounds.{IsGround, story_over, HasPerformed, IsAllKept, IsSomeKept, IsRunOver, both_syncs}
-use Rattle.pass_run.specs.Stored.{IsBare, IsEnd, IsOpening, HasRecorded, HasReported, IsStored, IsSettled, AreNumbered, IsOverStore, HasEnded, story_of}
+use Rattle.pass_run.specs.Stored.{IsBare, IsEnd, HasRecorded, HasReported, IsStored, IsSettled, IsOverStore, HasEnded, story_of}
 use Rattle.pass_run.proofs.Numbered.{numbered}
-use Rattle.pass_run.proofs.Overs.{is_opening, judged_end, has_recorded, at_its_end, is_stored, is_settled, over_disk, over_end}
+use Rattle.pass_run.proofs.Overs.{is_opening, judged_end, has_recorded, at_its_end, is_stored, is_settled, over_end}
 
 pub number_is : (n : ℕ) → 1 ≤ n → n < 2 ^ 48 → is_number n ≡ true
 number_is n low high = both_true (nat_le 1 n) (nat_lt n (2 ^ 48)) (grind (arith, nat_tests)) (grind (arith, nat_tests))

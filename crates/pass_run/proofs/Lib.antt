@@ -31,3 +31,4 @@ mod Numbered
 mod Overs
 mod Handed
 mod Moved
+mod Fitting

@@ -1,17 +1,15 @@
 -- What was read of a disk stands at each moment at which it reads the same; and the fault of a store that doesn't open.
-use Rattle.std.proofs.Common.{◌≡◌, ◌≢◌, ◌⊎◌, ℕ, List, refl, ap, sym, ◌∙◌, subst, inl, inr, ⊎_elim}
-use Rattle.std.specs.Prelude.{Option, Some, Result, Ok, Err, IsTrue, option_map}
+use Rattle.std.proofs.Common.{◌≡◌, ◌≢◌, ◌⊎◌, ℕ, List, ap, sym, ◌∙◌, subst, inl, inr, ⊎_elim}
+use Rattle.std.specs.Prelude.{Option, Some, Result, Ok, IsTrue, option_map}
 use Rattle.pass_entry.specs.declared.entry.Entry.{Entry}
 use Rattle.pass_entry.specs.declared.entry.Synced.{Synced}
 use Rattle.pass_entry.specs.declared.record.FlawReason.{FlawReason}
 use Rattle.pass_entry.specs.declared.record.Record.{Record}
 use Rattle.pass_log.specs.declared.fault.LogFault.{LogFault}
-use Rattle.pass_log.specs.declared.fault.LogFault.TheVariants as log
-use Rattle.pass_log.specs.Records.{Held, image_of}
+use Rattle.pass_log.specs.Records.{Held}
 use Rattle.pass_outside.specs.Areas.{Image}
 use Rattle.pass_outside.specs.Moments.{Moment}
 use Rattle.pass_plain.specs.declared.start.Start.{Start}
-use Rattle.pass_plain.specs.WellLogged.{first_flaw}
 use Rattle.pass_recover.specs.declared.fault.OpenFault.{OpenFault}
 use Rattle.pass_recover.specs.declared.fault.OpenFault.TheVariants as store
 use Rattle.pass_recover.specs.Faults.{LogHas, IsCauseOf}

@@ -1,6 +1,6 @@
 -- The numbers that a history gives out.
 use Rattle.std.proofs.Common.{◌≡◌, ◌<◌, ◌≤◌, ◌+◌, ℕ, Bool, true, false, cond, List, take, refl, ap, sym, ◌∙◌, arith, ◌||◌}
-use Rattle.std.specs.Prelude.{Option, Some, None, nat_le, slice_get}
+use Rattle.std.specs.Prelude.{Some, nat_le, slice_get}
 use Rattle.std.specs.FinMap as finite_map
 use Rattle.std.proofs.lemmas.Bool.Decides.{nat_tests}
 use Rattle.pass_entry.specs.declared.entry.Act.{Act}
@@ -13,7 +13,7 @@ use Rattle.pass_entry.specs.declared.objects.Kind.{Kind}
 use Rattle.pass_entry.specs.declared.objects.Kind.TheVariants as kind
 use Rattle.pass_plain.specs.Histories.{made_object}
 use Rattle.pass_plain.specs.Legal.{IsLegal}
-use Rattle.pass_plain.specs.Registries.{Registry, registry_after, is_full, is_limited, count_of_kind, next_pnode}
+use Rattle.pass_plain.specs.Registries.{Registry, registry_after, is_full, next_pnode}
 use Rattle.pass_plain.specs.Replies.{minted, reply_to}
 use Rattle.pass_plain.specs.Sessions.{Session}
 use Rattle.pass_plain.proofs.Calling.{legal_take}

@@ -1,7 +1,7 @@
 -- The records of a whole history as one part.
-use Rattle.std.proofs.Common.{◌≡◌, ◌≤◌, ◌<◌, ◌+◌, ◌++◌, ◌∷◌, [], ℕ, zero, List, length, take, map, refl, ap, sym, ◌∙◌, subst, arith, Vec, Global}
+use Rattle.std.proofs.Common.{◌≡◌, ◌≤◌, ◌+◌, ◌++◌, ◌∷◌, [], ℕ, List, length, take, refl, ap, sym, ◌∙◌, subst, arith, Vec, Global}
 use Rattle.std.specs.Prelude.{Result, Ok, Err, OnOk, OnErr}
-use Rattle.std.specs.List.{All, sum_by}
+use Rattle.std.specs.List.{All}
 use Rattle.std.proofs.lemmas.List.{take_all}
 use Rattle.std.proofs.lemmas.List.Elements.{All-push}
 use Rattle.pass_entry.specs.declared.entry.Entry.{Entry}
@@ -12,8 +12,8 @@ use Rattle.pass_keep.specs.declared.keeper.Keeper.{Keeper}
 use Rattle.pass_keep.specs.Kept.{Noted}
 use Rattle.pass_keep.specs.Keepers.{Past, with_sync, no_file, IsKeeper}
 use Rattle.pass_outside.specs.Moments.{Moment}
-use Rattle.pass_run.specs.Grounds.{both_syncs, IsAllKept, IsSomeKept}
-use Rattle.pass_keep.specs.Parts.{lists_of, frames_length}
+use Rattle.pass_run.specs.Grounds.{IsAllKept, IsSomeKept}
+use Rattle.pass_keep.specs.Parts.{frames_length}
 use Rattle.pass_log.specs.Records.{spellings}
 use Rattle.pass_plain.specs.Records.{records_of}
 

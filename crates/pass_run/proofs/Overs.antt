@@ -1,29 +1,24 @@
 -- What a run over an opened store hands out, by its parts.
-use Rattle.std.proofs.Common.{◌≡◌, ◌≢◌, ◌⊎◌, ◌<◌, ◌≤◌, ◌+◌, ◌^◌, ℕ, zero, suc, Bool, true, false, List, [], ◌∷◌, ◌++◌, length, take, map, max, refl, ap, sym, ◌∙◌, subst, inl, inr, ⊎_elim, arith}
-use Rattle.std.specs.Prelude.{Option, Some, None, Result, Ok, Err, IsTrue, slice_get, option_map, nat_lt, if◌then◌else◌}
+use Rattle.std.proofs.Common.{◌≡◌, ◌⊎◌, ◌<◌, ◌≤◌, ◌+◌, ◌^◌, ℕ, zero, suc, Bool, false, List, [], ◌∷◌, length, map, refl, ap, sym, ◌∙◌, subst, inl, inr, ⊎_elim, arith}
+use Rattle.std.specs.Prelude.{Option, Some, None, Result, Ok, IsTrue, slice_get, option_map, nat_lt, if◌then◌else◌}
 use Rattle.std.proofs.lemmas.Bool.Decides.{nat_tests}
 use Rattle.pass_entry.specs.declared.entry.Entry.{Entry}
 use Rattle.pass_entry.specs.declared.entry.Synced.{Synced}
 use Rattle.pass_entry.specs.declared.record.FlawReason.{FlawReason}
-use Rattle.pass_entry.specs.declared.record.Record.{Record}
-use Rattle.pass_graph.specs.Lawful.{IsFaithful, GraphLaw, VersionRecordLaw, InputRecordLaw}
-use Rattle.pass_graph.specs.Openings.{Continues, session_list}
-use Rattle.pass_keep.specs.declared.fault.KeepFault.{KeepFault}
-use Rattle.pass_keep.specs.declared.fault.KeepFault.TheVariants as keep
+use Rattle.pass_graph.specs.Lawful.{GraphLaw, VersionRecordLaw, InputRecordLaw}
+use Rattle.pass_graph.specs.Openings.{Continues}
 use Rattle.pass_keep.specs.declared.keeper.Keeper.{Keeper}
-use Rattle.pass_keep.specs.Kept.{Story, IsStory, Noted, synced_of, covered, bound_of, list_to, source_to, HasRecords, IsLeft, IsBegun}
+use Rattle.pass_keep.specs.Kept.{Story, IsStory, Noted, synced_of, covered, bound_of, list_to, source_to, HasRecords, IsLeft}
 use Rattle.pass_keep.specs.Keepers.{IsKeeper, Past, no_file}
-use Rattle.pass_keep.specs.Longer.{with_entries}
-use Rattle.pass_keep.proofs.Shown.{since_shown, settled_shown, longer_shown}
+use Rattle.pass_keep.proofs.Shown.{since_shown, settled_shown}
 use Rattle.pass_keep.proofs.Stories.{source_below}
-use Rattle.pass_log.specs.LogImage.{IsImage, held_in}
+use Rattle.pass_log.specs.LogImage.{held_in}
 use Rattle.pass_log.specs.declared.fault.LogFault.{LogFault}
 use Rattle.pass_log.specs.Records.{Held, image_of}
 use Rattle.pass_outside.specs.Areas.{Image}
 use Rattle.pass_outside.specs.Moments.{Moment, IsAtEnd}
 use Rattle.pass_plain.specs.declared.start.Start.{Start}
 use Rattle.pass_plain.specs.Legal.{IsLegal}
-use Rattle.pass_plain.specs.Runs.{IsRun}
 use Rattle.pass_plain.specs.Sessions.{Session}
 use Rattle.pass_plain.specs.Traces.{Line}
 use Rattle.pass_plain.specs.WellLogged.{first_flaw}
@@ -32,7 +27,7 @@ use Rattle.pass_recover.specs.declared.fault.OpenFault.{OpenFault}
 use Rattle.pass_recover.specs.declared.fault.OpenFault.TheVariants as store
 use Rattle.pass_recover.specs.Faults.{LogHas}
 use Rattle.pass_report.specs.Reports.{SameButBytes}
-use Rattle.pass_report.specs.TraceLines.{objects_of, plain_trace, session_of_trace}
+use Rattle.pass_report.specs.TraceLines.{objects_of, session_of_trace}
 use Rattle.pass_trace.specs.declared.trace.TraceLine.{TraceLine}
 use Rattle.pass_dirty.specs.Gathering.{every_file}
 use Rattle.pass_run.specs.declared.ending.RunEnd.{RunEnd}
@@ -40,10 +35,10 @@ use Rattle.pass_run.specs.declared.performing.Performed.{Performed}
 use Rattle.pass_run.specs.declared.status.Status.{Status}
 use Rattle.pass_run.specs.declared.status.Status.TheVariants as status
 use Rattle.pass_run.specs.declared.storing.Ground.{Ground}
-use Rattle.pass_run.specs.Ends.{AreNamed, EndsAs}
-use Rattle.pass_run.specs.Grounds.{IsGround, story_over, HasPerformed, both_syncs, IsAllKept, IsSomeKept, IsRunOver}
-use Rattle.pass_run.specs.Stored.{last_end, end_fault, fault_or, session_fault, IsJudged, IsEnd, IsOfDisk, IsListOf, IsBare, IsOpening, IsUnopened, HasRecorded, HasReported, HasFirst, IsStored, IsSettled, AreNumbered, IsOverStore, HasEnded, story_of}
-use Rattle.pass_run.specs.Stores.{image_fault, store_fault}
+use Rattle.pass_run.specs.Ends.{EndsAs}
+use Rattle.pass_run.specs.Grounds.{IsGround, story_over, HasPerformed, both_syncs, IsAllKept, IsRunOver}
+use Rattle.pass_run.specs.Stored.{last_end, end_fault, fault_or, session_fault, IsJudged, IsEnd, IsOfDisk, IsBare, IsOpening, IsUnopened, HasRecorded, HasFirst, IsStored, IsSettled, IsOverStore, HasEnded}
+use Rattle.pass_run.specs.Stores.{image_fault}
 use Rattle.pass_run.proofs.Numbered.{numbered}
 
 -- The store

@@ -1,5 +1,5 @@
 -- The bytes of records, one record more.
-use Rattle.std.proofs.Common.{◌≡◌, ◌+◌, ◌++◌, ◌∷◌, [], ℕ, List, length, ap, sym, ◌∙◌, arith, length-append}
+use Rattle.std.proofs.Common.{◌≡◌, ◌+◌, ◌++◌, ◌∷◌, [], List, length, ◌∙◌, arith, length-append}
 use Rattle.pass_entry.specs.declared.record.Record.{Record}
 use Rattle.pass_log.specs.Records.{spellings}
 use Rattle.pass_record.specs.Spelling.{spelling}

@@ -24,7 +24,6 @@ use Rattle.pass_trace.specs.declared.trace.TraceLine.{TraceLine}
 use Rattle.pass_dirty.specs.Gathering.{every_file}
 use Rattle.pass_run.specs.declared.ending.RunEnd.{RunEnd}
 use Rattle.pass_run.specs.declared.performing.Performed.{Performed}
-use Rattle.pass_run.specs.declared.status.Status.{Status}
 use Rattle.pass_run.specs.declared.status.Status.TheVariants as status
 use Rattle.pass_run.specs.declared.storing.Ground.{Ground}
 use Rattle.pass_run.specs.Ends.{AreNamed, EndsAs}

@@ -1,9 +1,12 @@
 //! The run of a trace over a disk.
-ghost use Rattle.std.specs.Prelude.{◌≡◌, ◌≢◌, ◌↔◌, ◌⊎◌, ◌+◌, ◌≤◌, ◌<◌, ◌^◌, ℕ, [], Some, None, IsSome, IfSome, OnOk, OnErr, IfErr, length};
+ghost use Rattle.std.specs.Prelude.{◌≡◌, ◌≢◌, ◌↔◌, ◌⊎◌, ◌+◌, ◌≤◌, ◌<◌, ◌^◌, ℕ, [], Some, None, IsSome, OnOk, OnErr, IfErr, length};
+ghost use Rattle.std.specs.List.{All};
+ghost use Rattle.pass_entry.specs.Ranges.{IsInRange};
 ghost use Rattle.pass_graph.specs.Openings.{Continues};
 ghost use Rattle.pass_keep.specs.Kept.{Story};
 ghost use Rattle.pass_keep.specs.Keepers.{disk_of, log_of, durable_of, IsKeeper};
 ghost use Rattle.pass_log.specs.Log.{log_end, log_opened};
+ghost use Rattle.pass_log.specs.Records.{spellings};
 ghost use Rattle.pass_outside.specs.Moments.{IsAtEnd};
 ghost use Rattle.pass_plain.specs.Recording.{IsRecording};
 ghost use Rattle.pass_report.specs.Reports.{SameButBytes};
@@ -15,8 +18,9 @@ ghost use Rattle.pass_run.specs.Grounds.{IsGround, story_over, IsAllKept, IsSome
 ghost use Rattle.pass_run.specs.Stored.{session_fault, IsJudged, IsBare, IsEnd, IsOfDisk, IsUnopened, IsOverStore, HasEnded};
 
 use crate::ending::{RunEnd, bare, first_unbuilt, unopened};
-use crate::performing::{Performed, fits_frame};
+use crate::performing::Performed;
 use crate::status::{Status, opening_status};
+use pass_bounds::laws::{logs, runs, traces};
 use pass_dirty::dirty_blocks;
 use pass_entry::{Entry, Pnode, Synced};
 use pass_graph::laws::{edges, graph};
@@ -32,12 +36,6 @@ use std::slice::from_ref;
 
 /// The last end of a log image over which a session begins.
 const LAST_END: u64 = 1 << 38;
-
-/// The number of the first object that no record names.
-const NUMBERS: u64 = 1 << 48;
-
-/// The most objects of one session.
-const OBJECTS: u64 = 8192;
 
 /// What a run goes over: the log image and the start of the store, the trace, and the disk's count of device calls as the
 /// run began.
@@ -120,17 +118,13 @@ fn run_opened<D: Disk>(alloc: Global, ground: Ground<'_>, disk: D) -> RunEnd<D>
 }
 
 // The session's ceiling, which leaves a number for each object that the trace may make.
-fn session_ceiling(ground: &Ground<'_>) -> Option<Pnode>
-    requires { length ground.now.trace.now.lines.items ≤ 100000 }
-    ensures { IfSome result (λ ceiling. (ceiling ≡ ground.now.start.ceiling + objects_of_lines ground.now.trace.now.lines.items) × (ceiling < 2 ^ 48) × (objects_of_lines ground.now.trace.now.lines.items ≤ 8192)) }
+fn session_ceiling(ground: &Ground<'_>) -> Pnode
+    requires lines { length ground.now.trace.now.lines.items ≤ 100000 }
+    requires room { ground.now.start.ceiling + 8192 < 2 ^ 48 }
+    requires objects { objects_of_lines ground.now.trace.now.lines.items ≤ 8192 }
+    ensures { result ≡ ground.now.start.ceiling + objects_of_lines ground.now.trace.now.lines.items }
 {
-    let objects = u64::from(objects_of(&ground.trace.lines));
-    let ceiling = ground.start.ceiling.checked_add(objects)?;
-    if ceiling < NUMBERS && objects <= OBJECTS {
-        Some(Pnode(ceiling))
-    } else {
-        None
-    }
+    Pnode(ground.start.ceiling + u64::from(objects_of(&ground.trace.lines)))
 }
 
 // Runs a trace over an opened store.
@@ -142,9 +136,9 @@ fn run_session<D: Disk>(alloc: Global, ground: Ground<'_>, disk: D) -> RunEnd<D>
     requires story { story ≡ story_over ground [] }
     ensures { IsRunOver D.view (D.view disk) ground.entry.calls ground.entry.trace.now.lines.items result }
 {
-    let Some(ceiling) = session_ceiling(&ground) else {
-        return unopened(alloc, Status::NoMemory, disk);
-    };
+    logs();
+    traces();
+    let ceiling = session_ceiling(&ground);
     let mut keeper = match Keeper::open(alloc, disk, &ground.image, ceiling) {
         Ok(keeper) => keeper,
         Err((fault, disk)) => {
@@ -166,6 +160,7 @@ fn run_session<D: Disk>(alloc: Global, ground: Ground<'_>, disk: D) -> RunEnd<D>
     };
     graph();
     edges();
+    runs();
     let stored = store(alloc, &mut keeper, &performed);
     let kept = keeper.into_disk();
     match stored {
@@ -189,6 +184,8 @@ fn store<D: Disk>(
     requires ceiling { story.ceiling ≡ story.session.start.ceiling + story.session.objects }
     requires history { performed.now.history.items ≡ story.history }
     requires recording { IsRecording story.session.start story.history performed.now.recording }
+    requires ranges { All IsInRange performed.now.recording.list.items }
+    requires frame { length (spellings performed.now.recording.list.items) < 2 ^ 32 }
     ensures kept { OnOk result (IsAllKept D.view story keeper.new) }
     ensures some { OnErr result (IsSomeKept D.view story keeper.new) }
     ensures healthy { OnOk result ((D.view (disk_of keeper.new)).faults ≡ (D.view (disk_of keeper.old)).faults) }
@@ -196,9 +193,6 @@ fn store<D: Disk>(
         × (((D.view (disk_of keeper.old)).faults < (D.view (disk_of keeper.new)).faults) ⊎ IsAtEnd (D.view (disk_of keeper.new))))) }
 {
     let blocks = dirty_blocks(alloc, &performed.recording)?;
-    if !fits_frame(&performed.recording.list) {
-        return Err(KeepFault::NoMemory);
-    }
     let parts = from_ref(&performed.recording.list);
     keeper.flush(alloc, parts, performed.history.len() as u64)?;
     keeper.sync_blocks(&blocks)

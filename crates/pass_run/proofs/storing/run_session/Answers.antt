@@ -1,7 +1,6 @@
-use Rattle.std.proofs.Common.{◌≡◌, ◌⊎◌, ◌<◌, ◌≤◌, ◌+◌, ◌^◌, ℕ, List, [], length, refl, ap, sym, ◌∙◌, subst, inl, inr, ⊎_elim, arith}
+use Rattle.std.proofs.Common.{◌≡◌, ◌⊎◌, ◌<◌, ◌+◌, ◌^◌, List, [], length, refl, ap, sym, ◌∙◌, subst, inl, inr, ⊎_elim, arith}
 use Rattle.pass_entry.specs.declared.entry.Entry.{Entry}
 use Rattle.pass_graph.specs.Openings.{Continues}
-use Rattle.pass_keep.specs.declared.fault.KeepFault.{KeepFault}
 use Rattle.pass_keep.specs.declared.fault.KeepFault.TheVariants as keep
 use Rattle.pass_keep.specs.Kept.{Story, IsStory, IsBegun}
 use Rattle.pass_keep.specs.Keepers.{disk_of, log_of}
@@ -10,15 +9,27 @@ use Rattle.pass_keep.proofs.Shown.{longer_shown}
 use Rattle.pass_log.specs.Log.{log_opened}
 use Rattle.pass_outside.specs.Moments.{IsAtEnd}
 use Rattle.pass_plain.specs.Recording.{IsRecording}
+use Rattle.pass_plain.specs.Records.{records_of}
 use Rattle.pass_report.specs.TraceLines.{objects_of, session_of_trace}
 use Rattle.pass_run.specs.Grounds.{IsGround, story_over, IsAllKept, IsSomeKept}
 use Rattle.pass_run.proofs.Ruled.{few_lines}
+use Rattle.pass_run.proofs.Fitting.{few_objects, session_room, frame_fits}
+use Rattle.std.specs.List.{All}
+use Rattle.pass_entry.specs.declared.record.Record.{Record}
+use Rattle.pass_entry.specs.Ranges.{IsInRange}
+use Rattle.pass_log.specs.Records.{spellings}
 use Rattle.pass_run.proofs.Overs.{continues, is_story, none_legal, over_memory, over_disk}
 use Rattle.pass_run.proofs.Handed.{number_is, at_opening, behind_run, whole_run}
 use Rattle.pass_run.proofs.storing.run_session.Goals as goal
 
-pub session_ceiling-requires : goal.session_ceiling-requires
-session_ceiling-requires g c = few_lines c.args.ground.trace.now.lines.items c.requires.1.0
+pub session_ceiling-ceiling-requires-clause-lines : goal.session_ceiling-ceiling-requires-clause-lines
+session_ceiling-ceiling-requires-clause-lines g c = few_lines c.args.ground.trace.now.lines.items c.requires.1.0
+
+pub session_ceiling-ceiling-requires-clause-room : goal.session_ceiling-ceiling-requires-clause-room
+session_ceiling-ceiling-requires-clause-room g c = session_room (g.D.Disk.view c.args.disk) c.args.ground c.requires.1.1.0 c.requires.1.1.1.0 c.logs.ensures.opened
+
+pub session_ceiling-ceiling-requires-clause-objects : goal.session_ceiling-ceiling-requires-clause-objects
+session_ceiling-ceiling-requires-clause-objects g c = few_objects c.traces.ensures c.args.ground.trace.now.lines.items c.requires.1.0
 
 pub open-requires : goal.open-requires
 open-requires g c κs within =
@@ -26,7 +37,10 @@ open-requires g c κs within =
     let is : g.story ≡ story_over ground [] = c.requires.1.1.1.1 in
     let m = g.D.Disk.view c.args.disk in
     let fact : IsGround m ground = c.requires.1.1.0 in
-    let (ceiling, high, few) = c.in-Some.ensures in
+    let few = few_objects c.traces.ensures c.args.ground.trace.now.lines.items c.requires.1.0 in
+    let room = session_room (g.D.Disk.view c.args.disk) c.args.ground c.requires.1.1.0 c.requires.1.1.1.0 c.logs.ensures.opened in
+    let ceiling = c.session_ceiling-ceiling.ensures in
+    let high : c.session_ceiling-ceiling.result < 2 ^ 48 = omega (arith, ceiling, room, few) in
     let low : ground.start.ceiling + objects_of ground.trace.now.lines.items < 2 ^ 48 = omega (arith, ceiling, high) in
     let first = ap (λ (s : Story). s.start) is in (
       within,
@@ -35,7 +49,7 @@ open-requires g c κs within =
         (
           ap (λ (s : Story). s.ceiling) is ∙ sym ceiling,
           (
-            number_is c.in-Some.ceiling (omega (arith, ceiling)) high,
+            number_is c.session_ceiling-ceiling.result (omega (arith, ceiling)) high,
             (
               fact.read,
               (
@@ -86,7 +100,10 @@ store-stored-requires g c κs within =
     let m = view c.args.disk in
     let fact : IsGround m ground = c.requires.1.1.0 in
     let short = c.requires.1.1.1.0 in
-    let (ceiling, high, few) = c.in-Some.ensures in
+    let few = few_objects c.traces.ensures c.args.ground.trace.now.lines.items c.requires.1.0 in
+    let room = session_room (g.D.Disk.view c.args.disk) c.args.ground c.requires.1.1.0 c.requires.1.1.1.0 c.logs.ensures.opened in
+    let ceiling = c.session_ceiling-ceiling.ensures in
+    let high : c.session_ceiling-ceiling.result < 2 ^ 48 = omega (arith, ceiling, room, few) in
     let lines = ground.trace.now.lines.items in
     let low : ground.start.ceiling + objects_of lines < 2 ^ 48 = omega (arith, ceiling, high) in
     let performed = c.in-Ok-run.ensures in
@@ -94,7 +111,8 @@ store-stored-requires g c κs within =
     let story : IsStory (with_entries g.story history) =
     subst (λ (s : Story). IsStory (with_entries s history)) (sym is) (is_story m ground fact short few low history performed.run.legal) in
     let opened = c.in-Ok.ensures in
-    let ceil = ap (λ (s : Story). s.ceiling) is in (
+    let fits = frame_fits m ground fact short c.runs.ensures.frame lines c.requires.1.0 few low history performed.run in
+    let listed : c.in-Ok-run.performed.recording.list.items ≡ records_of (session_of_trace ground.start lines) history = performed.recording.list in (
       within,
       (
         longer_shown view (record { story = g.story; noted = [] }) c.in-Ok.keeper opened.kept history story,
@@ -110,7 +128,10 @@ store-stored-requires g c κs within =
                   subst (λ (s : Story). s.ceiling ≡ s.session.start.ceiling + s.session.objects) (sym is) refl,
                   (
                     subst (λ (s : Story). history ≡ (with_entries s history).history) (sym is) refl,
-                    subst (λ (s : Story). IsRecording s.session.start (with_entries s history).history c.in-Ok-run.performed.recording) (sym is) performed.recording,
+                    (
+                      subst (λ (s : Story). IsRecording s.session.start (with_entries s history).history c.in-Ok-run.performed.recording) (sym is) performed.recording,
+                      (subst (λ (l : List Record). All IsInRange l) (sym listed) fits.0, subst (λ (l : List Record). length (spellings l) < 2 ^ 32) (sym listed) fits.1),
+                    ),
                   ),
                 ),
               ),
@@ -128,7 +149,10 @@ returns-in-Ok-stored g c =
     let m = view c.args.disk in
     let fact : IsGround m ground = c.requires.1.1.0 in
     let short = c.requires.1.1.1.0 in
-    let (ceiling, high, few) = c.in-Some.ensures in
+    let few = few_objects c.traces.ensures c.args.ground.trace.now.lines.items c.requires.1.0 in
+    let room = session_room (g.D.Disk.view c.args.disk) c.args.ground c.requires.1.1.0 c.requires.1.1.1.0 c.logs.ensures.opened in
+    let ceiling = c.session_ceiling-ceiling.ensures in
+    let high : c.session_ceiling-ceiling.result < 2 ^ 48 = omega (arith, ceiling, room, few) in
     let lines = ground.trace.now.lines.items in
     let low : ground.start.ceiling + objects_of lines < 2 ^ 48 = omega (arith, ceiling, high) in
     let p = c.in-Ok-run.performed in
@@ -148,7 +172,10 @@ returns-in-Err-stored g c =
     let m = view c.args.disk in
     let fact : IsGround m ground = c.requires.1.1.0 in
     let short = c.requires.1.1.1.0 in
-    let (ceiling, high, few) = c.in-Some.ensures in
+    let few = few_objects c.traces.ensures c.args.ground.trace.now.lines.items c.requires.1.0 in
+    let room = session_room (g.D.Disk.view c.args.disk) c.args.ground c.requires.1.1.0 c.requires.1.1.1.0 c.logs.ensures.opened in
+    let ceiling = c.session_ceiling-ceiling.ensures in
+    let high : c.session_ceiling-ceiling.result < 2 ^ 48 = omega (arith, ceiling, room, few) in
     let lines = ground.trace.now.lines.items in
     let low : ground.start.ceiling + objects_of lines < 2 ^ 48 = omega (arith, ceiling, high) in
     let p = c.in-Ok-run.performed in

@@ -11,7 +11,7 @@ mod table;
 mod tests;
 
 pub use fault::RangeFault;
-pub use listing::unmatched;
 pub use later::Later;
+pub use listing::unmatched;
 pub use range::{Range, digests_of, range_len, read_range, write_range};
 pub use table::{Table, TableFile, later_of};

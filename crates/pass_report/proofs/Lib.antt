@@ -3,6 +3,7 @@ pub mod Answering
 pub mod Digesting
 pub mod Filling
 pub mod Finishing
+pub mod Flagging
 pub mod Lasting
 pub mod Minting
 pub mod Naming

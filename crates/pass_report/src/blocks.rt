@@ -5,7 +5,7 @@ ghost use Rattle.pass_plain.specs.Sessions.{opening_size as opening_size_of, ope
 ghost use Rattle.pass_plain.specs.Records.{touches as touches_of, range_len as range_len_of};
 ghost use Rattle.pass_report.specs.Digests.{passing, put_size, is_stretched as is_stretched_of, gets_digest, row_at};
 
-use crate::opening::{has_opening_row, opening_size};
+use crate::opening::{opening_rows, opening_size};
 use pass_entry::Pnode;
 use pass_plain::Start;
 use std::alloc::{AllocError, Global};
@@ -42,19 +42,29 @@ fn range_len(size: u64, block: u64) -> u64
         .saturating_sub(block * BLOCK_SIZE)
 }
 
+/// For each block of a file, whether it is one of these.
+fn row_flags(alloc: Global, blocks: &[u32]) -> Result<Vec<bool>, AllocError>
+    ensures all { IfOk result (λ rows. vec_len rows ≡ 1024) }
+    ensures rows { IfOk result (λ rows. (block : ℕ) → block < 1024 → row_at rows.items block ≡ list_any (λ x. x == block) blocks.now) }
+{
+    let mut rows = vec![in alloc; false; BLOCKS as usize]?;
+    for block in blocks {
+        if *block < BLOCKS {
+            rows[*block as usize] = true;
+        }
+    }
+    Ok(rows)
+}
+
 impl Blocks {
     /// A file as the opening gives it.
     pub fn opened(alloc: Global, start: &Start, file: Pnode) -> Result<Blocks, AllocError>
         ensures size { IfOk result (λ b. b.size ≡ opening_size_of start.now file) }
         ensures rows { IfOk result (λ b. (block : ℕ) → block < 1024 → row_at b.rows.items block ≡ list_any (λ x. x == block) (opening_rows_of start.now file)) }
     {
-        let mut rows = Vec::with_capacity(alloc, BLOCKS as usize)?;
-        for block in 0..BLOCKS {
-            rows.push(has_opening_row(start, file, block))?;
-        }
         Ok(Blocks {
             size: opening_size(start, file),
-            rows,
+            rows: row_flags(alloc, opening_rows(start, file))?,
         })
     }
 

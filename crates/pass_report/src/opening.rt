@@ -1,6 +1,5 @@
 //! What an opening says of one object.
-ghost use Rattle.std.specs.Prelude.{◌≡◌, ◌==◌};
-ghost use Rattle.std.specs.List.{list_any};
+ghost use Rattle.std.specs.Prelude.{◌≡◌};
 ghost use Rattle.std.specs.Option.{option_copied};
 ghost use Rattle.pass_plain.specs.Sessions.{opened_file as opened_file_of, opened_app as opened_app_of, opening_version as opening_version_of, is_opened as is_opened_of, opening_size as opening_size_of, opening_rows as opening_rows_of};
 ghost use Rattle.pass_report.specs.Kinds.{opening_kind as opening_kind_of};
@@ -50,13 +49,13 @@ pub fn opening_size(start: &Start, pnode: Pnode) -> u64
     }
 }
 
-/// The block has a digest in the opening.
-pub fn has_opening_row(start: &Start, pnode: Pnode, block: u32) -> bool
-    ensures { result ≡ list_any (λ b. b == block) (opening_rows_of start.now pnode) }
+/// The blocks of a file that have a digest in the opening, none for a new one.
+pub fn opening_rows(start: &Start, pnode: Pnode) -> &[u32]
+    ensures { result.now ≡ opening_rows_of start.now pnode }
 {
     match opened_file(start, pnode) {
-        Some(file) => file.rows.contains(&block),
-        None => false,
+        Some(file) => file.rows.as_slice(),
+        None => &[],
     }
 }
 

@@ -5,3 +5,4 @@ pub mod Holding
 pub mod Keeping
 pub mod Handing
 pub mod Told
+pub mod Parted

@@ -3,3 +3,4 @@ pub mod Cleaned
 pub mod Blocks
 pub mod Batches
 pub mod Vaults
+pub mod Parted

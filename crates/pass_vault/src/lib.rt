@@ -6,6 +6,7 @@
 mod blocks;
 mod frames;
 mod images;
+pub mod laws;
 mod opening;
 mod steps;
 mod vault;

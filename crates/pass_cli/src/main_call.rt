@@ -25,6 +25,7 @@ pub struct Ended<D> {
     pub history: Vec<Entry>,
     pub syncs: Vec<Synced>,
     pub list: Vec<Record>,
+    /// Its files lack their bytes.
     pub start: Start,
     pub disk: D,
 }

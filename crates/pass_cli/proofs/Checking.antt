@@ -1,5 +1,5 @@
 -- What is judged of a store that is checked.
-use Rattle.std.proofs.Common.{ℕ, ◌≡◌, ◌<◌, refl, sym, ap, ◌∙◌, subst, List, [], ◌⊎◌, inl, inr, arith}
+use Rattle.std.proofs.Common.{ℕ, ◌≡◌, ◌<◌, refl, sym, ap, ◌∙◌, subst, List, ◌⊎◌, inl, inr, arith}
 use Rattle.std.specs.Prelude.{◌≢◌, Option, Some, None, Ok, option_map, IsTrue}
 use Rattle.pass_log.specs.declared.image.LogImage.{LogImage}
 use Rattle.pass_log.specs.LogImage.{IsRead, held_in}

@@ -3,7 +3,7 @@ use Rattle.std.proofs.Common.{◌≡◌, ℕ, ◌<◌, List, [], ◌∷◌, ◌+
 use Rattle.std.specs.Prelude.{◌≢◌, ◌↔◌, Option, Some, None, IsSome, Result, Ok, Err, IsTrue}
 use Rattle.pass_entry.specs.declared.entry.Entry.{Entry}
 use Rattle.pass_outside.specs.Faults.{HasRisen}
-use Rattle.pass_outside.specs.Moments.{Moment, IsAtEnd}
+use Rattle.pass_outside.specs.Moments.{Moment}
 use Rattle.pass_plain.specs.declared.start.Start.{Start}
 use Rattle.pass_recover.specs.declared.fault.OpenFault.{OpenFault}
 use Rattle.pass_recover.specs.Faults.{LogHas}
@@ -19,7 +19,7 @@ use Rattle.pass_run.specs.Ends.{unbuilt_line}
 use Rattle.pass_run.specs.Reading.{is_too_long}
 use Rattle.pass_run.specs.Stored.{session_fault, IsEnd, IsOfDisk, IsOverStore, HasEnded}
 use Rattle.pass_run.specs.Stored as stored
-use Rattle.pass_cli.specs.Answers.{OfBytes, IsTraced, IsRunnable, IsRefusal, IsRead, IsNoDiskFault, HasFailed, IsJudged, Outcome, IsNothing, IsRecorded, IsUntouched, HasRun, is_reported, comes_before, ends_run}
+use Rattle.pass_cli.specs.Answers.{OfBytes, IsTraced, IsRunnable, IsRefusal, IsRead, HasFailed, IsJudged, Outcome, IsNothing, IsUntouched, HasRun, is_reported, comes_before, ends_run}
 use Rattle.pass_cli.proofs.StoppedTexts.{too_long_is_none, too_long_stays}
 
 -- what was read of a source

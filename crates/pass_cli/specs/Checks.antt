@@ -1,5 +1,5 @@
 -- What the word `check` answers, and what it writes. This project's own rule.
-use Rattle.std.specs.Prelude.{ℕ, ◌≡◌, ◌≢◌, ◌⊎◌, ◌↔◌, ◌<◌, IsTrue, List, [], ◌∷◌, ◌++◌, Option, Some, None, Ok, codes, length, flat_map}
+use Rattle.std.specs.Prelude.{ℕ, ◌≡◌, ◌≢◌, ◌⊎◌, ◌↔◌, ◌<◌, IsTrue, List, [], ◌∷◌, ◌++◌, Some, None, Ok, codes, length, flat_map}
 use Rattle.std.specs.Fmt.{decimal}
 use Rattle.pass_entry.specs.declared.record.Record.{Record}
 use Rattle.pass_graph.specs.ListRanks.{graph_nodes}

@@ -1,5 +1,4 @@
-use Rattle.std.proofs.Common.{◌≡◌, ℕ, List, refl, sym, ap, ◌∙◌, subst}
-use Rattle.std.specs.Prelude.{map, string_bytes}
+use Rattle.std.proofs.Common.{ℕ, List, sym, ap, ◌∙◌, subst}
 use Rattle.pass_run.specs.declared.status.Status.{Status}
 use Rattle.pass_cli.specs.Answers.{text_with}
 use Rattle.pass_cli.specs.Checks.{IsCheckText}

@@ -1,4 +1,4 @@
-use Rattle.std.proofs.Common.{◌≡◌, ℕ, ap, ◌∙◌}
+use Rattle.std.proofs.Common.{ℕ, ap, ◌∙◌}
 use Rattle.pass_recover.specs.declared.fault.OpenFault.TheVariants.{DiskFault}
 use Rattle.pass_run.specs.Statuses.{status_of_opening}
 use Rattle.pass_cli.proofs.Checking.{fault_judges}

@@ -1,4 +1,4 @@
-use Rattle.std.proofs.Common.{◌≡◌, ◌<◌, ap, sym, ◌∙◌, length, arith}
+use Rattle.std.proofs.Common.{◌<◌, ap, sym, ◌∙◌, length, arith}
 use Rattle.std.specs.Prelude.{is_some}
 use Rattle.pass_graph.specs.ListRanks.{made_node}
 use Rattle.pass_cli.proofs.Counted.{node_more, no_node_more}

@@ -1,4 +1,4 @@
-use Rattle.std.proofs.Common.{◌≡◌, ℕ, List, ◌++◌, ap, ◌∙◌, subst}
+use Rattle.std.proofs.Common.{ℕ, List, ◌++◌, ap, ◌∙◌, subst}
 use Rattle.pass_run.specs.Writing.{IsPart}
 use Rattle.pass_cli.specs.Answers.{text_with}
 use Rattle.pass_cli.proofs.Written.{stands_as}

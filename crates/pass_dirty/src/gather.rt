@@ -1,25 +1,21 @@
 //! The dirty blocks of a session, file by file.
-ghost use Rattle.std.specs.Prelude.{◌≡◌, ◌+◌, ◌<◌, ◌^◌, ℕ, List, IfOk, OnOk, length, slice_get, take, drop, Some};
+ghost use Rattle.std.specs.Prelude.{◌≡◌, ◌+◌, ◌<◌, ◌^◌, ℕ, List, IfOk, OnOk, length, slice_get, Some};
 ghost use Rattle.pass_graph.specs.Openings.{Continues};
 ghost use Rattle.pass_keep.specs.declared.block.Block.{Block as AnyBlock};
 ghost use Rattle.pass_keep.specs.Dirty.{AreDirty, IsAscending};
 ghost use Rattle.pass_keep.specs.Kept.{Story, IsStory, Noted};
 ghost use Rattle.pass_plain.specs.Recording.{IsRecording};
 ghost use Rattle.pass_range.specs.Lawful.{file_objects};
-ghost use Rattle.pass_range.specs.Rows.{range};
 ghost use Rattle.pass_dirty.specs.Gathering.{every_file, CoverNone, is_set as is_set_of, AddsOf, AreGathered};
 
 use pass_entry::{Kind, Pnode};
 use pass_graph::laws::prefixes;
 use pass_keep::Block;
-use pass_plain::{Content, Recording};
+use pass_plain::{Content, Recording, bytes_in};
 use pass_range::laws::{files as file_laws, rows};
 use pass_range::{Later, Range, later_of};
 use std::alloc::{AllocError, Global};
 use std::collections::BTreeMap;
-
-/// The bytes of a block.
-const BLOCK: usize = 4096;
 
 /// How many blocks a file has at most.
 const BLOCKS: u32 = 1024;
@@ -29,24 +25,6 @@ fn is_set(later: &Later, pnode: Pnode, block: u32) -> bool
     ensures { result ≡ is_set_of later.now pnode block }
 {
     later.rows.contains_key(&Range { pnode, block })
-}
-
-// The bytes of a content from a place, at most so many.
-fn part(content: &[u8], at: usize, len: usize) -> &[u8]
-    ensures { result.now ≡ take len (drop at content.now) }
-{
-    if at >= content.len() {
-        return &[];
-    }
-    let rest = &content[at..];
-    if len < rest.len() { &rest[..len] } else { rest }
-}
-
-// The bytes of a content that lie in a block.
-fn range_in(content: &[u8], block: u32) -> &[u8]
-    ensures { result.now ≡ range block content.now }
-{
-    part(content, block as usize * BLOCK, BLOCK)
 }
 
 // The files among objects, in their order.
@@ -74,7 +52,7 @@ fn add_blocks<'a>(
 {
     for block in 0..BLOCKS {
         if is_set(later, pnode, block) {
-            let bytes = range_in(content, block);
+            let bytes = bytes_in(content, block);
             blocks.push(Block {
                 number,
                 block,

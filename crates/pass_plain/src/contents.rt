@@ -1,11 +1,11 @@
 //! The content of a file, and the digests of its blocks.
-ghost use Rattle.std.specs.Prelude.{◌≡◌, ◌≢◌, ◌<◌, ◌^◌, ◌++◌, ◌∷◌, [], Bool, false, ℕ, IfOk, OnOk, length, take, drop, option_copied, ◌==◌};
+ghost use Rattle.std.specs.Prelude.{◌≡◌, ◌≢◌, ◌<◌, ◌*◌, ◌^◌, ◌++◌, ◌∷◌, [], Bool, false, ℕ, IfOk, OnOk, length, take, drop, option_copied, ◌==◌};
 ghost use Rattle.std.specs.List.{list_any, range_with_len};
 ghost use Rattle.std.specs.Option.{option_map_or};
 ghost use Rattle.pass_plain.specs.Files.{file_act};
 ghost use Rattle.pass_plain.specs.Histories.{is_fault};
 ghost use Rattle.pass_plain.specs.Sessions.{opening_bytes, opening_rows};
-ghost use Rattle.pass_plain.specs.Records.{touches as touches_of, range_len as range_len_of, row_act, is_written as is_written_of, digest_of as digest_of_block};
+ghost use Rattle.pass_plain.specs.Records.{block_size, touches as touches_of, range_len as range_len_of, row_act, is_written as is_written_of, digest_of as digest_of_block};
 ghost use Rattle.pass_plain.specs.Recording.{is_resized as is_resized_of, is_digested_by, digests_by, content_by, flags, block_count as block_count_of, opened_row as opened_row_of, bytes_after, row_after as row_after_of, IsContent, IsKept, AreKept};
 
 use crate::file::{apply, opened_file, opening_content};
@@ -82,13 +82,20 @@ fn part(content: &[u8], at: usize, len: usize) -> &[u8]
     if len < rest.len() { &rest[..len] } else { rest }
 }
 
+/// The bytes of a content that lie in a block.
+pub fn bytes_in(content: &[u8], block: u32) -> &[u8]
+    ensures { result.now ≡ take block_size (drop (block * block_size) content.now) }
+{
+    part(content, block as usize * BLOCK as usize, BLOCK as usize)
+}
+
 fn digest_of(file: Pnode, content: &[u8], block: u32) -> Record
     ensures { result ≡ digest_of_block file content.now block }
 {
     Record::Digest {
         pnode: file,
         block,
-        md5: Md5::digest(part(content, block as usize * BLOCK as usize, BLOCK as usize)),
+        md5: Md5::digest(bytes_in(content, block)),
     }
 }
 

@@ -24,7 +24,7 @@ pub mod start;
 pub mod steps;
 
 pub use callers::LastCall;
-pub use contents::Content;
+pub use contents::{Content, bytes_in};
 pub use nodes::VersionStep;
 pub use process::ProcessState;
 pub use records::Recording;

@@ -1,17 +1,11 @@
 -- What is read of an area, and of a content.
-use Rattle.std.proofs.Common.{◌≡◌, ◌∙◌, ℕ, ◌+◌, ◌-◌, ◌≤◌, min, List, [], ◌++◌, length, take, drop, replicate, refl, sym, ap, subst, arith, length-append, length-drop, length-take}
+use Rattle.std.proofs.Common.{◌≡◌, ◌∙◌, ℕ, ◌-◌, min, List, [], ◌++◌, length, take, drop, replicate, refl, sym, ap, subst, arith, length-append, length-drop, length-take}
 use Rattle.std.specs.Prelude.{Result, Ok, Err, IsErr}
 use Rattle.std.proofs.lemmas.List.{append-nil, take_min, take-replicate, drop_all, take_at}
 use borrow.Rule.Slice.PartMut.{put_mid}
 use Rattle.pass_outside.proofs.Flat.{take_append}
 use Rattle.pass_outside.specs.Moments.{Moment, IsCall}
 use Rattle.pass_range.specs.Places.{found_there}
-
--- so many bytes from a place on, or those up to the end
-pub part_is : (at n last : ℕ) (xs : List ℕ) → last ≡ min (length xs) (at + n) → at ≤ length xs → take (last - at) (drop at xs) ≡ take n (drop at xs)
-part_is at n last xs is low =
-    let short : last - at ≡ min n (length (drop at xs)) = omega (arith, is, low, length-drop at xs) in
-    ap (λ (k : ℕ). take k (drop at xs)) short ∙ take_min n (drop at xs)
 
 -- bytes that were read, and zeros behind them
 pub read_filled : (at len count : ℕ) (area old into zeros : List ℕ) → count ≡ min len (length area - at) → into ≡ take count (drop at area) ++ drop count old → length old ≡ len

@@ -1,5 +1,5 @@
 //! Blocks of files: their digests, and their bytes on the store area.
-ghost use Rattle.std.specs.Prelude.{◌≡◌, ◌+◌, ◌-◌, ◌*◌, ◌<◌, ◌≤◌, ◌^◌, IsTrue, OnOk, IfOk, map, min, length, take, drop, replicate};
+ghost use Rattle.std.specs.Prelude.{◌≡◌, ◌+◌, ◌-◌, ◌*◌, ◌<◌, ◌≤◌, ◌^◌, IsTrue, OnOk, IfOk, map, length};
 ghost use Rattle.std.specs.List.{All};
 ghost use Rattle.md5.specs.Md5.{md5};
 ghost use Rattle.pass_outside.specs.Areas.{Image, written, Torn, OnArea};
@@ -12,6 +12,7 @@ ghost use Rattle.pass_range.specs.Rows.{range};
 use md5::{Digest, Md5};
 use pass_entry::Pnode;
 use pass_outside::{Area, Disk, Failed};
+use pass_plain::bytes_in;
 use std::alloc::{AllocError, Global};
 
 /// The bytes of a block.
@@ -25,16 +26,6 @@ const FILE_BLOCKS: u64 = 1024;
 pub struct Range {
     pub pnode: Pnode,
     pub block: u32,
-}
-
-// The bytes of a block of a content.
-fn range_in(content: &[u8], block: u32) -> &[u8]
-    requires { block * block_size < length content.now }
-    ensures { result.now ≡ range block content.now }
-{
-    let begin = block as usize * BLOCK;
-    let end = content.len().min(begin + BLOCK);
-    &content[begin..end]
 }
 
 /// How many bytes of a file of that size lie in a block.
@@ -57,7 +48,7 @@ pub fn digests_of(
 {
     let mut digests = Vec::with_capacity(alloc, blocks.len())?;
     for block in blocks {
-        digests.push(Md5::digest(range_in(content, *block)))?;
+        digests.push(Md5::digest(bytes_in(content, *block)))?;
     }
     Ok(digests)
 }

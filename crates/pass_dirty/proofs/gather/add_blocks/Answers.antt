@@ -18,7 +18,7 @@ loop-block-preserved c =
     elim c.if-is_set.branch [
       | then-is_set+in_ok-push w ↦
           subst (λ (new : List Block). AddsOf number content test (block + 1) old new) (sym (ap (λ (v : Vec Block Global). v.items) w.blocks-is ∙ w.in_ok-push.ensures.items))
-          (adds_one number content test block old c.loop-block.blocks.items _ c.requires.below c.loop-block.invariant refl refl (sym c.is_set.ensures ∙ w.if-is_set.true) w.range_in-bytes.ensures)
+          (adds_one number content test block old c.loop-block.blocks.items _ c.requires.below c.loop-block.invariant refl refl (sym c.is_set.ensures ∙ w.if-is_set.true) w.bytes_in-bytes.ensures)
       | else-is_set w ↦
           subst (λ (new : List Block). AddsOf number content test (block + 1) old new) (sym (ap (λ (v : Vec Block Global). v.items) w.blocks-is))
           (adds_skip number content test block old c.loop-block.blocks.items (sym c.is_set.ensures ∙ w.if-is_set.false) c.loop-block.invariant)

@@ -6,3 +6,6 @@ pub mod Keeping
 pub mod Handing
 pub mod Told
 pub mod Parted
+pub mod Behind
+pub mod Listing
+pub mod Seating

@@ -1,6 +1,6 @@
 -- The rows that the records behind a place of a history set, and the blocks that they make dirty.
-use Rattle.std.proofs.Common.{◌≡◌, ◌∙◌, ◌⊎◌, ◌+◌, ◌*◌, ◌<◌, ◌≤◌, ℕ, Bool, true, false, List, [], ◌∷◌, ◌++◌, length, take, drop, refl, sym, ap, subst, arith, ⊎_elim, length-append, append_assoc}
-use Rattle.std.specs.Prelude.{Option, Some, None, is_some, slice_get, if◌then◌else◌}
+use Rattle.std.proofs.Common.{◌≡◌, ◌∙◌, ◌*◌, ◌≤◌, ℕ, Bool, true, false, List, [], ◌∷◌, ◌++◌, length, take, drop, refl, sym, ap, subst, arith, length-append, append_assoc}
+use Rattle.std.specs.Prelude.{Option, Some, None, is_some, if◌then◌else◌}
 use Rattle.std.specs.BTreeMap.{get}
 use Rattle.std.specs.Option.{option_map_or}
 use Rattle.std.proofs.lemmas.List.{take-append-drop, take-append-le, append_cancel_left, append-nil, length-take}
@@ -9,7 +9,6 @@ use Rattle.pass_entry.specs.declared.record.Record.{Record}
 use Rattle.pass_plain.specs.Sessions.{Session}
 use Rattle.pass_plain.specs.Files.{file_after}
 use Rattle.pass_plain.specs.Records.{entry_records, records_of}
-use Rattle.pass_plain.proofs.Lists.{some_is}
 use Rattle.pass_plain.proofs.Replays.{take-take_le}
 use Rattle.pass_range.specs.declared.later.Later.{Later}
 use Rattle.pass_range.specs.Laters.{range_cmp, touch_in, has_size}
@@ -20,7 +19,7 @@ use Rattle.pass_range.proofs.Changing.{snoc_induction, records-next, source-step
 use Rattle.pass_range.proofs.LastRows.{touch-append}
 use Rattle.pass_keep.specs.Kept.{Story, records_to, source_to, range_to}
 use Rattle.pass_keep.proofs.Stories.{row_set, source_below}
-use Rattle.pass_vault.specs.Cleaned.{IsDirtyAt, IsGiven, AreDirtyOf}
+use Rattle.pass_vault.specs.Cleaned.{AreDirtyOf}
 use Rattle.pass_vault.specs.Listed.{is_set, AreListed, alone}
 use mathlib.Core.List.{IsPrefix}
 

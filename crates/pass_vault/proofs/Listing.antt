@@ -1,9 +1,9 @@
 -- Blocks that are listed one after the other.
-use Rattle.std.proofs.Common.{◌≡◌, ◌⊎◌, ◌<◌, ◌+◌, ℕ, Bool, true, false, List, [], ◌∷◌, ◌++◌, length, ap, sym, ◌∙◌, refl, subst, inl, inr, ⊎_elim, arith}
+use Rattle.std.proofs.Common.{◌≡◌, ◌⊎◌, ◌<◌, ◌+◌, ℕ, Bool, true, false, List, [], ◌∷◌, ◌++◌, length, ap, sym, ◌∙◌, subst, ⊎_elim, arith}
 use Rattle.std.specs.Prelude.{Some, slice_get}
 use Rattle.pass_plain.proofs.Appends.{slice_get-append, slice_get-last, place_of}
 use Rattle.pass_range.specs.Rows.{range}
-use Rattle.pass_vault.specs.Cleaned.{IsGiven, IsRisingBy}
+use Rattle.pass_vault.specs.Cleaned.{IsGiven}
 use Rattle.pass_vault.specs.Listed.{AreListed}
 
 below_or : (n m : ℕ) → n < m + 1 → (n < m) ⊎ (n ≡ m)

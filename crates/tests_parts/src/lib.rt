@@ -1,0 +1,3 @@
+//! Tests of the parts: texts and codecs, the plain history, versions, graph, index, queries, workers and the book, each through
+//! public calls.
+#![tactic(auto)]

@@ -1,0 +1,3 @@
+//! Tests of stops, faults and images of disks: log, ranges, recovery, keeper, vault and the run over a disk, each through public
+//! calls.
+#![tactic(auto)]

@@ -1,11 +1,13 @@
 -- The words by which reports and faults name calls, faults, kinds and flaws (this project's own).
-use Rattle.std.specs.Prelude.{ℕ, List, codes}
+use Rattle.std.specs.Prelude.{ℕ, List, [], ◌∷◌, ◌++◌, ◌≡◌, ◌==◌, ◌↔◌, Option, Some, codes, decimal, find}
+use Rattle.std.specs.Cmp.Lexicographic.{pointwise}
 use Rattle.pass_entry.specs.declared.entry.CallFault.{CallFault}
 use Rattle.pass_entry.specs.declared.entry.CallFault.TheVariants as fault
 use Rattle.pass_entry.specs.declared.entry.CallName.{CallName}
 use Rattle.pass_entry.specs.declared.entry.CallName.TheVariants as call
 use Rattle.pass_entry.specs.declared.objects.Kind.{Kind}
 use Rattle.pass_entry.specs.declared.objects.Kind.TheVariants as kind
+use Rattle.pass_entry.specs.declared.objects.Node.{Node}
 use Rattle.pass_entry.specs.declared.record.FlawReason.{FlawReason}
 use Rattle.pass_entry.specs.declared.record.FlawReason.TheVariants as flaw
 
@@ -32,6 +34,21 @@ call_word call.FreezeObj = codes "freeze"
 call_word call.Disclose = codes "disclose"
 call_word call.TagObj = codes "tag"
 call_word call.Sync = codes "sync"
+
+-- all names of calls
+abbrev pub call_names : List CallName
+call_names =
+    call.Start ∷ call.Creat ∷ call.OpenName ∷ call.CloseFd ∷ call.Read ∷ call.Write ∷ call.Seek ∷ call.Truncate ∷ call.MakePipe ∷ call.Fork
+    ∷ call.Exec ∷ call.WaitChild ∷ call.Exit ∷ call.Rename ∷ call.Unlink ∷ call.MakeObj ∷ call.Revive ∷ call.FreezeObj ∷ call.Disclose ∷ call.TagObj
+    ∷ call.Sync ∷ []
+
+-- the call with this word
+abbrev pub call_of : List ℕ → Option CallName
+call_of word = find (λ call. pointwise ◌==◌ (call_word call) word) call_names
+
+-- the answer is the call with this word, where there is one
+abbrev pub IsCallOf : List ℕ → Option CallName → Type 0
+IsCallOf word answer = (name : CallName) → (answer ≡ Some name) ↔ (call_word name ≡ word)
 
 -- the name of a fault in a report
 abbrev pub fault_word : CallFault → List ℕ
@@ -65,6 +82,14 @@ kind_word kind.Process = codes "process"
 kind_word kind.File = codes "file"
 kind_word kind.Pipe = codes "pipe"
 kind_word kind.App = codes "app"
+
+-- an object in a report
+abbrev pub pnode_text : ℕ → List ℕ
+pnode_text pnode = decimal pnode
+
+-- a node in a report
+abbrev pub node_text : Node → List ℕ
+node_text node = decimal node.pnode ++ codes "." ++ decimal node.version
 
 -- why a list of records isn't well logged
 abbrev pub flaw_word : FlawReason → List ℕ

@@ -1,5 +1,5 @@
 -- The table as it is made keeps the rule.
-use Rattle.std.proofs.Common.{◌≡◌, ℕ, zero, suc, [], ◌∷◌, refl, sym, subst, inl}
+use Rattle.std.proofs.Common.{◌≡◌, ℕ, zero, suc, [], ◌∷◌, refl, sym, subst, inl, arith}
 use mathlib.Core.Option.{some, some-ne-none, some-injective}
 use lib.ListN.{get_elem?}
 use Rattle.pass_book.specs.declared.view.Opened.{Opened}
@@ -22,8 +22,10 @@ begins opened = (
     fits = fit;
     once = only;
     folded = tt;
+    desks = tt;
     words_are = refl;
     rising = tt;
+    durable_within = omega arith;
     no_vault = (λ none. (refl, refl));
     lent_away = (λ a among. absurd among);
     home = (λ o none. refl);

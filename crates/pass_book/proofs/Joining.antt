@@ -12,12 +12,12 @@ use Rattle.pass_book.specs.declared.view.Role.TheVariants.{Desk, Vault}
 use Rattle.pass_book.specs.declared.view.Name.{Name}
 use Rattle.pass_book.specs.declared.view.Folded.{Folded}
 use Rattle.pass_book.specs.declared.view.View.{View}
-use Rattle.pass_book.specs.Names.{name, Among, IsOne, Agrees, Listed}
-use Rattle.pass_book.specs.Views.{session_in, all_folded, Fits, KeptAs, longer, spent, folding, hearing}
+use Rattle.pass_book.specs.Names.{name, Among, without, IsOne, Agrees, Listed}
+use Rattle.pass_book.specs.Views.{session_in, all_folded, all_listed, Fits, KeptAs, longer, spent, folding, hearing}
 use Rattle.pass_book.proofs.Prefixes.{prefix_self, prefix_trans, prefix_none}
 use Rattle.pass_book.proofs.Affairs.{agrees_on, listed_on}
 use Rattle.pass_book.proofs.Backed.{still_backed}
-use Rattle.pass_book.proofs.Lookups.{among_without, is_or_not, at_within}
+use Rattle.pass_book.proofs.Lookups.{among_without, among_less, gone, is_or_not, at_within}
 use Rattle.pass_book.proofs.Lists.{Joined, used, gained, alone, joined, before_join, claims_joined, longer_of}
 use Rattle.pass_book.proofs.Rules.{Rule, book_name, with_book, untouched_none, never, not_vault, longer_nothing}
 
@@ -63,6 +63,13 @@ spent_fits b all lent = record {
 folded_longer : (h : List Entry) (xs ys : List VaultSync) (fs : List Folded) → IsPrefix xs ys → all_folded h xs fs → all_folded h ys fs
 folded_longer h xs ys [] p a = tt
 folded_longer h xs ys (f ∷ fs) p a = (record { begins = a.0.begins; agrees = a.0.agrees; listed = prefix_trans f.syncs xs ys a.0.listed p }, folded_longer h xs ys fs p a.1)
+
+-- the desks that are back stay so
+pub desks_kept : (ss tt' : List VaultSync) (away less : List Name) (fs : List Folded) → ((o : ℕ) → ¬ Among (name Desk o) away → ¬ Among (name Desk o) less)
+    → ((o : ℕ) (mine : List VaultSync) → ¬ Among (name Desk o) away → Listed (name Desk o) mine ss → Listed (name Desk o) mine tt') → all_listed ss away fs → all_listed tt' less fs
+desks_kept ss tt' away less [] fewer more l = tt
+desks_kept ss tt' away less (f ∷ fs) fewer more l =
+    (λ o names. let (home, mine) = l.0 o names in (fewer o home, more o f.syncs home mine), desks_kept ss tt' away less fs fewer more l.1)
 
 -- a name comes back to the book
 pub folds : (opened : Opened) (id : ℕ) (b : View) (other : ℕ) (w : View) → b.name ≡ book_name → ¬ (w.name ≡ name Vault 0) → Joins (Rule opened) id b other w (folding b w) spent
@@ -118,8 +125,13 @@ folds opened id b other w is no_vault s h at apart there0 =
           record { begins = g.begins; agrees = g.agrees; listed = both.1 },
           (record { begins = prefix_self b.seen; agrees = refl; listed = both.0 }, folded_longer b.seen b.syncs l.syncs b.folded both.0 k.folded),
         );
+        desks = (
+          λ o names. (subst (λ (a : Name). ¬ Among (name Desk o) (without a b.away)) (sym names) (gone (name Desk o) b.away), subst (λ (a : Name). Listed a w.syncs all) names g.complete),
+          (λ o names. absurd (cc (ap (λ (a : Name). a.role) is, ap (λ (a : Name). a.role) names)), desks_kept all all b.away l.away b.folded (λ o none among. none (among_less w.name b.away (name Desk o) among)) (λ o ss none mine. mine) k.desks),
+        );
         words_are = k.words_are;
         rising = k.rising;
+        durable_within = k.durable_within;
         no_vault = (λ gone'. k.no_vault (λ among. gone' (stays (name Vault 0) (λ e. no_vault (sym e)) among)));
         lent_away = (λ a among. let x = k.lent_away a among in (x.0, stays a (λ e. g.free (subst (λ (n : Name). IsOne n.role) e x.0) (subst (λ (n : Name). Among n lent) e among)) x.1));
         home = (λ o none.
@@ -179,8 +191,10 @@ hears opened id v other w unlike nor quiet s h at apart there0 =
         fits = (λ j u e. join_fits b l spent all lent views id other (λ i x ne nd old. k.fits i x old) mine (spent_fits b all lent) j u (joined views id l other spent j u e));
         once = (λ i j x u p q. joined_once opened s.words views all lent h.0 b k id v l at refl other spent (λ x. x) i j x u (joined views id l other spent i x p) (joined views id l other spent j u q));
         folded = k.folded;
+        desks = k.desks;
         words_are = k.words_are;
         rising = k.rising;
+        durable_within = k.durable_within;
         no_vault = k.no_vault;
         lent_away = k.lent_away;
         home = k.home;

@@ -11,9 +11,12 @@ use Rattle.pass_book.specs.declared.view.VaultSync.{VaultSync}
 use Rattle.pass_book.specs.declared.view.Opened.{Opened}
 use Rattle.pass_book.specs.declared.view.Name.{Name}
 use Rattle.pass_book.specs.declared.view.View.{View}
-use Rattle.pass_book.specs.Names.{IsOne, Agrees}
+use Rattle.pass_book.specs.declared.view.Folded.{Folded}
+use Rattle.pass_book.specs.declared.view.Role.TheVariants.{Desk}
+use mathlib.Core.List.{IsPrefix}
+use Rattle.pass_book.specs.Names.{name, IsOne, Agrees}
 use Rattle.pass_book.specs.Syncs.{durable, IsBacked}
-use Rattle.pass_book.specs.Views.{session_in, Fits, KeptAs, Kept, met, Meets, Learns, Reads, freeing, Frees}
+use Rattle.pass_book.specs.Views.{session_in, all_folded, all_listed, Fits, KeptAs, Kept, met, Meets, Learns, Reads, freeing, Frees}
 use Rattle.pass_book.proofs.Prefixes.{prefix_none, prefix_length}
 use Rattle.pass_book.proofs.Affairs.{agrees_between, listed_between, agrees_on, listed_on}
 use Rattle.pass_book.proofs.Backed.{durable_begins, rising_begins, numbered_longer}
@@ -90,8 +93,10 @@ takes opened slots id me unlike s h len at bound =
           fits = (λ j u e. ⊎_elim (λ (t : (j ≡ id) × (l ≡ u)). subst (Fits b all lent) t.1 mine) (λ (t : (j ≢ id) × (get_elem? s.views j ≡ some u)). k.fits j u t.1) (at_set s.views id j l u e));
           once = set_once opened s.words s.views all lent h.0 b k id v l at refl;
           folded = k.folded;
+          desks = k.desks;
           words_are = same_words s.words (durable all) k.words_are;
           rising = k.rising;
+          durable_within = k.durable_within;
           no_vault = k.no_vault;
           lent_away = k.lent_away;
           home = k.home;
@@ -120,6 +125,12 @@ unchanged opened s i id v words at h =
     let Q : List View → Type 0 = λ vs. Kept opened s.words vs in
     subst P (sym words) (subst Q (sym (set_again s.views id v at)) h)
 
+-- what a desk had seen of the whole list it had seen of the book's
+desks_told : (h : List Entry) (ss all : List VaultSync) (away : List Name) (fs : List Folded) → IsPrefix ss all → all_folded h ss fs → all_listed all away fs → all_listed ss away fs
+desks_told h ss all away [] p a l = tt
+desks_told h ss all away (f ∷ fs) p a l =
+    (λ o names. let (home, mine) = l.0 o names in (home, listed_between (name Desk o) f.syncs ss all a.0.listed p mine), desks_told h ss all away fs p a.1 l.1)
+
 -- the book learns how what came back stands to its history
 pub learns : (opened : Opened) (slots id : ℕ) (me : Me ℕ View) → me.0.name ≡ book_name → Allows (Rule opened) slots id me 0 (λ n. n) (Learns nowhere me)
 learns opened slots id me is s h len at bound =
@@ -128,7 +139,7 @@ learns opened slots id me is s h len at bound =
       keeps,
       tt,
       unchanged opened s 0 id me.0 (same_words s.words (durable h.2) k.words_are ∙ sym k.words_are) at h,
-      (refl, subst (λ (o : Opened). IsLegal (session_in o) me.0.seen) (sym k.from) k.legal, k.folded, claimed_at_most s.views id me.0 me.0.pool at k.pool, rising_begins me.0.syncs h.2 (k.fits id me.0 at).listed k.rising, subst (λ (o : Opened). IsBacked (session_in o) me.0.seen me.0.syncs) (sym k.from) k.backed),
+      (refl, subst (λ (o : Opened). IsLegal (session_in o) me.0.seen) (sym k.from) k.legal, k.folded, desks_told me.0.seen me.0.syncs h.2 me.0.away me.0.folded (k.fits id me.0 at).listed k.folded k.desks, le_trans (durable_begins me.0.syncs h.2 (k.fits id me.0 at).listed k.rising) k.durable_within, claimed_at_most s.views id me.0 me.0.pool at k.pool, rising_begins me.0.syncs h.2 (k.fits id me.0 at).listed k.rising, subst (λ (o : Opened). IsBacked (session_in o) me.0.seen me.0.syncs) (sym k.from) k.backed),
     )
 
 -- whoever reads word 1 finds at least the last number that it knows
@@ -171,8 +182,10 @@ frees opened slots id me is s h len at bound =
           fits = (λ j u e. ⊎_elim (λ (t : (j ≡ id) × (l ≡ u)). subst (Fits l all lent) t.1 mine) (λ (t : (j ≢ id) × (get_elem? s.views j ≡ some u)). keep u (k.fits j u t.1)) (at_set s.views id j l u e));
           once = set_once opened s.words s.views all lent id b k id b l at refl;
           folded = tt;
+          desks = tt;
           words_are = same_words s.words (durable all) k.words_are;
           rising = k.rising;
+          durable_within = k.durable_within;
           no_vault = k.no_vault;
           lent_away = k.lent_away;
           home = k.home;

@@ -1,5 +1,5 @@
 -- A seat whose view is cut in two keeps the rule: a name that leaves the book, an entry, a note, a claim.
-use Rattle.std.proofs.Common.{◌≡◌, ◌⊎◌, ℕ, ◌<◌, ◌≤◌, ◌+◌, ◌-◌, true, false, true≢false, List, [], ◌∷◌, ◌++◌, length, set, refl, sym, ap, ◌∙◌, subst, inl, inr, ⊎_elim, arith, eq-eqb}
+use Rattle.std.proofs.Common.{◌≡◌, ◌⊎◌, ℕ, ◌<◌, ◌≤◌, ◌+◌, ◌-◌, true, false, true≢false, List, [], ◌∷◌, ◌++◌, length, set, refl, sym, ap, ◌∙◌, subst, inl, inr, ⊎_elim, arith, eq-eqb, length-append}
 use Rattle.std.specs.Prelude.{filter}
 use mathlib.Core.Option.{some}
 use mathlib.Core.List.{IsPrefix}
@@ -138,8 +138,10 @@ leaves opened o n looks id b is vault home s h at =
             k.fits mine new j u (whence s.views id l r j u e));
         once = split_once opened s.words s.views id b all lent id b k at l r refl (fresh_name opened s.words s.views all lent id b k r (λ _. home));
         folded = tt;
+        desks = tt;
         words_are = k.words_are;
         rising = k.rising;
+        durable_within = k.durable_within;
         no_vault = (λ none. k.no_vault (λ among. none (inr among)));
         lent_away = (λ n among. let x = k.lent_away n among in (x.0, inr x.1));
         home = (λ o none. k.home o (λ among. none (inr among)));
@@ -221,8 +223,10 @@ writes opened e id b is apart may kept some_place s h at =
             k.fits mine new j u (whence s.views id l r j u p));
         once = split_once opened s.words s.views id b all lent id b k at l r refl (fresh_name opened s.words s.views all lent id b k r (λ _. home));
         folded = tt;
+        desks = tt;
         words_are = k.words_are;
         rising = k.rising;
+        durable_within = (let more = length-append b.seen (e ∷ []) in let old = k.durable_within in omega (arith, more, old));
         no_vault = (λ none. k.no_vault (λ among. none (inr among)));
         lent_away = (λ n among. let x = k.lent_away n among in (x.0, inr x.1));
         home = (λ o none. k.home o (λ among. none (inr among)));
@@ -264,8 +268,10 @@ notes opened id v live s h at =
         fits = (λ j u p. note_fits b v r all lent s.views id k.fits (k.fits id v at) new j u (whence s.views id v r j u p));
         once = split_once opened s.words s.views id v all lent h.0 b k at v r refl (λ one. absurd one);
         folded = k.folded;
+        desks = k.desks;
         words_are = k.words_are;
         rising = k.rising;
+        durable_within = k.durable_within;
         no_vault = k.no_vault;
         lent_away = k.lent_away;
         home = k.home;
@@ -317,8 +323,10 @@ claims_more opened n id b is s h at =
         fits = (λ j u p. split_fits b l r all lent s.views id keep k.fits mine new j u (whence s.views id l r j u p));
         once = split_once opened s.words s.views id b all lent id b k at l r refl (λ one. absurd one);
         folded = k.folded;
+        desks = k.desks;
         words_are = k.words_are;
         rising = k.rising;
+        durable_within = k.durable_within;
         no_vault = k.no_vault;
         lent_away = k.lent_away;
         home = k.home;

@@ -17,14 +17,14 @@ use Rattle.pass_book.specs.Names.{name, Among, without, IsOne, Agrees, concerns}
 use Rattle.pass_book.specs.Numbers.{IsFileNumber}
 use Rattle.pass_book.specs.Syncs.{durable, called_from}
 use Rattle.pass_book.specs.Views.{session_in, Fits, KeptAs, Kept, longer, spent, lending, returning, returned, syncing, Synced}
-use Rattle.pass_book.proofs.Prefixes.{prefix_self, prefix_none, prefix_more}
+use Rattle.pass_book.proofs.Prefixes.{prefix_self, prefix_none, prefix_more, prefix_length}
 use Rattle.pass_book.proofs.Affairs.{listed_more, agrees_on}
 use Rattle.pass_book.proofs.Backed.{durable_last, rising_more, numbered_more}
 use Rattle.pass_book.proofs.Lookups.{gone, among_less, off, concerned}
 use Rattle.pass_book.proofs.Lists.{Came, came, changed, stood, whence, joined, before_join, claims_changed, claims_split, claims_joined, longer_of}
 use Rattle.pass_book.proofs.Rules.{Rule, book_name, nowhere, whole_list, longer_nothing}
 use Rattle.pass_book.proofs.Splitting.{split_once}
-use Rattle.pass_book.proofs.Joining.{joined_once, join_fits, spent_fits, elsewhere}
+use Rattle.pass_book.proofs.Joining.{joined_once, join_fits, spent_fits, elsewhere, desks_kept}
 use Rattle.pass_book.proofs.Loading.{set_once}
 
 -- the rule, with the vault's view in place of the list and of the desks that it has
@@ -107,8 +107,10 @@ syncs opened slots id me y is calls entries within has s h len at bound =
           fits = (λ j u e. ⊎_elim (λ (t : (j ≡ id) × (l ≡ u)). subst (Fits b all lent) t.1 mine) (λ (t : (j ≢ id) × (get_elem? s.views j ≡ some u)). others j u t.0 t.1) (at_set s.views id j l u e));
           once = set_once opened s.words s.views v.syncs lent h.0 b k id v l at refl;
           folded = k.folded;
+          desks = desks_kept v.syncs all b.away b.away b.folded (λ o none. none) (λ o ss none mine. listed_more (name Desk o) ss v.syncs y mine (off (concerns (name Desk o) y) (λ t. none (k.lent_away (name Desk o) (of_desk (name Desk o) t (λ e. absurd cc))).1))) k.desks;
           words_are = risen_words s.words (durable v.syncs) y.entries k.words_are entries ∙ ap (λ (n : ℕ). 0 ∷ n ∷ []) (sym last);
           rising = rising_more v.syncs y k.rising calls entries;
+          durable_within = (let short = prefix_length v.seen b.seen f.begins in omega (arith, last, within, short));
           no_vault = (λ none. absurd (none away));
           lent_away = k.lent_away;
           home = (λ o none. listed_more (name Desk o) b.syncs v.syncs y (k.home o none) (off (concerns (name Desk o) y) (λ t. none (k.lent_away (name Desk o) (of_desk (name Desk o) t (λ e. absurd cc))).1)));
@@ -193,8 +195,10 @@ lends opened id v other w is desk quiet s h at apart there0 =
         fits = (λ j u e. join_fits b l spent all lent views id other others mine (spent_fits b all lent) j u (joined views id l other spent j u e));
         once = (λ i j y u p q. joined_once opened s.words views v.syncs v.away h.0 b k id v l at refl other spent (λ z. z) i j y u (joined views id l other spent i y p) (joined views id l other spent j u q));
         folded = k.folded;
+        desks = k.desks;
         words_are = k.words_are;
         rising = k.rising;
+        durable_within = k.durable_within;
         no_vault = (λ none. absurd (none away));
         lent_away = (λ a among. ⊎_elim (λ (e : w.name ≡ a). let P : Name → Type 0 = λ n. IsOne n.role × Among n b.away in subst P e (one, g.away one)) (λ (e : Among a v.away). k.lent_away a e) among);
         home = k.home;
@@ -269,8 +273,10 @@ returns opened a id v is desk has quiet s h at =
         once = split_once opened s.words views id v v.syncs v.away h.0 b k at l r refl
             (λ one j u old e. (k.fits j u old).free (subst (λ (n : Name). IsOne n.role) e one) (subst (λ (n : Name). Among n v.away) e has));
         folded = k.folded;
+        desks = k.desks;
         words_are = k.words_are;
         rising = k.rising;
+        durable_within = k.durable_within;
         no_vault = (λ none. absurd (none away));
         lent_away = (λ n among. k.lent_away n (among_less a v.away n among));
         home = k.home;

@@ -7,7 +7,7 @@ use Rattle.atomic_table.specs.Table.{Step, Me}
 use Rattle.pass_entry.specs.declared.entry.Entry.{Entry}
 use Rattle.pass_plain.specs.Sessions.{Session}
 use Rattle.pass_plain.specs.Legal.{IsLegal, session_of}
-use Rattle.pass_book.specs.declared.rule.Opening.{Opening}
+use Rattle.pass_book.specs.declared.rule.TableOpening.{TableOpening}
 use Rattle.pass_book.specs.declared.view.Role.TheVariants.{Book, Desk, Vault, Claim, Note, Spent}
 use Rattle.pass_book.specs.declared.view.Name.{Name}
 use Rattle.pass_book.specs.declared.view.VaultSync.{VaultSync}
@@ -21,7 +21,7 @@ use Rattle.pass_book.specs.Syncs.{durable, IsRising, IsBacked, AreNumbered}
 abbrev pub session_in : Opened → Session
 session_in o = session_of o.start o.objects
 
-abbrev pub opened_by : Opening → Opened
+abbrev pub opened_by : TableOpening → Opened
 opened_by k = record { start = k.start.value; objects = k.objects }
 
 -- what came back began the history and the list, and had all entries that are its affair
@@ -36,6 +36,11 @@ part_of v = record { name = v.name; seen = v.seen; syncs = v.syncs }
 abbrev pub all_folded : List Entry → List VaultSync → List Folded → Type 0
 all_folded h ss [] = Unit {0}
 all_folded h ss (f ∷ fs) = Part h ss f × all_folded h ss fs
+
+-- a desk that has come back is in the book, and had seen all syncs of its file
+abbrev pub all_listed : List VaultSync → List Name → List Folded → Type 0
+all_listed ss away [] = Unit {0}
+all_listed ss away (f ∷ fs) = ((o : ℕ) → f.name ≡ name Desk o → (¬ Among (name Desk o) away) × Listed (name Desk o) f.syncs ss) × all_listed ss away fs
 
 abbrev pub longer : {A : Type 0} → List A → List A → List A
 longer xs ys = cond (ltb (length xs) (length ys)) ys xs
@@ -80,9 +85,11 @@ pub record KeptAs (opened : Opened) (words : List ℕ) (views : List View) (seat
   pub fits : (i : ℕ) (v : View) → get_elem? views i ≡ some v → Fits book all lent v
   pub once : (i j : ℕ) (v w : View) → get_elem? views i ≡ some v → get_elem? views j ≡ some w → IsOne v.name.role → v.name ≡ w.name → i ≡ j
   pub folded : all_folded book.seen book.syncs book.folded
+  pub desks : all_listed all book.away book.folded
   -- word 0 never changes, word 1 is the number of durable entries by the vault's list, along which no number falls
   pub words_are : words ≡ 0 ∷ durable all ∷ []
   pub rising : IsRising all
+  pub durable_within : durable all ≤ length book.seen
   pub no_vault : ¬ Among (name Vault 0) book.away → (all ≡ []) × (lent ≡ [])
   pub lent_away : (a : Name) → Among a lent → IsOne a.role × Among a book.away
   -- the book has seen all syncs of a file whose desk it has
@@ -159,7 +166,7 @@ Meets s me n new = (new ≡ (met me.0, me.1)) × IsMet me.0 (met me.0)
 
 -- the book learns how what came back stands to its history
 abbrev pub Learns : Step ℕ → Me ℕ View → ℕ → Me ℕ View → Type 0
-Learns s me n new = (new ≡ me) × IsLegal (session_in me.0.opened) me.0.seen × all_folded me.0.seen me.0.syncs me.0.folded × (me.0.claimed ≤ me.0.pool) × IsRising me.0.syncs × IsBacked (session_in me.0.opened) me.0.seen me.0.syncs
+Learns s me n new = (new ≡ me) × IsLegal (session_in me.0.opened) me.0.seen × all_folded me.0.seen me.0.syncs me.0.folded × all_listed me.0.syncs me.0.away me.0.folded × (durable me.0.syncs ≤ length me.0.seen) × (me.0.claimed ≤ me.0.pool) × IsRising me.0.syncs × IsBacked (session_in me.0.opened) me.0.seen me.0.syncs
 
 -- a desk goes to the vault, with what it has seen
 abbrev pub lending : View → View → View

@@ -1,5 +1,5 @@
 //! The book: the one history of a session, and how an entry is added.
-ghost use Rattle.std.specs.Prelude.{◌≡◌, ◌+◌, ◌-◌, ◌<◌, ◌≤◌, [], ◌∷◌, ◌++◌, length, if◌then◌else◌, IsSomeAnd, IfOk, IfErr, OnOk, OnErr};
+ghost use Rattle.std.specs.Prelude.{◌≡◌, ◌+◌, ◌-◌, ◌<◌, ◌≤◌, ◌^◌, [], ◌∷◌, ◌++◌, length, if◌then◌else◌, IsSomeAnd, IfOk, IfErr, OnOk, OnErr};
 ghost use Rattle.std.specs.Option.{ForSome};
 ghost use mathlib.Core.List.{IsPrefix};
 ghost use Rattle.pass_plain.specs.Legal.{IsLegal, ObjectAllows, CallerAllows, MayFollow};
@@ -7,16 +7,17 @@ ghost use Rattle.pass_plain.specs.Lawful.{AgreeOn, AgreeBy};
 ghost use Rattle.pass_plain.specs.Recorded.{entry_records_by};
 ghost use Rattle.pass_plain.specs.Sound.{IsSound};
 ghost use Rattle.pass_plain.specs.Versions.{nodes_of, source_in};
-ghost use Rattle.pass_book.specs.Names.{is_finish};
+ghost use Rattle.pass_book.specs.Names.{is_finish, name, Listed};
+ghost use Rattle.pass_book.specs.declared.view.Role.TheVariants as role;
 ghost use Rattle.pass_book.specs.Parting.{lists_of};
 ghost use Rattle.pass_book.specs.Records.{AreParts};
-ghost use Rattle.pass_book.specs.Syncs.{IsRising, Backs};
+ghost use Rattle.pass_book.specs.Syncs.{durable, IsRising, Backs};
 
 use crate::claim::{Claim, Full, Slip, Tally};
 use crate::entering::{enter, fold_last};
 use crate::parts::Parts;
 use crate::sight::{Note, Seats};
-use crate::steps::{Place, claim_places, look, note, refund, seated, taken};
+use crate::steps::{Place, claim_places, look, note, refund, seated, show, taken};
 use crate::tokens::{Desk, Line};
 use pass_entry::{Act, Entry, Record};
 use std::alloc::{AllocError, Global};
@@ -62,7 +63,7 @@ impl Book {
         ensures full { IfErr result (λ f. (f ≡ record { left = self.old.places - (length self.old.history + self.old.claimed); need = need }) × (f.left < need)) }
         ensures same { OnErr result (self.new ≡ self.old) }
     {
-        let left = self.places - self.entries.len() as u32 - self.claimed;
+        let left = self.left();
         if left < need {
             return Err(Full { left, need });
         }
@@ -77,6 +78,29 @@ impl Book {
                 unused: need,
             },
         })
+    }
+
+    /// How many places are neither used nor claimed.
+    pub fn left(&self) -> u32
+        ensures { result ≡ self.now.places - (length self.now.history + self.now.claimed) }
+    {
+        self.places - self.entries.len() as u32 - self.claimed
+    }
+
+    /// Makes a claim one of so many places: what it has is given back, and as much as it needs is claimed. It takes no memory.
+    pub fn fit(&mut self, claim: &mut Claim, need: u32)
+        requires one { claim.old.book ≡ self.old.book }
+        requires room { length self.old.history + self.old.claimed + need ≤ self.old.places + claim.old.unused }
+        ensures claim { claim.new ≡ record claim.old { unused = need } }
+        ensures places { self.new.claimed + claim.old.unused ≡ self.old.claimed + need }
+        ensures same { self.new ≡ record self.old { claimed = self.new.claimed } }
+    {
+        let table = &self.table.shared;
+        refund(table, &mut self.seat, taken(&mut claim.tally.badge));
+        self.claimed = self.claimed - claim.tally.unused + need;
+        let seat = claim_places(table, &mut self.seat, need);
+        claim.tally.badge = seat.into_badge();
+        claim.tally.unused = need;
     }
 
     /// Adds an entry at the end of the history, with the records that the claim's slip has for it, and answers its place.
@@ -103,6 +127,8 @@ impl Book {
         ensures follows { MayFollow self.old.book.session self.old.history entry }
         ensures legal { IsLegal self.old.book.session self.new.history }
         ensures object { IsPrefix desk.old.seen self.old.history × AgreeOn entry.what desk.old.seen self.old.history × IsPrefix desk.old.syncs self.new.syncs }
+        ensures listed { Listed (name role.Desk entry.what) desk.old.syncs self.new.syncs }
+        ensures durable { durable self.new.syncs ≤ length self.old.history }
         ensures caller { ForSome claim.old.line (λ l. IsPrefix l.seen self.old.history × AgreeBy entry.who l.seen self.old.history × IsPrefix l.syncs self.new.syncs) }
         ensures syncs { IsPrefix self.old.syncs self.new.syncs × IsRising self.new.syncs }
     {
@@ -156,7 +182,9 @@ impl Book {
     pub fn len(&self) -> u64
         ensures len { result ≡ length self.now.history }
         ensures within { length self.now.history + self.now.claimed ≤ self.now.places }
+        ensures few { self.now.places < 2 ^ 32 }
     {
+        let _places = self.places;
         self.entries.len() as u64
     }
 
@@ -220,5 +248,20 @@ impl Book {
         let seat = taken(&mut line.sight.badge);
         line.sight.badge = look(&self.table.shared, &mut self.seat, seat).into_badge();
         line.sight.len = self.entries.len() as u64;
+    }
+
+    /// The holder of a desk sees the whole history. It takes no memory.
+    pub fn show(&mut self, desk: &mut Desk)
+        requires { desk.old.book ≡ self.old.book }
+        ensures book { self.new ≡ record self.old { syncs = self.new.syncs } }
+        ensures desk { desk.new ≡ record desk.old { seen = self.old.history; syncs = self.new.syncs } }
+        ensures object { IsPrefix desk.old.seen self.old.history × AgreeOn desk.old.what desk.old.seen self.old.history × IsPrefix desk.old.syncs self.new.syncs }
+        ensures listed { Listed (name role.Desk desk.old.what) desk.old.syncs self.new.syncs }
+        ensures syncs { IsPrefix self.old.syncs self.new.syncs × IsRising self.new.syncs }
+        ensures legal { IsLegal self.old.book.session self.old.history }
+    {
+        let seat = taken(&mut desk.sight.badge);
+        desk.sight.badge = show(&self.table.shared, &mut self.seat, seat).into_badge();
+        desk.sight.len = self.entries.len() as u64;
     }
 }

@@ -84,6 +84,15 @@ impl Model for Claim {
     ghost view = { λ c. claim_with c.tally c.line c.last c.slip };
 }
 
+impl Claim {
+    /// How many places are left of it.
+    pub fn unused(&self) -> u32
+        ensures { result ≡ self.now.unused }
+    {
+        self.tally.unused
+    }
+}
+
 /// Fewer places are left than are needed.
 #[derive(Clone, Copy, Debug, PartialEq, Eq)]
 pub struct Full {

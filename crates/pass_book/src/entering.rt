@@ -1,10 +1,10 @@
 //! How an entry is added, with the tokens that it needs.
-ghost use Rattle.std.specs.Prelude.{◌≡◌, ◌+◌, ◌-◌, ◌^◌, ◌<◌, [], ◌∷◌, ◌++◌, length, MatchOption};
+ghost use Rattle.std.specs.Prelude.{◌≡◌, ◌+◌, ◌-◌, ◌^◌, ◌<◌, ◌≤◌, [], ◌∷◌, ◌++◌, length, MatchOption};
 ghost use mathlib.Core.List.{IsPrefix};
 ghost use Rattle.pass_plain.specs.Legal.{ObjectAllows, CallerAllows, MayFollow};
 ghost use Rattle.pass_book.specs.declared.view.Role.TheVariants as role;
-ghost use Rattle.pass_book.specs.Names.{name, Among, Agrees};
-ghost use Rattle.pass_book.specs.Syncs.{IsRising, Backs};
+ghost use Rattle.pass_book.specs.Names.{name, Among, Agrees, Listed};
+ghost use Rattle.pass_book.specs.Syncs.{durable, IsRising, Backs};
 ghost use Rattle.pass_book.specs.Tokens as tokens;
 ghost use Rattle.pass_book.specs.Views as views;
 
@@ -73,6 +73,8 @@ pub(crate) fn enter(
     ensures line { line.new ≡ record { book = tokens.id_of line.old.book.table book.old.me.0; name = line.old.name; seen = book.new.me.0.seen; syncs = book.new.me.0.syncs; looks = line.old.looks + 1; looked = length book.new.me.0.seen } }
     ensures tally { tally.new ≡ record { book = tokens.id_of tally.old.book.table book.old.me.0; unused = tally.old.unused - 1 } }
     ensures object { IsPrefix desk.old.seen book.old.me.0.seen × Agrees (name role.Desk entry.now.what) desk.old.seen book.old.me.0.seen × IsPrefix desk.old.syncs book.new.me.0.syncs }
+    ensures listed { Listed (name role.Desk entry.now.what) desk.old.syncs book.new.me.0.syncs }
+    ensures within { durable book.new.me.0.syncs ≤ length book.old.me.0.seen }
     ensures caller { IsPrefix line.old.seen book.old.me.0.seen × Agrees (name role.Line entry.now.who) line.old.seen book.old.me.0.seen × IsPrefix line.old.syncs book.new.me.0.syncs }
 {
     let desk_seat = taken(&mut desk.badge);

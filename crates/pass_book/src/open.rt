@@ -12,7 +12,7 @@ ghost use Rattle.pass_book.specs.Views as views;
 
 use crate::book::Book;
 use crate::claim::Slip;
-use crate::rule::Opening;
+use crate::rule::TableOpening;
 use crate::sight::{Seats, Sight};
 use crate::steps::{Place, leave_now};
 use crate::tokens::{Desk, Last, Line};
@@ -217,7 +217,7 @@ impl Book {
     {
         let history: Vec<Entry> = Vec::with_capacity(alloc, entries as usize)?;
         let slips: Vec<Slip> = Vec::with_capacity(alloc, entries as usize)?;
-        let opening = Opening {
+        let opening = TableOpening {
             start: Snapshot::of(start),
             objects,
         };

@@ -9,14 +9,14 @@ use std::snapshot::Snapshot;
 
 /// With what the table is told that a session was opened. It keeps no copy of the start.
 #[derive(Drop)]
-pub struct Opening {
+pub struct TableOpening {
     pub start: Snapshot<Start>,
     pub objects: u32,
 }
 
 pub struct Law;
 
-impl TableRule<u8, View, Opening> for Law {
+impl TableRule<u8, View, TableOpening> for Law {
     ghost use Rattle.pass_book.specs.Views.{Kept, first_view, opened_by};
 
     ghost holds = { λ k s. Kept (opened_by k) s.words s.views };

@@ -3,7 +3,7 @@ ghost use Rattle.std.specs.Prelude.{◌≡◌, ◌≤◌, length, max};
 ghost use Rattle.pass_book.specs.Syncs.{durable};
 ghost use Rattle.pass_book.specs.Tokens.{HasMet, IsPast};
 
-use crate::rule::{Law, Opening, Reading};
+use crate::rule::{Law, Reading, TableOpening};
 use crate::steps::{hear, seated, taken};
 use crate::view::View;
 use atomic_table::{Badge, Table};
@@ -12,7 +12,7 @@ use std::marker::Model;
 use std::sync::Arc;
 
 /// The table of a book's seats.
-pub type Seats = Table<u8, View, Opening, Law, Global>;
+pub type Seats = Table<u8, View, TableOpening, Law, Global>;
 
 /// A name, and the history and the list that its holder has seen. It keeps a share of the table.
 #[derive(Drop)]
@@ -100,7 +100,7 @@ impl Sight {
         self.len = greater(self.len, len);
     }
 
-    /// How many entries are durable: at least as many as the holder's list says.
+    /// No less than the entries of the last sync of the holder's list.
     pub(crate) fn durable(&mut self) -> u64
         ensures same { self.new ≡ self.old }
         ensures at_least { durable self.old.syncs ≤ result }

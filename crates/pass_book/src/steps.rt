@@ -3,7 +3,7 @@ ghost use Rattle.std.specs.Prelude.{◌≡◌, ◌+◌, ◌-◌, ◌<◌, ◌≤
 ghost use Rattle.pass_book.specs.declared.view.Role.TheVariants.{Book, Desk, Line, Last, Vault, Claim, Note};
 ghost use Rattle.pass_book.specs.declared.view.VaultSync.{VaultSync};
 ghost use Rattle.pass_plain.specs.Legal.{IsLegal, ObjectAllows, CallerAllows, MayFollow};
-ghost use Rattle.pass_book.specs.Names.{name, Among, touches, Agrees};
+ghost use Rattle.pass_book.specs.Names.{name, Among, touches, Agrees, Listed};
 ghost use Rattle.pass_book.specs.Numbers.{IsFileNumber};
 ghost use Rattle.pass_book.specs.Syncs.{durable, called, IsRising, Backs};
 ghost use mathlib.Core.List.{IsPrefix};
@@ -11,8 +11,8 @@ ghost use Rattle.pass_book.specs.Views as views;
 ghost use Rattle.pass_book.specs.Tokens as tokens;
 
 use crate::rule::{
-    Claims, Counting, Folds, Freeing, Hears, Law, Learning, Leaves, Naming, Notes, Opening, Takes,
-    Writes, Writing,
+    Claims, Counting, Folds, Freeing, Hears, Law, Learning, Leaves, Naming, Notes, TableOpening,
+    Takes, Writes, Writing,
 };
 use crate::view::{Role, View};
 use atomic_table::{Badge, Seat, Shared};
@@ -22,7 +22,7 @@ use std::mem;
 use std::snapshot::Snapshot;
 
 /// What all threads share of the table.
-pub type Desks = Shared<u8, View, Opening, Law>;
+pub type Desks = Shared<u8, View, TableOpening, Law>;
 
 /// A seat of the table.
 pub type Place = Seat<u8, View>;
@@ -151,6 +151,8 @@ fn learn(table: &Desks, book: &mut Place)
     ensures legal { IsLegal (views.session_in book.old.me.0.opened) book.old.me.0.seen }
     ensures rising { IsRising book.old.me.0.syncs }
     ensures folded { views.all_folded book.old.me.0.seen book.old.me.0.syncs book.old.me.0.folded }
+    ensures desks { views.all_listed book.old.me.0.syncs book.old.me.0.away book.old.me.0.folded }
+    ensures within { durable book.old.me.0.syncs ≤ length book.old.me.0.seen }
     ensures claimed { book.old.me.0.claimed ≤ book.old.me.0.pool }
 {
     table.load::<Learning>(book, 0);
@@ -208,6 +210,8 @@ fn gather(table: &Desks, book: &mut Place, desk: Place, line: Place, claimed: Pl
     ensures syncs { IsPrefix book.old.me.0.syncs book.new.me.0.syncs × IsRising book.new.me.0.syncs }
     ensures earlier { views.all_folded book.old.me.0.seen book.new.me.0.syncs book.old.me.0.folded }
     ensures object { IsPrefix desk.me.0.seen book.old.me.0.seen × Agrees (name Desk entry.now.what) desk.me.0.seen book.old.me.0.seen × IsPrefix desk.me.0.syncs book.new.me.0.syncs }
+    ensures listed { Listed (name Desk entry.now.what) desk.me.0.syncs book.new.me.0.syncs }
+    ensures within { durable book.new.me.0.syncs ≤ length book.old.me.0.seen }
     ensures caller { IsPrefix line.me.0.seen book.old.me.0.seen × Agrees (name Line entry.now.who) line.me.0.seen book.old.me.0.seen × IsPrefix line.me.0.syncs book.new.me.0.syncs }
 {
     let _ = entry;
@@ -248,6 +252,8 @@ pub(crate) fn write_down(
     ensures line { result.1.me ≡ (views.holding (name Line entry.now.who) book.old.me.0.opened book.new.me.0.seen book.new.me.0.syncs (line.me.0.looks + 1) (length book.new.me.0.seen), []) }
     ensures claim { (result.2.me.0.name ≡ name Claim 0) × (result.2.me.0.opened ≡ book.old.me.0.opened) × (result.2.me.0.syncs ≡ []) × (result.2.me.0.claimed + 1 ≡ claimed.me.0.claimed) × (result.2.me.1 ≡ []) }
     ensures object { IsPrefix desk.me.0.seen book.old.me.0.seen × Agrees (name Desk entry.now.what) desk.me.0.seen book.old.me.0.seen × IsPrefix desk.me.0.syncs book.new.me.0.syncs }
+    ensures listed { Listed (name Desk entry.now.what) desk.me.0.syncs book.new.me.0.syncs }
+    ensures within { durable book.new.me.0.syncs ≤ length book.old.me.0.seen }
     ensures caller { IsPrefix line.me.0.seen book.old.me.0.seen × Agrees (name Line entry.now.who) line.me.0.seen book.old.me.0.seen × IsPrefix line.me.0.syncs book.new.me.0.syncs }
 {
     let old = Snapshot::of(&line);
@@ -276,6 +282,48 @@ pub(crate) fn look(table: &Desks, book: &mut Place, line: Place) -> Place
     fold(table, book, line);
     learn(table, book);
     again(table, book, &old)
+}
+
+fn leave_as_desk<N: Naming>(table: &Desks, book: &mut Place, desk: &Snapshot<Place>) -> Place
+    requires at { tokens.At (name Book 0) table.now.table_id book.old.table_id book.old.me.0 }
+    requires named { (N.role ≡ Desk) × (N.number ≡ desk.now.value.me.0.name.number) × (N.looks ≡ 0) }
+    requires free { ¬ Among (name Desk desk.now.value.me.0.name.number) book.old.me.0.away }
+    ensures book { (book.new.table_id ≡ book.old.table_id) × (book.new.me ≡ (views.leaving (name Desk desk.now.value.me.0.name.number) book.old.me.0, book.old.me.1)) }
+    ensures seat { (result.table_id ≡ book.old.table_id) × (result.me ≡ (views.left (name Desk desk.now.value.me.0.name.number) 0 book.old.me.0, [])) }
+{
+    let _ = desk;
+    leave::<N>(table, book)
+}
+
+// A desk leaves the book again.
+fn desk_again(table: &Desks, book: &mut Place, desk: &Snapshot<Place>) -> Place
+    requires at { tokens.At (name Book 0) table.now.table_id book.old.table_id book.old.me.0 }
+    requires free { ¬ Among (name Desk desk.now.value.me.0.name.number) book.old.me.0.away }
+    ensures book { (book.new.table_id ≡ book.old.table_id) × (book.new.me ≡ (views.leaving (name Desk desk.now.value.me.0.name.number) book.old.me.0, book.old.me.1)) }
+    ensures seat { (result.table_id ≡ book.old.table_id) × (result.me ≡ (views.left (name Desk desk.now.value.me.0.name.number) 0 book.old.me.0, [])) }
+{
+    leave_as_desk::<Brand>(table, book, desk)
+}
+
+/// A desk comes back to the book and leaves it again. Afterwards it has seen the whole history.
+pub(crate) fn show(table: &Desks, book: &mut Place, desk: Place) -> Place
+    requires at { tokens.At (name Book 0) table.now.table_id book.old.table_id book.old.me.0 }
+    requires none { book.old.me.0.claimed ≡ 0 }
+    requires same { desk.table_id ≡ table.now.table_id }
+    requires desk { (desk.me.0.name ≡ name Desk desk.me.0.name.number) × (desk.me.0.claimed ≡ 0) × (desk.me.1 ≡ []) }
+    ensures at { tokens.At (name Book 0) table.now.table_id book.new.table_id book.new.me.0 }
+    ensures seen { (book.new.me.0.seen ≡ book.old.me.0.seen) × (book.new.me.0.opened ≡ book.old.me.0.opened) × (book.new.me.1 ≡ book.old.me.1) }
+    ensures claimed { (book.new.me.0.claimed ≡ 0) × (book.new.me.0.pool ≡ book.old.me.0.pool) }
+    ensures same { result.table_id ≡ table.now.table_id }
+    ensures desk { result.me ≡ (views.holding desk.me.0.name book.old.me.0.opened book.new.me.0.seen book.new.me.0.syncs 0 (length book.new.me.0.seen), []) }
+    ensures object { IsPrefix desk.me.0.seen book.old.me.0.seen × Agrees desk.me.0.name desk.me.0.seen book.old.me.0.seen × IsPrefix desk.me.0.syncs book.new.me.0.syncs }
+    ensures listed { Listed desk.me.0.name desk.me.0.syncs book.new.me.0.syncs }
+    ensures syncs { IsPrefix book.old.me.0.syncs book.new.me.0.syncs × IsRising book.new.me.0.syncs }
+{
+    let old = Snapshot::of(&desk);
+    fold(table, book, desk);
+    learn(table, book);
+    desk_again(table, book, &old)
 }
 
 /// A seat other than the book's is told of a note, and takes it in.

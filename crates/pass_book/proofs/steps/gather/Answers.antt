@@ -2,7 +2,9 @@ use Rattle.std.proofs.Common.{◌≡◌, length, sym, ap, ◌∙◌, subst}
 use Rattle.pass_plain.specs.Legal.{IsLegal}
 use Rattle.pass_book.specs.declared.view.View.{View}
 use Rattle.pass_book.specs.Syncs.{Backs}
-use Rattle.pass_book.specs.Views.{session_in, folding, all_folded}
+use Rattle.pass_book.specs.Views.{session_in, folding, all_folded, all_listed}
+use Rattle.pass_book.specs.Names.{name, Listed}
+use Rattle.pass_book.specs.declared.view.Role.TheVariants.{Desk}
 use Rattle.pass_book.proofs.Adding.{may_write, kept_write}
 use Rattle.pass_book.proofs.steps.gather.Goals as goal
 
@@ -35,3 +37,9 @@ returns-clause-kept c =
     let parts : all_folded b.seen (whole c).syncs (whole c).folded = subst (λ (v : View). all_folded v.seen v.syncs v.folded) (came c) c.learn.ensures.folded in
     subst (λ (v : View). Backs (session_in b.opened) b.seen (length b.seen) v.syncs c.args.entry.now) (sym (ap (λ m. m.0) c.learn.ensures.same.1 ∙ came c))
     (kept_write (session_in b.opened) b.seen (whole c).syncs c.args.line.me.0 c.args.entry.now parts.0 c.requires.line.0 c.requires.kept)
+
+pub returns-clause-listed : goal.returns-clause-listed
+unfolding whole
+returns-clause-listed c =
+    let desks : all_listed (whole c).syncs (whole c).away (whole c).folded = subst (λ (v : View). all_listed v.syncs v.away v.folded) (came c) c.learn.ensures.desks in
+    subst (λ (v : View). Listed (name Desk c.args.entry.now.what) c.args.desk.me.0.syncs v.syncs) (sym (ap (λ m. m.0) c.learn.ensures.same.1 ∙ came c)) (desks.1.1.0 c.args.entry.now.what c.requires.desk.0).1

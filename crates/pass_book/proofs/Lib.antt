@@ -16,4 +16,6 @@ pub mod Parting
 pub mod Recording
 pub mod Meetings
 pub mod Opened
+pub mod Living
+pub mod Numbered
 pub mod Desks

@@ -67,6 +67,10 @@ touches a e = (a.strand == 0) && touches_as a.role a.number e
 abbrev pub Agrees : Name → List Entry → List Entry → Type 0
 Agrees a seen history = filter (touches a) seen ≡ filter (touches a) history
 
+-- no entry of these ends the process
+abbrev pub NoneEnds : ℕ → List Entry → Type 0
+NoneEnds n seen = filter (touches (name Last n)) seen ≡ []
+
 -- whether the sync is one that the holder of this name has to have seen: the vault all of them, a file's desk those of the file
 abbrev pub concerns_as : Role → ℕ → VaultSync → Bool
 concerns_as Book n s = false

@@ -13,5 +13,5 @@ returns-in-Some-clause-home c ends =
     let away = c.args.book.now.me.0.away in
     let fact = subst (λ o. MatchOption o (¬ (c.args.entry.now.act ≡ act.Finish)) (λ l. (l.book.table ≡ c.args.table.now.table_id) × (l.what ≡ c.args.entry.now.what))) c.in-Some.is c.requires.last in
     let what = ap (λ (s : LastState). s.what) c.last.view_is ∙ fact.1 in
-    let named = ap (λ m. m.0.name) c.seated.ensures.1 ∙ ap (λ (s : Sighted). s.name) c.sight.view_is ∙ c.last.invariant ∙ ap (name role.Last) what in
+    let named = ap (λ m. m.0.name) c.seated.ensures.1 ∙ ap (λ (s : Sighted). s.name) c.sight.view_is ∙ c.last.invariant.0 ∙ ap (name role.Last) what in
     subst (λ (ns : List Name). ¬ Among l ns) (sym (ap (λ m. m.0.away) c.fold.ensures.1 ∙ ap (λ (n : Name). without n away) named)) (gone l away)

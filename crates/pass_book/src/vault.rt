@@ -22,6 +22,10 @@ use std::snapshot::Snapshot;
 use std::sync::Arc;
 
 /// The seat of the vault: what it has seen of the history, and the list of syncs, which it alone adds to.
+///
+/// No disk is known here. The list says what the holder of the seat has told, in numbers that never fall and reach no further
+/// than what it has seen; that they are true of a disk is promised by whoever took the seat, and by nobody else, since a book has
+/// one seat and it can't be copied.
 #[derive(Drop)]
 pub struct VaultSeat {
     seat: Place,
@@ -82,7 +86,7 @@ impl VaultSeat {
         self.len = greater(self.len, len);
     }
 
-    /// So many entries are durable, since a flush at this number of the disk's calls. It takes no memory.
+    /// The holder tells that so many entries are durable, since a flush at this number of the disk's calls. It takes no memory.
     pub fn flushed(&mut self, calls: u64, entries: u64)
         requires calls { called self.old.syncs ≤ calls }
         requires entries { (durable self.old.syncs ≤ entries) × (entries ≤ length self.old.seen) }
@@ -108,8 +112,8 @@ impl VaultSeat {
         self.len = desk.sight.len;
     }
 
-    /// The same, and then the data of the desk's file is durable, for so many entries, since a sync at this number of the
-    /// disk's calls. It takes no memory.
+    /// The same, and then the holder tells that the data of the desk's file is durable, for so many entries, since a sync at
+    /// this number of the disk's calls. It takes no memory.
     pub fn synced_file(&mut self, desk: &mut Desk, number: u32, calls: u64, entries: u64)
         requires one { desk.old.book ≡ self.old.book }
         requires number { IsFileNumber self.old.book.session desk.old.seen desk.old.what number }

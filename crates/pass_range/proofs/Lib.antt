@@ -15,3 +15,5 @@ pub mod Rowed
 pub mod Zeros
 pub mod Proved
 pub mod RowFiles
+pub mod Older
+pub mod Dirtying

@@ -1,5 +1,5 @@
 -- The laws, each as it is stated.
-use Rattle.std.proofs.Common.{◌≡◌, ◌∙◌, ◌==◌, ℕ, List, [], ◌∷◌, ◌++◌, length, map, sym, ap, subst, arith, append_assoc, inl, inr, ⊎_elim}
+use Rattle.std.proofs.Common.{◌≡◌, ◌∙◌, ◌==◌, ℕ, List, [], ◌∷◌, ◌++◌, length, map, take, sym, ap, subst, arith, append_assoc, inl, inr, ⊎_elim}
 use Rattle.std.specs.Prelude.{None, is_some, find}
 use Rattle.std.specs.Option.{option_map_or}
 use Rattle.std.specs.List.{list_any}
@@ -16,9 +16,10 @@ use Rattle.pass_plain.proofs.Lists.{some_is}
 use Rattle.pass_plain.proofs.Replays.{append-nil}
 use Rattle.pass_range.specs.Places.{place, found_there}
 use Rattle.pass_range.specs.Rows.{range, row_of, files_of, number_of}
-use Rattle.pass_range.specs.Lawful.{list_of, Tells, FirstTellsLaw, IsSet, RowLaw, StepLaw, EarlierLaw, QuietLaw, HasRowLaw, BeforeLaw, SizeLaw, FilesLaw, NumberLaw, NumbersLaw, WellLoggedRowLaw, PlacesLaw, WriteLaw, HeldLaw, MatchedLaw, ZeroLaw, OpenedLaw}
+use Rattle.pass_range.specs.Lawful.{list_of, Tells, FirstTellsLaw, IsSet, RowLaw, StepLaw, EarlierLaw, QuietLaw, OlderLaw, HasRowLaw, BeforeLaw, SizeLaw, FilesLaw, NumberLaw, NumbersLaw, WellLoggedRowLaw, PlacesLaw, WriteLaw, StandsLaw, HeldLaw, MatchedLaw, ZeroLaw, OpenedLaw}
 use Rattle.pass_range.proofs.Apart.{held_found, places_apart, holds_written, torn_apart, held_matched, length-range}
 use Rattle.pass_range.proofs.Changing.{source-step}
+use Rattle.pass_range.proofs.Older.{older_law, stands_found}
 use Rattle.pass_range.proofs.Following.{row_law, earlier_law, quiet_law}
 use Rattle.pass_range.proofs.Filed.{size_law}
 use Rattle.pass_range.proofs.Numbered.{files_law, number_law}
@@ -61,6 +62,11 @@ earlier_proved = λ session history p b k is q low high. earlier_law session p b
 
 pub quiet_proved : QuietLaw
 quiet_proved = λ session history q high same p b. quiet_law session p b history q high same
+
+pub older_proved : OlderLaw
+older_proved = λ before ceiling session history p b digest row none q.
+    let was = older_law (with_ceiling before ceiling) session p b digest history (ap (λ (l : List Record). row_of l p b) (list-of before ceiling session history) ∙ row) none q in
+    (ap (λ (l : List Record). row_of l p b) (sym (list-of before ceiling session (take q history))) ∙ was.0, was.1)
 
 pub has_row_proved : HasRowLaw
 has_row_proved = λ before ceiling session sound tells history legal p b.
@@ -106,6 +112,9 @@ places_proved = places_apart
 
 pub write_proved : WriteLaw
 write_proved = λ old at bytes. (holds_written old at bytes, λ new torn other kept apart holds. torn_apart at (length bytes) old new torn other kept apart holds)
+
+pub stands_proved : StandsLaw
+stands_proved = λ at len old new holds few within. stands_found at len old new holds few within
 
 pub held_proved : HeldLaw
 held_proved = held_matched

@@ -16,7 +16,7 @@ use Rattle.pass_plain.specs.Registries.{same_kind, registry_after}
 use Rattle.pass_plain.specs.Legal.{IsLegal}
 use Rattle.pass_plain.specs.Sound.{IsSound}
 use Rattle.pass_plain.specs.WellLogged.{size_of, IsWellLogged}
-use Rattle.pass_range.specs.Places.{place, found_there, Holds, IsApart}
+use Rattle.pass_range.specs.Places.{place, found_there, stands_there, Holds, IsApart}
 use Rattle.pass_range.specs.Rows.{range, row_of, files_of, number_of, IsUnmatched}
 use Rattle.pass_range.specs.Sources.{touch, source_after, row_source}
 
@@ -59,6 +59,12 @@ abbrev pub EarlierLaw : Type 0
 EarlierLaw = (session : Session) (history : List Entry) (pnode block at : ℕ) → row_source session history pnode block ≡ Some at → (q : ℕ) → at < q → q ≤ length history
     → (row_source session (take q history) pnode block ≡ Some at)
     × (range block (file_after session history pnode) ≡ range block (file_after session (take q history) pnode))
+
+-- a row from before that is there after a history was there after each front of it
+abbrev pub OlderLaw : Type 0
+OlderLaw = (before : List Record) (ceiling : ℕ) (session : Session) (history : List Entry) (pnode block : ℕ) (digest : List ℕ)
+    → row_of (list_of before ceiling session history) pnode block ≡ Some digest → row_source session history pnode block ≡ None → (q : ℕ)
+    → (row_of (list_of before ceiling session (take q history)) pnode block ≡ Some digest) × (row_source session (take q history) pnode block ≡ None)
 
 -- entries without records change no row
 abbrev pub QuietLaw : Type 0
@@ -124,6 +130,10 @@ abbrev pub WriteLaw : Type 0
 WriteLaw = (old : List ℕ) (at : ℕ) (bytes : List ℕ)
     → Holds at bytes (written old at bytes)
     × ((new : List ℕ) → Torn at (length bytes) old new → (other : ℕ) (kept : List ℕ) → IsApart other (length kept) at (length bytes) → Holds other kept old → Holds other kept new)
+
+-- what an area had of a block is found there as long as it stands there, but for what lies past the area's end
+abbrev pub StandsLaw : Type 0
+StandsLaw = (at len : ℕ) (old new : List ℕ) → Holds at (stands_there at old) new → len ≤ block_size → at + len ≤ length old → found_there at len new ≡ found_there at len old
 
 -- a range of which the area has the bytes isn't unmatched
 abbrev pub HeldLaw : Type 0

@@ -1,6 +1,7 @@
 pub mod Places
 pub mod Rows
 pub mod Sources
+pub mod Dirtied
 pub mod Tables
 pub mod Laters
 pub mod Lawful

@@ -10,6 +10,10 @@ place number block = (number * 1024 + block) * block_size
 abbrev pub found_there : ℕ → ℕ → List ℕ → List ℕ
 found_there at len area = take len (drop at area ++ replicate len 0)
 
+-- what an area has there of a block's bytes, as far as it reaches
+abbrev pub stands_there : ℕ → List ℕ → List ℕ
+stands_there at area = take block_size (drop at area)
+
 -- the area has these bytes there
 abbrev pub Holds : ℕ → List ℕ → List ℕ → Type 0
 Holds at bytes area = take (length bytes) (drop at area) ≡ bytes

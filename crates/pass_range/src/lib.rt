@@ -13,5 +13,5 @@ mod tests;
 pub use fault::RangeFault;
 pub use later::Later;
 pub use listing::unmatched;
-pub use range::{Range, digests_of, range_len, read_range, write_range};
+pub use range::{Range, digests_of, range_len, read_matched, read_range, write_range};
 pub use table::{Table, TableFile, later_of};

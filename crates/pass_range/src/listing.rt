@@ -5,15 +5,12 @@ ghost use Rattle.pass_outside.specs.Areas.{Image};
 ghost use Rattle.pass_outside.specs.Moments.{IsAtEnd, Adds};
 ghost use Rattle.pass_range.specs.Tables.{IsTableOf, AreUnmatched, is_matched, unmatched_in};
 
-use crate::{Range, RangeFault, Table, range_len, read_range};
-use md5::{Digest, Md5};
+use crate::{Range, RangeFault, Table, range_len, read_matched};
 use pass_outside::{Disk, Failed};
 use std::alloc::{AllocError, Global};
 
 /// Lists the ranges of the table of which the store area has bytes with another digest than their row's, in ascending
 /// order. Bytes past the area's end are 0.
-///
-/// Called by recovery.
 pub fn unmatched<D: Disk>(
     alloc: Global,
     table: &Table,
@@ -70,6 +67,5 @@ fn is_matched<D: Disk>(
         return Ok(true);
     };
     let into = &mut buffer[..range_len(file.size, range.block)];
-    read_range(disk, file.number, range.block, &mut *into)?;
-    Ok(Md5::digest(&*into) == *digest)
+    read_matched(disk, file.number, range.block, digest, into)
 }

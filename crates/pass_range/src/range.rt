@@ -1,10 +1,10 @@
 //! Blocks of files: their digests, and their bytes on the store area.
-ghost use Rattle.std.specs.Prelude.{◌≡◌, ◌+◌, ◌-◌, ◌*◌, ◌<◌, ◌≤◌, ◌^◌, IsTrue, OnOk, IfOk, map, length};
+ghost use Rattle.std.specs.Prelude.{◌≡◌, ◌⊎◌, IsErr, bytes_eq, ◌+◌, ◌-◌, ◌*◌, ◌<◌, ◌≤◌, ◌^◌, IsTrue, OnOk, IfOk, map, length};
 ghost use Rattle.std.specs.List.{All};
 ghost use Rattle.md5.specs.Md5.{md5};
 ghost use Rattle.pass_outside.specs.Areas.{Image, written, Torn, OnArea};
 ghost use Rattle.pass_outside.specs.declared.disk.Area.TheVariants as areas;
-ghost use Rattle.pass_outside.specs.Moments.{IsAtEnd, IsCall, Follows, Reaches};
+ghost use Rattle.pass_outside.specs.Moments.{IsAtEnd, IsCall, Adds, Follows, Reaches};
 ghost use Rattle.pass_plain.specs.Records.{block_size, range_len};
 ghost use Rattle.pass_range.specs.Places.{place, found_there};
 ghost use Rattle.pass_range.specs.Rows.{range};
@@ -61,8 +61,6 @@ fn place(number: u32, block: u32) -> u64
 }
 
 /// Writes to the range of a block of the file of that number, by one device call.
-///
-/// Called by the vault, which syncs the area behind the last block of a file.
 pub fn write_range<D: Disk>(
     disk: &mut D,
     number: u32,
@@ -97,4 +95,26 @@ pub fn read_range<D: Disk>(
     let count = disk.read(Area::Store, place(number, block), &mut *into)?;
     into[count..].fill(0);
     Ok(())
+}
+
+/// The same, and tells whether these bytes have that digest (RFC 1321).
+pub fn read_matched<D: Disk>(
+    disk: &mut D,
+    number: u32,
+    block: u32,
+    digest: &[u8; 16],
+    into: &mut [u8],
+) -> Result<bool, Failed>
+    ensures bytes { IfOk result (λ _. IsTrue (D.view disk.old).tells → into.new ≡ found_there (place number block) (length into.old) (D.view disk.old).seen.store) }
+    ensures matched { IfOk result (λ matched. matched ≡ bytes_eq (md5 into.new) digest.now) }
+    ensures failed { IsErr result → ((D.view disk.old).faults < (D.view disk.new).faults) ⊎ IsAtEnd (D.view disk.new) }
+    ensures went { OnOk result ((D.view disk.new).faults ≡ (D.view disk.old).faults) }
+    ensures tells { (D.view disk.new).tells ≡ (D.view disk.old).tells }
+    ensures rises { (D.view disk.old).faults ≤ (D.view disk.new).faults }
+    ensures content { (D.view disk.new).seen ≡ (D.view disk.old).seen }
+    ensures crash { (c : Image) → (D.view disk.new).may_leave c → (D.view disk.old).may_leave c }
+    ensures run { Adds (D.view disk.old) (D.view disk.new) (D.view disk.old).may_leave }
+{
+    read_range(disk, number, block, &mut *into)?;
+    Ok(Md5::digest(&*into) == *digest)
 }

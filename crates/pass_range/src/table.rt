@@ -87,7 +87,7 @@ pub fn later_of(alloc: Global, list: &[Record]) -> Result<Later, AllocError>
 impl Table {
     ghost use Rattle.pass_range.specs.Tables.{IsTableOf, file_in};
 
-    /// The table of a list. Called by recovery.
+    /// The table of a list.
     pub fn of(alloc: Global, list: &[Record]) -> Result<Table, AllocError>
         requires { IsWellLogged list.now }
         ensures { IfOk result (IsTableOf list.now) }

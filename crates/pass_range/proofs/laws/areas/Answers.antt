@@ -1,5 +1,5 @@
 use Rattle.pass_range.proofs.laws.areas.Goals as goal
-use Rattle.pass_range.proofs.Proved.{places_proved, write_proved, held_proved, matched_proved}
+use Rattle.pass_range.proofs.Proved.{places_proved, write_proved, held_proved, matched_proved, stands_proved}
 
 pub returns-clause-places : goal.returns-clause-places
 returns-clause-places c = places_proved
@@ -12,3 +12,6 @@ returns-clause-held c = held_proved
 
 pub returns-clause-matched : goal.returns-clause-matched
 returns-clause-matched c = matched_proved
+
+pub returns-clause-stands : goal.returns-clause-stands
+returns-clause-stands c = stands_proved

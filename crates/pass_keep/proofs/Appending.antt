@@ -44,7 +44,7 @@ length_more parts i part low frames frame same is =
     ∙ sym (sum_by_push (λ (p : Vec Record Global). 5 + length (spellings p.items)) (take i parts) (get_or parts i part))
     ∙ ap frames_length (sym (take_more parts i part low))
 
-staged_length : (batch : List ℕ) → length (staged batch) ≡ 5 + length batch
+pub staged_length : (batch : List ℕ) → length (staged batch) ≡ 5 + length batch
 staged_length batch =
     let head = to_be_bytes w32 (length batch) in
     let four : length head ≡ 4 = refl in

@@ -1,6 +1,6 @@
 -- What follows for each image that a crash leaves from what is kept.
 use Rattle.std.proofs.Common.{◌≡◌, ◌⊎◌, ℕ, ◌<◌, ◌≤◌, List, [], ◌∷◌, ◌++◌, length, take, IsTrue, true, Some, inl, inr, ⊎_elim, sym, ◌∙◌, ap, subst, arith, length-append}
-use Rattle.std.specs.Prelude.{slice_get}
+use Rattle.std.specs.Prelude.{slice_get, is_some}
 use Rattle.std.proofs.lemmas.List.{take-append-le}
 use Rattle.pass_entry.specs.declared.entry.Entry.{Entry}
 use Rattle.pass_entry.specs.declared.record.Record.{Record}
@@ -9,14 +9,12 @@ use Rattle.pass_outside.specs.Moments.{Moment}
 use Rattle.pass_plain.proofs.Replays.{le_or_ge}
 use Rattle.pass_log.specs.declared.log.Log.{Log}
 use Rattle.pass_range.specs.Places.{place, Holds}
-use Rattle.pass_range.specs.Rows.{range, number_of, IsUnmatched}
+use Rattle.pass_range.specs.Rows.{range, row_of, number_of, IsUnmatched}
 use Rattle.pass_range.specs.Lawful.{list_of}
 use Rattle.pass_range.specs.Sources.{row_source}
 use Rattle.pass_plain.specs.Files.{file_after}
-use Rattle.pass_keep.specs.declared.block.Block.{Block}
 use Rattle.pass_keep.specs.Kept.{Story, IsStory, list_to, source_to, range_to, HasRecords, AreKept, IsLeft, Noted, bound_of, covered, Every, IsKeptSince, IsKept}
-use Rattle.pass_keep.specs.Dirty.{AreDirty}
-use Rattle.pass_keep.proofs.Stories.{number_later, number_one, source_earlier, source_below, number_known, matched}
+use Rattle.pass_keep.proofs.Stories.{number_known, matched}
 use Rattle.pass_keep.proofs.Keeping.{kept_same, kept_more, bound_le, bound_some, bound_same}
 
 -- whatever number of entries the image is read as
@@ -37,23 +35,6 @@ range_matched s is m durable x kept told c since n within records p b number k r
     let all = left_any s is x.entries (bound_of x) c (kept.each told c since) (bound_le x) n within records in
     let held = all p b number k from numbered (bound_same x number k reached low) in
     (held, matched s is n p b k number from numbered c.store held)
-
--- A block that a sync wrote has its bytes since then and is matched, while its row comes from the same entry.
-pub block_matched : (s : Story) → IsStory s → (m : Moment) (durable : ℕ) (x : Noted) → IsKeptSince s m durable x → IsTrue m.tells
-    → (past : List Noted) (blocks : List Block) → AreDirty s past x.entries x.files blocks → (i : ℕ) (y : Block) → slice_get blocks i ≡ Some y → x.files y.number ≡ true
-    → (c : Image) → m.left_since x.calls c → (n : ℕ) → x.entries ≤ n → n ≤ length s.history → HasRecords (list_to s n) c.log
-    → (p : ℕ) → number_of (list_to s x.entries) p ≡ Some y.number → source_to s n p y.block ≡ source_to s x.entries p y.block
-    → Holds (place y.number y.block) y.bytes.now c.store × (IsUnmatched (list_to s n) c.store p y.block → ⊥)
-block_matched s is m durable x kept told past blocks given i y at reached c since n le within records p numbered same =
-    let d = given.each i y at in
-    let file : d.0.pnode ≡ p = number_one s x.entries p d.0.pnode y.number numbered d.0.numbered in
-    let from : source_to s x.entries p y.block ≡ Some d.0.at = ap (λ (q : ℕ). source_to s x.entries q y.block) (sym file) ∙ d.0.source in
-    let low = source_below s x.entries p y.block d.0.at (omega (arith, le, within)) from in
-    let from_n = same ∙ from in
-    let both = range_matched s is m durable x kept told c since n within records p y.block y.number d.0.at reached (number_later s x.entries n p y.number le numbered) from_n low in
-    let bytes : y.bytes.now ≡ range_to s n p y.block =
-    d.1 ∙ ap (λ (q : ℕ). range_to s x.entries q y.block) file ∙ sym (source_earlier s n x.entries p y.block d.0.at within from_n low le).1 in
-    (subst (λ (l : List ℕ). Holds (place y.number y.block) l c.store) (sym bytes) both.0, both.1)
 
 -- the sync that covers an entry
 module _ (P : Noted → Type 0) (number k : ℕ) where
@@ -124,6 +105,9 @@ module _ (s : Story) (more : List Entry) where
         subst (λ (l : List ℕ). Holds (place number b) l c.store) (sym (range_front left.count p b left.within))
         (left.kept p b number k (sym (source_front left.count p b left.within) ∙ from)
         (ap (λ (l : List Record). number_of l p) (sym (list_front left.count left.within)) ∙ numbered) low);
+    older = λ p b number row none numbered.
+        left.older p b number (ap (λ (l : List Record). is_some (row_of l p b)) (sym (list_front left.count left.within)) ∙ row)
+        (sym (source_front left.count p b left.within) ∙ none) (ap (λ (l : List Record). number_of l p) (sym (list_front left.count left.within)) ∙ numbered);
   }
 
   every_longer : (m : Moment) (durable : ℕ) (xs : List Noted) → Every (IsKeptSince s m durable) xs → Every (IsKeptSince longer m durable) xs
@@ -138,8 +122,9 @@ module _ (s : Story) (more : List Entry) where
     reads = λ told healthy going. subst (λ (l : List Record). HasRecords l m.seen.log) (sym (list_front durable kept.within)) (kept.reads told healthy going);
     present = λ told c since. left_longer durable (covered xs) c (kept.present told c since);
     past = every_longer m durable xs kept.past;
+    rising = kept.rising;
     begun = record {
       earlier = kept.begun.earlier;
-      each = λ told c since. ⊎_elim (λ before. inl before) (λ left. inr (left_longer 0 (λ number. 0) c left)) (kept.begun.each told c since);
+      each = λ told c since. ⊎_elim (λ before. inl (record { records = before.records; store = before.store })) (λ left. inr (left_longer 0 (λ number. 0) c left)) (kept.begun.each told c since);
     };
   }

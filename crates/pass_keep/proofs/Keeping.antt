@@ -1,11 +1,14 @@
 -- What a frame more, or a run of calls that leaves the log alone, leaves of what was kept.
-use Rattle.std.proofs.Common.{◌≡◌, ◌⊎◌, ℕ, ◌+◌, ◌<◌, ◌≤◌, max, if◌then◌else◌, List, [], ◌∷◌, ◌++◌, length, IsTrue, Bool, true, false, Some, Result, Ok, Err, inl, inr, ⊎_elim, refl, sym, ◌∙◌, ap, subst, arith, append_assoc, length-append}
+use Rattle.std.proofs.Common.{◌≡◌, ◌⊎◌, ℕ, zero, suc, ◌+◌, ◌<◌, ◌≤◌, max, if◌then◌else◌, List, [], ◌∷◌, ◌++◌, length, map, IsTrue, Bool, true, false, Some, Result, Ok, Err, inl, inr, ⊎_elim, refl, sym, ◌∙◌, ap, subst, arith, append_assoc, length-append}
 use Rattle.std.proofs.lemmas.Bool.{cases_eq}
-use Rattle.std.proofs.lemmas.List.{append-nil, nil_from_length}
+use Rattle.std.specs.Prelude.{slice_get}
+use Rattle.std.proofs.lemmas.List.{append-nil, nil_from_length, map-append}
+use Rattle.pass_entry.specs.declared.entry.Synced.{Synced}
 use Rattle.pass_entry.specs.declared.record.Record.{Record}
 use Rattle.pass_entry.specs.declared.record.Record.TheVariants as log
 use Rattle.pass_outside.specs.Areas.{Image}
 use Rattle.pass_outside.specs.Moments.{Moment, IsAtEnd, Adds, AfterStep, Follows}
+use Rattle.pass_plain.proofs.Appends.{place_of}
 use Rattle.pass_plain.proofs.Lists.{some_is}
 use Rattle.pass_plain.proofs.Replays.{le_or_ge}
 use Rattle.pass_log.specs.declared.fault.LogFault.{LogFault}
@@ -14,7 +17,8 @@ use Rattle.pass_log.specs.Records.{Held, image_of, with_batch, IsOldOrBoth, spel
 use Rattle.pass_log.specs.Log.{IsSettled, SameStore}
 use Rattle.pass_range.specs.Places.{place, Holds}
 use Rattle.pass_range.specs.Rows.{number_of}
-use Rattle.pass_keep.specs.Kept.{Story, IsStory, records_to, list_to, source_to, HasRecords, AreKept, IsLeft, IsBegun, Noted, bound_of, covered, Every, IsKeptSince, IsKept}
+use Rattle.pass_keep.specs.Kept.{Story, IsStory, records_to, list_to, source_to, HasRecords, AreKept, IsLeft, IsBegun, Noted, bound_of, covered, Every, IsKeptSince, IsKept, AreOlder, AreRising, synced_of}
+use Rattle.pass_keep.proofs.Older.{older_same, older_more}
 use Rattle.pass_keep.proofs.Stories.{records_more, number_later, source_earlier, source_same, list_same, number_known, source_below}
 
 pub at_end_or : (m : Moment) → IsAtEnd m ⊎ (IsAtEnd m → ⊥)
@@ -55,6 +59,29 @@ pub every_push : (P : Noted → Type 0) (xs : List Noted) (x : Noted) → Every 
 every_push P [] x h p = (p, tt)
 every_push P (y ∷ xs) x h p = (h.0, every_push P xs x h.1 p)
 
+pub every_each : (P Q : Noted → Type 0) → ((x : Noted) → P x → Q x) → (xs : List Noted) → Every P xs → Every Q xs
+every_each P Q more [] h = tt
+every_each P Q more (x ∷ xs) h = (more x h.0, every_each P Q more xs h.1)
+
+-- Syncs as they are handed out
+
+pub mapped_all : (P : Synced → Type 0) (xs : List Noted) → Every (λ x. P (synced_of x)) xs → (i : ℕ) (y : Synced) → slice_get (map synced_of xs) i ≡ Some y → P y
+mapped_all P [] h i y is = absurd (cc)
+mapped_all P (x ∷ xs) h zero y is = subst P (some_is (synced_of x) y is) h.0
+mapped_all P (x ∷ xs) h (suc i) y is = mapped_all P xs h.1 i y is
+
+rising_push : (xs : List Synced) (x : Synced) → AreRising xs → ((i : ℕ) (y : Synced) → slice_get xs i ≡ Some y → (y.calls ≤ x.calls) × (y.entries ≤ x.entries)) → AreRising (xs ++ x ∷ [])
+rising_push xs x rising low = λ i j a b less one two. ⊎_elim
+    (λ (second : (slice_get xs j ≡ Some b) × (j < length xs)). ⊎_elim
+    (λ (first : (slice_get xs i ≡ Some a) × (i < length xs)). rising i j a b less first.0 second.0)
+    (λ (first : (i ≡ length xs) × (x ≡ a)). absurd (omega (arith, first.0, second.1, less)))
+    (place_of xs x i a one))
+    (λ (second : (j ≡ length xs) × (x ≡ b)). ⊎_elim
+    (λ (first : (slice_get xs i ≡ Some a) × (i < length xs)). subst (λ (z : Synced). (a.calls ≤ z.calls) × (a.entries ≤ z.entries)) second.1 (low i a first.0))
+    (λ (first : (i ≡ length xs) × (x ≡ a)). absurd (omega (arith, first.0, second.0, less)))
+    (place_of xs x i a one))
+    (place_of xs x j b two)
+
 pub left_weaker : (s : Story) (a b : ℕ) (f g : ℕ → ℕ) (c : Image) → b ≤ a → ((number : ℕ) → g number ≤ f number) → IsLeft s a f c → IsLeft s b g c
 left_weaker s a b f g c le low left = record {
   count = left.count;
@@ -62,6 +89,14 @@ left_weaker s a b f g c le low left = record {
   within = left.within;
   records = left.records;
   kept = λ p block number k from numbered below. left.kept p block number k from numbered (omega (arith, below, low number));
+  older = left.older;
+}
+
+-- what a run adds has both properties
+pub adds_and : (P Q : Image → Type 0) (old new : Moment) → Adds old new P → Adds old new Q → Adds old new (λ c. P c × Q c)
+adds_and P Q old new one two = record {
+  later = one.later;
+  nothing_else = λ t c le since. ⊎_elim inl (λ a. ⊎_elim inl (λ b. inr (a, b)) (two.nothing_else t c le since)) (one.nothing_else t c le since);
 }
 
 -- A run of calls: each image that it adds has what was kept.
@@ -109,6 +144,8 @@ noted_more s m log durable xs files kept present =
       reads = kept.reads;
       present = present;
       begun = kept.begun;
+      rising = subst AreRising (sym (map-append synced_of xs (x ∷ []))) (rising_push (map synced_of xs) (synced_of x) kept.rising
+          (mapped_all (λ y. (y.calls ≤ m.calls) × (y.entries ≤ durable)) xs (every_each (IsKeptSince s m durable) (λ y. (y.calls ≤ m.calls) × (y.entries ≤ durable)) (λ y h. (h.earlier, h.fewer)) xs kept.past)));
       past = every_push (IsKeptSince s m durable) xs x kept.past (record {
         earlier = omega arith;
         fewer = omega arith;
@@ -188,6 +225,14 @@ module _ (s : Story) (is : IsStory s) (m : Moment) (log : Log) (durable : ℕ) (
         let only : image_of d.log ≡ image_of m.seen.log = ap image_of ((kept.settled.stands told healthy going).only d may) in
         kept_same s left.count durable d.log left.records (records_same (list_to s durable) m.seen.log d.log only reads) left.enough left.within (covered xs) d.store left.kept
 
+    olders : (d : Image) → m.may_leave d → AreOlder s durable d.store
+    olders d may =
+        let left = kept.present told d (counts d may) in
+        let only : image_of d.log ≡ image_of m.seen.log = ap image_of ((kept.settled.stands told healthy going).only d may) in
+        let lists : list_to s left.count ≡ list_to s durable =
+        one_list (list_to s left.count) (list_to s durable) d.log left.records (records_same (list_to s durable) m.seen.log d.log only reads) in
+        older_same s left.count durable lists left.enough left.within d.store left.older
+
     before_left : (c : Image) → AfterStep SameStore m c → image_of c.log ≡ image_of m.seen.log → IsLeft s durable (covered xs) c
     before_left c from same = record {
       count = durable;
@@ -195,6 +240,7 @@ module _ (s : Story) (is : IsStory s) (m : Moment) (log : Log) (durable : ℕ) (
       within = kept.within;
       records = records_same (list_to s durable) m.seen.log c.log same reads;
       kept = subst (AreKept s durable (covered xs)) (sym from.2) (stores from.0 from.1);
+      older = subst (AreOlder s durable) (sym from.2) (olders from.0 from.1);
     }
 
     after_left : (c : Image) → AfterStep SameStore m c → image_of c.log ≡ with_batch batch (image_of m.seen.log) → IsLeft s upto (covered xs) c
@@ -204,6 +250,7 @@ module _ (s : Story) (is : IsStory s) (m : Moment) (log : Log) (durable : ℕ) (
       within = within;
       records = records_after s durable upto batch m.seen.log c.log records same reads;
       kept = kept_more s is upto durable later within (covered xs) bounded c.store (subst (AreKept s durable (covered xs)) (sym from.2) (stores from.0 from.1));
+      older = older_more s is upto durable later c.store (subst (AreOlder s durable) (sym from.2) (olders from.0 from.1));
     }
 
     either_left : (c : Image) → IsOldOrBoth batch (image_of m.seen.log) (image_of c.log) × AfterStep SameStore m c → IsLeft s durable (covered xs) c
@@ -218,17 +265,13 @@ module _ (s : Story) (is : IsStory s) (m : Moment) (log : Log) (durable : ℕ) (
     Made c = IsOldOrBoth batch (image_of m.seen.log) (image_of c.log) × AfterStep SameStore m c
 
     both : IsTrue m.tells → Adds m new Made
-    both told = record {
-      later = store.later;
-      nothing_else = λ t c le since. ⊎_elim inl
-          (λ a. ⊎_elim inl (λ b. inr (a, b)) (store.nothing_else t c le since))
-          ((any told).nothing_else t c le since);
-    }
+    both told = adds_and (λ c. IsOldOrBoth batch (image_of m.seen.log) (image_of c.log)) (AfterStep SameStore m) m new (any told) store
 
     pub frame_failed : IsSettled log new → ((m.faults < new.faults) ⊎ IsAtEnd new) → IsKept s new log durable xs
     frame_failed settled bad = record {
       settled = settled;
       within = kept.within;
+      rising = kept.rising;
       begun = begun_on s m new Made tells both store.later durable (covered xs) (λ told c x. either_left told healthy going c x) kept.begun;
       reads = λ told same not_end. ⊎_elim (λ rose. absurd (omega (arith, rose, same, healthy))) (λ ended. absurd (not_end ended)) bad;
       present = present_on s m new Made tells both store.later durable (covered xs) (λ told c x. either_left told healthy going c x) less kept.present;
@@ -241,6 +284,7 @@ module _ (s : Story) (is : IsStory s) (m : Moment) (log : Log) (durable : ℕ) (
     frame_done log_new settled_new reads_new acknowledged follows present = record {
       settled = settled_new;
       within = within;
+      rising = kept.rising;
       begun = begun_on s m new Made tells both store.later durable (covered xs) (λ told c x. either_left told healthy going c x) kept.begun;
       reads = λ told same not_end. let told_old : IsTrue m.tells = sym tells ∙ told in
           records_after s durable upto batch m.seen.log new.seen.log records (reads_new told_old) (reads told_old healthy going);
@@ -256,6 +300,7 @@ more_without_records s is m log durable xs kept upto later within records =
     record {
       settled = kept.settled;
       within = within;
+      rising = kept.rising;
       begun = kept.begun;
       reads = λ told same going. subst (λ (l : List Record). HasRecords l m.seen.log) (sym (list_same s durable upto records)) (kept.reads told same going);
       present = λ told c since. longer c (kept.present told c since);
@@ -264,7 +309,7 @@ more_without_records s is m log durable xs kept upto later within records =
   where
     longer : (c : Image) → IsLeft s durable (covered xs) c → IsLeft s upto (covered xs) c
     longer c left = ⊎_elim
-        (λ (le : upto ≤ left.count). record { count = left.count; enough = le; within = left.within; records = left.records; kept = left.kept })
+        (λ (le : upto ≤ left.count). record { count = left.count; enough = le; within = left.within; records = left.records; kept = left.kept; older = left.older })
         (λ (le : left.count ≤ upto).
         let one = records_more s left.count upto le in
         let two = records_more s durable left.count left.enough in
@@ -276,6 +321,7 @@ more_without_records s is m log durable xs kept upto later within records =
           within = within;
           records = subst (λ (l : List Record). HasRecords l c.log) (sym (list_same s left.count upto same)) left.records;
           kept = kept_more s is upto left.count le within (covered xs) (λ number. omega (arith, covered_le s m durable xs number kept.past, left.enough)) c.store left.kept;
+          older = older_more s is upto left.count le c.store left.older;
         })
         (le_or_ge upto left.count)
 
@@ -293,5 +339,6 @@ kept_fewer s old new log durable mid xs was le bad kept = record {
   reads = λ told same going. absurd (bad same going);
   present = λ told c since. left_weaker s mid durable (covered xs) (covered xs) c le (λ number. omega arith) (kept.present told c since);
   past = fewer_entries s old new durable mid xs was kept.past;
+  rising = kept.rising;
   begun = kept.begun;
 }

@@ -1,4 +1,5 @@
 pub mod Stories
+pub mod Older
 pub mod Keeping
 pub mod Writing
 pub mod Appending
@@ -6,5 +7,3 @@ pub mod Holding
 pub mod Imaging
 pub mod Starting
 pub mod Shown
-pub mod Fresh
-pub mod Example

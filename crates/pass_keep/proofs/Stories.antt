@@ -36,7 +36,7 @@ module _ (s : Story) where
   length_to : (n : ℕ) → n ≤ length s.history → length (take n s.history) ≡ n
   length_to n within = omega (arith, within, length-take n s.history)
 
-  shorter : (q n : ℕ) → q ≤ n → take q (take n s.history) ≡ take q s.history
+  pub shorter : (q n : ℕ) → q ≤ n → take q (take n s.history) ≡ take q s.history
   shorter q n le = take-take_le q n s.history le
 
   pub records_more : (q n : ℕ) → q ≤ n → (more : List Record) × (records_to s n ≡ records_to s q ++ more)

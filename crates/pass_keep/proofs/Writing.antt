@@ -1,6 +1,6 @@
 -- Blocks are written: what that leaves of what was kept.
 use Rattle.std.proofs.Common.{◌≡◌, ◌⊎◌, ℕ, zero, suc, ◌+◌, ◌*◌, ◌<◌, ◌≤◌, List, [], ◌∷◌, ◌++◌, length, take, drop, IsTrue, IsOk, IsErr, Bool, true, Some, Result, Ok, Err, inl, inr, ⊎_elim, refl, sym, ◌∙◌, ap, subst, arith, length-take, get_or}
-use Rattle.std.specs.Prelude.{slice_get}
+use Rattle.std.specs.Prelude.{slice_get, None, is_some}
 use Rattle.pass_outside.specs.declared.disk.Area.TheVariants as areas
 use Rattle.pass_outside.specs.Areas.{Image, OnArea, Torn, written}
 use Rattle.pass_outside.specs.Moments.{Moment, IsAtEnd, IsCall, IsRun, Adds, AfterStep, Follows}
@@ -9,12 +9,14 @@ use Rattle.pass_plain.specs.Files.{file_after}
 use Rattle.pass_plain.proofs.Lists.{some_is}
 use Rattle.pass_log.specs.declared.log.Log.{Log}
 use Rattle.pass_log.specs.Elsewhere.{settled_beside}
-use Rattle.pass_range.specs.Places.{place, Holds, IsApart}
-use Rattle.pass_range.specs.Rows.{number_of}
+use Rattle.pass_range.specs.Places.{place, stands_there, Holds, IsApart}
+use Rattle.pass_range.specs.Rows.{row_of, number_of}
+use Rattle.pass_range.proofs.Dirtying.{source_law}
 use Rattle.pass_range.proofs.Apart.{torn_apart, holds_written, places_apart}
 use Rattle.pass_keep.specs.declared.block.Block.{Block}
 use Rattle.pass_keep.specs.Kept.{Story, IsStory, list_to, source_to, range_to, HasRecords, IsLeft, Noted, covered, IsKept}
 use Rattle.pass_keep.specs.Dirty.{IsDirty, AreDirty, IsAscending, AreSized, IsApartFrom, AreHeld, Beside, IsWriting}
+use Rattle.pass_keep.proofs.Older.{older_limited, older_at}
 use Rattle.pass_keep.proofs.Stories.{number_later, number_one, source_earlier, number_known, row_set}
 use Rattle.pass_keep.proofs.Keeping.{covered_le, covered-push, bound_some, every_on, present_on, begun_on}
 
@@ -109,6 +111,10 @@ module _ (xs : List Block) (old mid new : Moment) (i : ℕ) (x : Block) (is : sl
 
 -- Dirty blocks
 
+-- the row of a dirty block comes from the entry that made it so
+pub dirty_source : (s : Story) (xs : List Noted) (n number block : ℕ) (d : IsDirty s xs n number block) → source_to s n d.pnode block ≡ Some d.at
+dirty_source s xs n number block d = source_law s.session (take n s.history) d.pnode block d.limited ∙ d.dirtied
+
 module _ (s : Story) (is : IsStory s) (xs : List Noted) (durable : ℕ) (files : ℕ → Bool) (blocks : List Block) (within : durable ≤ length s.history)
     (bounded : (number : ℕ) → covered xs number ≤ durable) (given : AreDirty s xs durable files blocks) where
   short : (n p b : ℕ) → length (range_to s n p b) ≤ 4096
@@ -116,7 +122,7 @@ module _ (s : Story) (is : IsStory s) (xs : List Noted) (durable : ℕ) (files :
 
   pub sized : AreSized blocks
   sized = λ i x at. let d = given.each i x at in
-      ((row_set s durable d.0.pnode x.block d.0.at d.0.source).limited, omega (arith, ap length d.1, short durable d.0.pnode x.block))
+      (d.0.limited, omega (arith, ap length d.1, short durable d.0.pnode x.block))
 
   -- what is kept lies apart from them
   apart_from : (n p b number k : ℕ) → durable ≤ n → n ≤ length s.history → source_to s n p b ≡ Some k → number_of (list_to s n) p ≡ Some number → k < covered xs number
@@ -130,10 +136,28 @@ module _ (s : Story) (is : IsStory s) (xs : List Noted) (durable : ℕ) (files :
       let durable_from = (source_earlier s n durable p b k le_all from (omega (arith, low, bounded number)) le).0 in
       let there : source_to s durable d.0.pnode x.block ≡ Some k =
       ap (λ (q : ℕ). source_to s durable q x.block) (sym file) ∙ ap (source_to s durable p) (sym same_block) ∙ durable_from in
-      let at_is : d.0.at ≡ k = some_is d.0.at k (sym d.0.source ∙ there) in
+      let at_is : d.0.at ≡ k = some_is d.0.at k (sym (dirty_source s xs durable x.number x.block d.0) ∙ there) in
       let low_there : k < covered xs x.number = subst (λ (i : ℕ). k < covered xs i) same_file low in
       omega (arith, d.0.uncovered, at_is, low_there))
       few size.1
+
+  -- and so does what stood there before the session
+  older_apart : (n p b number : ℕ) → durable ≤ n → n ≤ length s.history → is_some (row_of (list_to s n) p b) ≡ true → source_to s n p b ≡ None → number_of (list_to s n) p ≡ Some number
+      → (len : ℕ) → len ≤ 4096 → IsApartFrom blocks (place number b) len
+  older_apart n p b number le le_all row none numbered len few = λ i x at.
+      let d = given.each i x at in
+      let size = sized i x at in
+      places_apart number b x.number x.block len (length x.bytes.now) (older_limited s is n p b row) size.0
+      (λ same_file same_block.
+      let file : p ≡ d.0.pnode = number_one s n d.0.pnode p x.number (number_later s durable n d.0.pnode x.number le d.0.numbered) (numbered ∙ ap (λ (i : ℕ). Some i) same_file) in
+      let quiet : source_to s durable p b ≡ None = (older_at s is n durable p b le row none).1 in
+      let there : source_to s durable d.0.pnode x.block ≡ None =
+      ap (λ (q : ℕ). source_to s durable q x.block) (sym file) ∙ ap (source_to s durable p) (sym same_block) ∙ quiet in
+      no_source d.0.at (sym there ∙ dirty_source s xs durable x.number x.block d.0))
+      few size.1
+    where
+      no_source : (k : ℕ) → None ≡ Some k → ⊥
+      no_source k e = absurd (cc)
 
   -- it stays beside them
   pub beside_left : (d c : Image) → Beside blocks d c → IsLeft s durable (covered xs) d → IsLeft s durable (covered xs) c
@@ -146,6 +170,11 @@ module _ (s : Story) (is : IsStory s) (xs : List Noted) (durable : ℕ) (files :
         beside.stays (place number b) (range_to s left.count p b)
         (apart_from left.count p b number k left.enough left.within from numbered low (length (range_to s left.count p b)) (short left.count p b))
         (left.kept p b number k from numbered low);
+    older = λ p b number row none numbered.
+        beside.stays (place number b) (stands_there (place number b) s.store)
+        (older_apart left.count p b number left.enough left.within row none numbered (length (stands_there (place number b) s.store))
+        (omega (arith, length-take 4096 (drop (place number b) s.store))))
+        (left.older p b number row none numbered);
   }
 
   -- a range that no sync covered is one of these blocks
@@ -156,7 +185,9 @@ module _ (s : Story) (is : IsStory s) (xs : List Noted) (durable : ℕ) (files :
       let known = number_known s is durable p b k both.0 in
       let same : known.0 ≡ number = some_is known.0 number (sym (number_later s durable n p known.0 le known.1) ∙ numbered) in
       let numbered_there : number_of (list_to s durable) p ≡ Some number = known.1 ∙ ap (λ (i : ℕ). Some i) same in
-      let dirty : IsDirty s xs durable number b = record { pnode = p; numbered = numbered_there; at = k; source = both.0; uncovered = uncovered } in
+      let limited : b < 1024 = (row_set s durable p b k both.0).limited in
+      let dirtied = sym (source_law s.session (take durable s.history) p b limited) ∙ both.0 in
+      let dirty : IsDirty s xs durable number b = record { pnode = p; numbered = numbered_there; limited = limited; at = k; dirtied = dirtied; uncovered = uncovered } in
       let among = given.all number b reached dirty in
       let d = given.each among.i among.x among.is in
       let file : d.0.pnode ≡ p = number_one s durable p d.0.pnode number numbered_there (d.0.numbered ∙ ap (λ (i : ℕ). Some i) among.of_file) in
@@ -187,6 +218,7 @@ module _ (s : Story) (is : IsStory s) (xs : List Noted) (durable : ℕ) (files :
             let reached = bound_some x number k (omega (arith, low, new, covered-push xs x number)) in
             now_held left.count p b number k left.enough left.within from numbered new reached.0 reached.1 c.store held)
             (lt_or k (covered xs number));
+        older = left.older;
       }
     where
       lt_or : (a b : ℕ) → (a < b) ⊎ (b ≤ a)
@@ -203,6 +235,7 @@ wrote s is m new log durable xs files blocks r kept given counts less run follow
     record {
       settled = settled_beside log m new kept.settled run.rises run.tells same_log (λ c may. let from = follows c may in (from.0, from.1, from.2.log)) stands;
       within = kept.within;
+      rising = kept.rising;
       begun = begun_on s m new (AfterStep (Beside blocks) m) run.tells (λ told. run.adds) run.adds.later durable (covered xs) left kept.begun;
       reads = λ told same going.
           let told_old : IsTrue m.tells = sym run.tells ∙ told in

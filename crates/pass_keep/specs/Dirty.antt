@@ -1,19 +1,21 @@
 -- Blocks that are to be written (this project's own rule).
-use Rattle.std.specs.Prelude.{◌≡◌, ◌⊎◌, ℕ, ◌+◌, ◌<◌, ◌≤◌, Bool, true, List, length, slice_get, Some, IsTrue}
+use Rattle.std.specs.Prelude.{◌≡◌, ◌⊎◌, ℕ, ◌+◌, ◌<◌, ◌≤◌, Bool, true, List, length, take, slice_get, Some, IsTrue}
 use Rattle.pass_outside.specs.Areas.{Image}
 use Rattle.pass_outside.specs.Moments.{Moment, Adds, AfterStep, Follows}
 use Rattle.pass_plain.specs.Records.{block_size}
 use Rattle.pass_range.specs.Places.{place, Holds, IsApart}
+use Rattle.pass_range.specs.Dirtied.{dirtied_at}
 use Rattle.pass_range.specs.Rows.{number_of}
 use Rattle.pass_keep.specs.declared.block.Block.{Block}
-use Rattle.pass_keep.specs.Kept.{Story, Noted, list_to, source_to, range_to, covered}
+use Rattle.pass_keep.specs.Kept.{Story, Noted, list_to, range_to, covered}
 
--- A block of the file of that number is dirty after the first n entries: its row comes from one that no sync covers.
+-- A block of the file of that number is dirty after the first n entries: an act made it so that no sync covers.
 pub record IsDirty (s : Story) (noted : List Noted) (n number block : ℕ) : Type 0 where
   pub pnode : ℕ
   pub numbered : number_of (list_to s n) pnode ≡ Some number
+  pub limited : block < 1024
   pub at : ℕ
-  pub source : source_to s n pnode block ≡ Some at
+  pub dirtied : dirtied_at s.session (take n s.history) pnode block ≡ Some at
   pub uncovered : covered noted number ≤ at
 
 -- a dirty block with the bytes of its range

@@ -1,12 +1,14 @@
 -- A keeper, and what it has kept (this project's own rule).
-use Rattle.std.specs.Prelude.{◌≡◌, ℕ, ◌<◌, ◌≤◌, Bool, false, List, [], ◌∷◌, ◌++◌, length, map, Vec}
+use Rattle.std.specs.Prelude.{◌≡◌, ◌⊎◌, ℕ, ◌+◌, ◌<◌, ◌≤◌, Bool, false, List, [], ◌∷◌, ◌++◌, length, map, Vec}
 use Rattle.std.specs.Vec.{vec_len, vec_capacity}
 use Rattle.std.specs.declared.alloc.Global.{Global}
 use Rattle.pass_entry.specs.declared.entry.Synced.{Synced}
 use Rattle.pass_entry.specs.declared.record.Record.{Record}
-use Rattle.pass_outside.specs.Moments.{Moment}
+use Rattle.pass_outside.specs.Moments.{Moment, IsAtEnd}
 use Rattle.pass_log.specs.declared.log.Log.{Log}
 use Rattle.pass_keep.specs.declared.block.Block.{Block}
+use Rattle.pass_keep.specs.declared.fault.KeepFault.{KeepFault}
+use Rattle.pass_keep.specs.declared.fault.KeepFault.TheVariants.{DiskFault}
 use Rattle.pass_keep.specs.declared.keeper.Keeper.{Keeper}
 use Rattle.pass_keep.specs.Kept.{Story, IsStory, Noted, synced_of, IsKept, AreParts}
 use Rattle.pass_keep.specs.Dirty.{AreDirty}
@@ -47,9 +49,25 @@ pub record IsKeeper {D : Type 0} (view : D → Moment) (past : Past) (k : Keeper
   pub kept : IsKept past.story (view k.disk) k.log k.durable past.noted
   pub syncs : k.syncs.items ≡ map synced_of past.noted
 
--- room for one sync more
-abbrev pub HasSpare : {D : Type 0} → Keeper D → Type 0
-HasSpare k = vec_len k.syncs < vec_capacity k.syncs
+-- room for so many syncs more
+abbrev pub HasSpare : {D : Type 0} → ℕ → Keeper D → Type 0
+HasSpare n k = vec_len k.syncs + n ≤ vec_capacity k.syncs
+
+-- one sync takes room for one
+abbrev pub TakesSpare : {D : Type 0} → Keeper D → Keeper D → Type 0
+TakesSpare old new = (n : ℕ) → HasSpare (n + 1) old → HasSpare n new
+
+-- whatever a call answers, the disk tells what it told, its counts never fall, and one at its end stands there
+abbrev pub GoesOn : Moment → Moment → Type 0
+GoesOn old new = (new.tells ≡ old.tells) × (old.faults ≤ new.faults) × (old.calls ≤ new.calls) × (IsAtEnd old → IsAtEnd new)
+
+-- so many device calls were made, and none failed
+abbrev pub Made : ℕ → Moment → Moment → Type 0
+Made n old new = (new.calls ≡ old.calls + n) × (new.faults ≡ old.faults)
+
+-- a device call failed, and the fault tells the count of faults when the log was opened and the one now
+abbrev pub Failed : ℕ → Moment → Moment → KeepFault → Type 0
+Failed opened old new fault = (fault ≡ DiskFault opened new.faults) × ((old.faults < new.faults) ⊎ IsAtEnd new)
 
 -- whatever it keeps is kept
 abbrev pub KeptStill : {D : Type 0} → (D → Moment) → Keeper D → Keeper D → Type 0

@@ -3,4 +3,3 @@ pub mod Dirty
 pub mod Parts
 pub mod Keepers
 pub mod Longer
-pub mod OneFile

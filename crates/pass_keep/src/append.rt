@@ -51,6 +51,7 @@ pub fn append_frames<D: Disk>(
     ensures tells { (D.view disk.new).tells ≡ (D.view disk.old).tells }
     ensures rises { (D.view disk.old).faults ≤ (D.view disk.new).faults }
     ensures later { (D.view disk.old).calls ≤ (D.view disk.new).calls }
+    ensures stands { IsAtEnd (D.view disk.old) → (disk.new ≡ disk.old) × (log.new ≡ log.old) }
 {
     for frame in frames {
         log.append_frame(disk, frame)?;

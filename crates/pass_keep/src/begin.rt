@@ -6,7 +6,7 @@ ghost use Rattle.pass_outside.specs.Areas.{Image};
 ghost use Rattle.pass_outside.specs.Moments.{IsAtEnd};
 ghost use Rattle.pass_log.specs.Log.{log_end, log_opened};
 ghost use Rattle.pass_log.specs.LogImage.{IsRead};
-ghost use Rattle.pass_keep.specs.Kept.{Story, IsBegun, IsKept};
+ghost use Rattle.pass_keep.specs.Kept.{Story, IsUnwritten, IsBegun, IsKept};
 
 use pass_entry::{Pnode, Record};
 use pass_log::{Log, LogFault, LogImage};
@@ -27,7 +27,7 @@ pub fn begin<D: Disk>(
     requires in_range { IsInRange (Ceiling ceiling) }
     requires image { IsRead (D.view disk.old) image.now }
     requires start { story.start ≤ (D.view disk.old).calls }
-    requires since { IsTrue (D.view disk.old).tells → (c : Image) → (D.view disk.old).left_since story.start c → c.log ≡ (D.view disk.old).seen.log }
+    requires since { IsUnwritten story (D.view disk.old) }
     requires room { image.now.end ≤ 2 ^ 38 }
     ensures kept { IfOk result (λ log. IsKept story (D.view disk.new) log 0 []) }
     ensures begun { IsBegun story (D.view disk.new) }
@@ -38,6 +38,7 @@ pub fn begin<D: Disk>(
     ensures tells { (D.view disk.new).tells ≡ (D.view disk.old).tells }
     ensures rises { (D.view disk.old).faults ≤ (D.view disk.new).faults }
     ensures later { (D.view disk.old).calls ≤ (D.view disk.new).calls }
+    ensures stands { IsAtEnd (D.view disk.old) → disk.new ≡ disk.old }
 {
     let mut log = Log::open(disk, image)?;
     spelling_length();

@@ -8,15 +8,15 @@ impl<D: Disk> Keeper<D> {
     ghost use Rattle.pass_outside.specs.Areas.{Image};
     ghost use Rattle.pass_range.specs.Places.{place, Holds};
     ghost use Rattle.pass_range.specs.Rows.{number_of, IsUnmatched};
-    ghost use Rattle.pass_keep.specs.Kept.{IsStory, Noted, HasRecords, IsLeft, IsBegun, bound_of, covered, list_to, source_to, range_to};
-    ghost use Rattle.pass_keep.specs.Keepers.{disk_of, Past, IsKeeper};
+    ghost use Rattle.pass_keep.specs.Kept.{IsStory, Noted, HasRecords, IsLeft, IsBegun, AreTimed, bound_of, covered, list_to, source_to, range_to};
+    ghost use Rattle.pass_keep.specs.Keepers.{disk_of, syncs_of, Past, IsKeeper};
     ghost use Rattle.pass_keep.specs.Longer.{with_entries, past_with};
 
     /// What follows for each image from what it keeps. It does nothing.
     pub fn images(&self)
         ghost past: { Past }
         requires keeper { IsKeeper D.view past self.now }
-        // Since the session began a crash leaves the records before it, or the session's with some of its entries.
+        // Since the session began a crash leaves what was there before it, or the session's records with some of its entries.
         ensures begun { IsBegun past.story (D.view (disk_of self.now)) }
         // Since each sync it leaves at least the entries that were durable then.
         ensures since { IsTrue (D.view (disk_of self.now)).tells → (i : ℕ) (x : Noted) → slice_get past.noted i ≡ Some x
@@ -33,6 +33,8 @@ impl<D: Disk> Keeper<D> {
             → (c : Image) → (D.view (disk_of self.now)).left_since last.calls c
             → HasRecords (list_to past.story (length past.story.history)) c.log
             × ((pnode block at : ℕ) → source_to past.story (length past.story.history) pnode block ≡ Some at → IsUnmatched (list_to past.story (length past.story.history)) c.store pnode block → ⊥) }
+        // The syncs that it hands out are of their moment.
+        ensures timed { AreTimed (D.view (disk_of self.now)) (length past.story.history) (syncs_of self.now) }
         // It keeps as much of a longer history.
         ensures longer { (more : List Entry) → IsStory (with_entries past.story more) → IsKeeper D.view (past_with past more) self.now }
     {}

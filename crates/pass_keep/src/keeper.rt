@@ -33,10 +33,10 @@ impl<D: Disk> Keeper<D> {
     ghost use Rattle.pass_log.specs.Log.{log_end, log_opened, IsSettled, IsFrameOf};
     ghost use Rattle.pass_log.specs.LogImage.{IsRead};
     ghost use Rattle.pass_log.specs.Records.{spellings};
-    ghost use Rattle.pass_keep.specs.Kept.{Story, IsStory, IsBegun, AreParts};
+    ghost use Rattle.pass_keep.specs.Kept.{Story, IsStory, IsUnwritten, IsBegun, AreParts};
     ghost use Rattle.pass_keep.specs.Dirty.{AreDirty, AreSized, IsAscending};
     ghost use Rattle.pass_keep.specs.Parts.{lists_of, frames_length, bytes_length};
-    ghost use Rattle.pass_keep.specs.Keepers.{disk_of, log_of, durable_of, syncs_of, Past, with_sync, no_file, IsKeeper, HasSpare, KeptStill, KeptFlushed, KeptUnflushed, KeptSynced, KeptUnsynced};
+    ghost use Rattle.pass_keep.specs.Keepers.{disk_of, log_of, durable_of, syncs_of, Past, with_sync, no_file, IsKeeper, HasSpare, TakesSpare, GoesOn, Made, Failed, KeptStill, KeptFlushed, KeptUnflushed, KeptSynced, KeptUnsynced};
 
     /// Begins a session on a disk of which that log image was read, with nothing written since the session's start, and
     /// appends the session's ceiling as one frame. After a fault the disk is handed back.
@@ -52,7 +52,7 @@ impl<D: Disk> Keeper<D> {
         requires in_range { IsInRange (Ceiling ceiling) }
         requires image { IsRead (D.view disk) image.now }
         requires start { story.start ≤ (D.view disk).calls }
-        requires since { IsTrue (D.view disk).tells → (c : Image) → (D.view disk).left_since story.start c → c.log ≡ (D.view disk).seen.log }
+        requires since { IsUnwritten story (D.view disk) }
         requires room { image.now.end ≤ 2 ^ 38 }
         requires story { IsStory story }
 
@@ -61,10 +61,11 @@ impl<D: Disk> Keeper<D> {
         ensures healthy { IfOk result (λ k. (D.view (disk_of k)).faults ≡ (D.view disk).faults) }
         ensures place { IfOk result (λ k. log_end (log_of k) ≡ image.now.end + 14) }
         ensures opened { IfOk result (λ k. log_opened (log_of k) ≡ (D.view (disk_of k)).faults) }
-        ensures tells { IfOk result (λ k. (D.view (disk_of k)).tells ≡ (D.view disk).tells) }
-        // A crash at any moment since the start leaves the records from before, or these and the ceiling.
+        ensures goes_on { IfOk result (λ k. GoesOn (D.view disk) (D.view (disk_of k))) }
+        // A crash at any moment since the start leaves what was there before, or the records from before and the ceiling.
         ensures begun { IfErr result (λ e. IsBegun story (D.view e.1)) }
-        ensures failed { IfErr result (λ e. ((e.0 ≡ KeepFault.DiskFault (D.view disk).faults (D.view e.1).faults) × (((D.view disk).faults < (D.view e.1).faults) ⊎ IsAtEnd (D.view e.1))) ⊎ (e.0 ≡ KeepFault.NoMemory)) }
+        ensures failed { IfErr result (λ e. Failed (D.view disk).faults (D.view disk) (D.view e.1) e.0 ⊎ (e.0 ≡ KeepFault.NoMemory)) }
+        ensures stopped { IfErr result (λ e. GoesOn (D.view disk) (D.view e.1)) }
     {
         let mut disk = disk;
         let opened = disk.faults();
@@ -104,14 +105,14 @@ impl<D: Disk> Keeper<D> {
         (self.disk, self.syncs)
     }
 
-    /// Takes the memory for one sync more, unless the disk had a fault since the log was opened.
-    pub fn ready(&mut self) -> Result<(), KeepFault>
+    /// Takes the memory for so many syncs more, unless the disk had a fault since the log was opened.
+    pub fn ready(&mut self, syncs: usize) -> Result<(), KeepFault>
         ensures kept { KeptStill D.view self.old self.new }
         ensures disk { disk_of self.new ≡ disk_of self.old }
         ensures log { log_of self.new ≡ log_of self.old }
         ensures durable { durable_of self.new ≡ durable_of self.old }
         ensures syncs { syncs_of self.new ≡ syncs_of self.old }
-        ensures ok { OnOk result (HasSpare self.new × ((D.view (disk_of self.old)).faults ≤ log_opened (log_of self.old))) }
+        ensures ok { OnOk result (HasSpare syncs self.new × ((D.view (disk_of self.old)).faults ≤ log_opened (log_of self.old))) }
         // Exactly where the disk had a fault since the log was opened.
         ensures broken { log_opened (log_of self.old) < (D.view (disk_of self.old)).faults
             → (result ≡ Err (KeepFault.Broken (log_opened (log_of self.old)) (D.view (disk_of self.old)).faults)) × (self.new ≡ self.old) }
@@ -122,7 +123,7 @@ impl<D: Disk> Keeper<D> {
         if now > opened {
             return Err(KeepFault::Broken { opened, now });
         }
-        self.syncs.reserve(1)?;
+        self.syncs.reserve(syncs)?;
         Ok(())
     }
 
@@ -138,7 +139,8 @@ impl<D: Disk> Keeper<D> {
 
     // Notes a sync at this moment.
     fn note(&mut self) -> Synced
-        requires { HasSpare self.old }
+        requires { HasSpare 1 self.old }
+        ensures spare { TakesSpare self.old self.new }
         ensures disk { disk_of self.new ≡ disk_of self.old }
         ensures log { log_of self.new ≡ log_of self.old }
         ensures durable { durable_of self.new ≡ durable_of self.old }
@@ -157,7 +159,7 @@ impl<D: Disk> Keeper<D> {
     pub fn append(&mut self, frames: &[Vec<u8>], upto: u64) -> Result<Synced, KeepFault>
         requires settled { IsSettled (log_of self.old) (D.view (disk_of self.old)) }
         requires healthy { (D.view (disk_of self.old)).faults ≤ log_opened (log_of self.old) }
-        requires spare { HasSpare self.old }
+        requires spare { HasSpare 1 self.old }
         requires frames { (i : ℕ) (frame : Vec ℕ AnyGlobal) → slice_get frames.now i ≡ Some frame → (batch : List AnyRecord) × IsFrameOf batch frame.items }
         requires room { log_end (log_of self.old) + bytes_length frames.now < 2 ^ 39 }
         ensures kept { OnOk result (KeptFlushed D.view frames.now upto self.old self.new) }
@@ -165,15 +167,14 @@ impl<D: Disk> Keeper<D> {
         ensures sync { IfOk result (λ s. s ≡ record { calls = (D.view (disk_of self.new)).calls; entries = upto }) }
         ensures durable { OnOk result (durable_of self.new ≡ upto) }
         ensures durable_before { OnErr result (durable_of self.new ≡ durable_of self.old) }
-        ensures failed { IfErr result (λ e. (e ≡ KeepFault.DiskFault (log_opened (log_of self.old)) (D.view (disk_of self.new)).faults)
-            × (((D.view (disk_of self.old)).faults < (D.view (disk_of self.new)).faults) ⊎ IsAtEnd (D.view (disk_of self.new)))) }
-        ensures healthy { OnOk result ((D.view (disk_of self.new)).faults ≡ (D.view (disk_of self.old)).faults) }
-        ensures calls { OnOk result ((D.view (disk_of self.new)).calls ≡ (D.view (disk_of self.old)).calls + 4 * length frames.now) }
+        ensures failed { IfErr result (Failed (log_opened (log_of self.old)) (D.view (disk_of self.old)) (D.view (disk_of self.new))) }
+        ensures made { OnOk result (Made (4 * length frames.now) (D.view (disk_of self.old)) (D.view (disk_of self.new))) }
         ensures opened { log_opened (log_of self.new) ≡ log_opened (log_of self.old) }
         ensures place { log_end (log_of self.new) ≤ log_end (log_of self.old) + bytes_length frames.now }
-        ensures tells { (D.view (disk_of self.new)).tells ≡ (D.view (disk_of self.old)).tells }
-        ensures rises { (D.view (disk_of self.old)).faults ≤ (D.view (disk_of self.new)).faults }
-        ensures later { (D.view (disk_of self.old)).calls ≤ (D.view (disk_of self.new)).calls }
+        // A disk of which a count stands at its end takes no frame.
+        ensures stands { IsAtEnd (D.view (disk_of self.old)) → log_of self.new ≡ log_of self.old }
+        ensures spare { TakesSpare self.old self.new }
+        ensures goes_on { GoesOn (D.view (disk_of self.old)) (D.view (disk_of self.new)) }
     {
         if append_frames(&mut self.log, &mut self.disk, frames).is_err() {
             return Err(self.failed());
@@ -184,7 +185,7 @@ impl<D: Disk> Keeper<D> {
 
     /// Writes blocks, one device call each, syncs the store area, and notes it. It takes no memory.
     pub fn write(&mut self, blocks: &[Block<'_>]) -> Result<Synced, KeepFault>
-        requires spare { HasSpare self.old }
+        requires spare { HasSpare 1 self.old }
         requires ascending { IsAscending blocks.now }
         requires sized { AreSized blocks.now }
         ensures kept { OnOk result (KeptSynced D.view blocks.now self.old self.new) }
@@ -192,13 +193,10 @@ impl<D: Disk> Keeper<D> {
         ensures sync { IfOk result (λ s. s ≡ record { calls = (D.view (disk_of self.new)).calls; entries = durable_of self.old }) }
         ensures durable { durable_of self.new ≡ durable_of self.old }
         ensures log { log_of self.new ≡ log_of self.old }
-        ensures failed { IfErr result (λ e. (e ≡ KeepFault.DiskFault (log_opened (log_of self.old)) (D.view (disk_of self.new)).faults)
-            × (((D.view (disk_of self.old)).faults < (D.view (disk_of self.new)).faults) ⊎ IsAtEnd (D.view (disk_of self.new)))) }
-        ensures healthy { OnOk result ((D.view (disk_of self.new)).faults ≡ (D.view (disk_of self.old)).faults) }
-        ensures calls { OnOk result ((D.view (disk_of self.new)).calls ≡ (D.view (disk_of self.old)).calls + length blocks.now + 1) }
-        ensures tells { (D.view (disk_of self.new)).tells ≡ (D.view (disk_of self.old)).tells }
-        ensures rises { (D.view (disk_of self.old)).faults ≤ (D.view (disk_of self.new)).faults }
-        ensures later { (D.view (disk_of self.old)).calls ≤ (D.view (disk_of self.new)).calls }
+        ensures failed { IfErr result (Failed (log_opened (log_of self.old)) (D.view (disk_of self.old)) (D.view (disk_of self.new))) }
+        ensures made { OnOk result (Made (length blocks.now + 1) (D.view (disk_of self.old)) (D.view (disk_of self.new))) }
+        ensures spare { TakesSpare self.old self.new }
+        ensures goes_on { GoesOn (D.view (disk_of self.old)) (D.view (disk_of self.new)) }
     {
         if write_blocks(&mut self.disk, blocks).is_err() {
             return Err(self.failed());
@@ -208,12 +206,13 @@ impl<D: Disk> Keeper<D> {
 
     /// Notes a sync of files of which no block is dirty. It makes no device call and takes no memory.
     pub fn clean(&mut self) -> Synced
-        requires spare { HasSpare self.old }
+        requires spare { HasSpare 1 self.old }
         ensures kept { KeptSynced D.view [] self.old self.new }
         ensures sync { result ≡ record { calls = (D.view (disk_of self.old)).calls; entries = durable_of self.old } }
         ensures disk { disk_of self.new ≡ disk_of self.old }
         ensures log { log_of self.new ≡ log_of self.old }
         ensures durable { durable_of self.new ≡ durable_of self.old }
+        ensures spare { TakesSpare self.old self.new }
     {
         self.note()
     }
@@ -242,18 +241,14 @@ impl<D: Disk> Keeper<D> {
         ensures broken { log_opened (log_of self.old) < (D.view (disk_of self.old)).faults
             → (result ≡ Err (KeepFault.Broken (log_opened (log_of self.old)) (D.view (disk_of self.old)).faults)) × (self.new ≡ self.old) }
         ensures only_broken { (opened now : ℕ) → IsErrOf result (KeepFault.Broken opened now) → log_opened (log_of self.old) < (D.view (disk_of self.old)).faults }
-        ensures failed { (opened now : ℕ) → IsErrOf result (KeepFault.DiskFault opened now) → (opened ≡ log_opened (log_of self.old)) × (now ≡ (D.view (disk_of self.new)).faults)
-            × (((D.view (disk_of self.old)).faults < (D.view (disk_of self.new)).faults) ⊎ IsAtEnd (D.view (disk_of self.new))) }
+        ensures failed { (opened now : ℕ) → IsErrOf result (KeepFault.DiskFault opened now) → Failed (log_opened (log_of self.old)) (D.view (disk_of self.old)) (D.view (disk_of self.new)) (KeepFault.DiskFault opened now) }
         ensures no_memory { IsErrOf result KeepFault.NoMemory → disk_of self.new ≡ disk_of self.old }
-        ensures healthy { OnOk result ((D.view (disk_of self.new)).faults ≡ (D.view (disk_of self.old)).faults) }
-        ensures calls { OnOk result ((D.view (disk_of self.new)).calls ≡ (D.view (disk_of self.old)).calls + 4 * length parts.now) }
+        ensures made { OnOk result (Made (4 * length parts.now) (D.view (disk_of self.old)) (D.view (disk_of self.new))) }
         ensures opened { log_opened (log_of self.new) ≡ log_opened (log_of self.old) }
         ensures place { log_end (log_of self.new) ≤ log_end (log_of self.old) + frames_length parts.now }
-        ensures tells { (D.view (disk_of self.new)).tells ≡ (D.view (disk_of self.old)).tells }
-        ensures rises { (D.view (disk_of self.old)).faults ≤ (D.view (disk_of self.new)).faults }
-        ensures later { (D.view (disk_of self.old)).calls ≤ (D.view (disk_of self.new)).calls }
+        ensures goes_on { GoesOn (D.view (disk_of self.old)) (D.view (disk_of self.new)) }
     {
-        self.ready()?;
+        self.ready(1)?;
         let frames = stage_all(alloc, parts)?;
         self.append(&frames, upto)?;
         Ok(())
@@ -272,16 +267,12 @@ impl<D: Disk> Keeper<D> {
         ensures broken { log_opened (log_of self.old) < (D.view (disk_of self.old)).faults
             → (result ≡ Err (KeepFault.Broken (log_opened (log_of self.old)) (D.view (disk_of self.old)).faults)) × (self.new ≡ self.old) }
         ensures only_broken { (opened now : ℕ) → IsErrOf result (KeepFault.Broken opened now) → log_opened (log_of self.old) < (D.view (disk_of self.old)).faults }
-        ensures failed { (opened now : ℕ) → IsErrOf result (KeepFault.DiskFault opened now) → (opened ≡ log_opened (log_of self.old)) × (now ≡ (D.view (disk_of self.new)).faults)
-            × (((D.view (disk_of self.old)).faults < (D.view (disk_of self.new)).faults) ⊎ IsAtEnd (D.view (disk_of self.new))) }
+        ensures failed { (opened now : ℕ) → IsErrOf result (KeepFault.DiskFault opened now) → Failed (log_opened (log_of self.old)) (D.view (disk_of self.old)) (D.view (disk_of self.new)) (KeepFault.DiskFault opened now) }
         ensures no_memory { IsErrOf result KeepFault.NoMemory → disk_of self.new ≡ disk_of self.old }
-        ensures healthy { OnOk result ((D.view (disk_of self.new)).faults ≡ (D.view (disk_of self.old)).faults) }
-        ensures calls { OnOk result ((D.view (disk_of self.new)).calls ≡ (D.view (disk_of self.old)).calls + length blocks.now + 1) }
-        ensures tells { (D.view (disk_of self.new)).tells ≡ (D.view (disk_of self.old)).tells }
-        ensures rises { (D.view (disk_of self.old)).faults ≤ (D.view (disk_of self.new)).faults }
-        ensures later { (D.view (disk_of self.old)).calls ≤ (D.view (disk_of self.new)).calls }
+        ensures made { OnOk result (Made (length blocks.now + 1) (D.view (disk_of self.old)) (D.view (disk_of self.new))) }
+        ensures goes_on { GoesOn (D.view (disk_of self.old)) (D.view (disk_of self.new)) }
     {
-        self.ready()?;
+        self.ready(1)?;
         self.write(blocks)?;
         Ok(())
     }

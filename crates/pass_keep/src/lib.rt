@@ -7,8 +7,6 @@ mod block;
 mod fault;
 mod images;
 mod keeper;
-#[cfg(test)]
-mod tests;
 
 pub use append::stage_all;
 pub use block::Block;

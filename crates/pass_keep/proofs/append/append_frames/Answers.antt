@@ -1,5 +1,6 @@
 use Rattle.std.proofs.Common.{◌≡◌, ◌∙◌, ◌+◌, ◌≤◌, ℕ, List, Vec, get_or, length, sym, ap, subst, arith}
 use Rattle.std.specs.declared.alloc.Global.{Global}
+use Rattle.pass_outside.specs.Moments.{IsAtEnd}
 use Rattle.pass_log.specs.Log.{IsFrameOf}
 use Rattle.pass_keep.specs.Parts.{bytes_length, KeepsStill}
 use Rattle.pass_keep.proofs.Appending.{partly_more, partly_failed, partly_all, place_more, on_err}
@@ -51,6 +52,7 @@ loop-frame-preserved g c =
       place = place_more frames i frame c.loop-frame-test.true log.end c.append_frame.new.self.end (c.args.log.now.end + bytes_length frames) inv.place
           (done.end ∙ ap (λ l. log.end + length l) (sym same));
       calls = omega (arith, done.calls, inv.calls);
+      stands = λ ended. absurd (done.healthy.2 (subst (λ d. IsAtEnd (view d)) (sym (inv.stands ended).0) ended));
       tells = e.tells ∙ inv.tells;
     }
 

@@ -1,3 +1,4 @@
+use Rattle.pass_outside.specs.Moments.{IsAtEnd}
 use Rattle.std.proofs.Common.{◌≡◌, ◌+◌, ◌*◌, drop}
 use Rattle.pass_log.specs.Log.{log_end, log_opened, IsSettled}
 use Rattle.pass_keep.specs.Parts.{bytes_length}
@@ -12,5 +13,6 @@ invariant-loop-frame g l = record {
   healthy : (g.D.Disk.view l.disk).faults ≡ (g.D.Disk.view l.fn.disk).faults;
   place : log_end l.log + bytes_length (drop l.frame-index l.frames) ≡ log_end l.fn.log + bytes_length l.frames;
   calls : (g.D.Disk.view l.disk).calls ≡ (g.D.Disk.view l.fn.disk).calls + 4 * l.frame-index;
+  stands : IsAtEnd (g.D.Disk.view l.fn.disk) → (l.disk ≡ l.fn.disk) × (l.log ≡ l.fn.log);
   tells : (g.D.Disk.view l.disk).tells ≡ (g.D.Disk.view l.fn.disk).tells;
 }

@@ -2,11 +2,19 @@ use Rattle.std.proofs.Common.{◌≡◌, ◌∷◌, [], ℕ, sym, subst, arith}
 use Rattle.pass_entry.specs.declared.record.Record.TheVariants as log
 use Rattle.pass_outside.specs.Moments.{Adds}
 use Rattle.pass_log.specs.Records.{image_of, with_batch, IsOldOrBoth}
-use Rattle.pass_keep.proofs.Starting.{has_before, begun_append, kept_begun}
+use Rattle.pass_keep.proofs.Starting.{has_before, begun_open, begun_append, kept_begun}
 use Rattle.pass_keep.proofs.begin.begin.Goals as goal
 
 pub open-requires-clause-synced : goal.open-requires-clause-synced
-open-requires-clause-synced g c = λ told i may. c.requires.1.1.1.1.1.1.0 told i (g.met.D.Disk.counts_now c.args.disk.now g.story.start i c.requires.1.1.1.1.1.0 may)
+open-requires-clause-synced g c = λ told i may. (c.requires.1.1.1.1.1.1.0 told i (g.met.D.Disk.counts_now c.args.disk.now g.story.start i c.requires.1.1.1.1.1.0 may)).0
+
+pub returns-in_err-log-clause-begun : goal.returns-in_err-log-clause-begun
+returns-in_err-log-clause-begun g c =
+    let s = g.story in
+    let old = g.D.Disk.view c.args.disk.now in
+    begun_open s old (g.D.Disk.view c.open.new.disk) c.requires.1.1.1.1.1.0 (has_before s old c.args.image.now c.requires.1.1.1.1.0 c.requires.1.0) c.requires.1.1.1.1.1.1.0
+    (λ i may. g.met.D.Disk.counts_now c.args.disk.now s.start i c.requires.1.1.1.1.1.0 may)
+    c.open.ensures.tells c.open.ensures.any_moment c.open.ensures.store_then c.open.ensures.store_now
 
 pub returns-in_err-append-clause-begun : goal.returns-in_err-append-clause-begun
 returns-in_err-append-clause-begun g c =
@@ -16,8 +24,10 @@ returns-in_err-append-clause-begun g c =
     let mid = view c.open.new.disk in
     let new = view c.append.new.disk in
     begun_append s old mid c.requires.1.1.1.1.1.0 (has_before s old c.args.image.now c.requires.1.1.1.1.0 c.requires.1.0) c.requires.1.1.1.1.1.1.0
-    c.open.ensures.tells c.open.ensures.any_moment c.open.ensures.later c.in_ok-log.ensures.same new c.append.ensures.tells c.append.ensures.later
+    (λ i may. g.met.D.Disk.counts_now c.args.disk.now s.start i c.requires.1.1.1.1.1.0 may)
+    c.open.ensures.tells c.open.ensures.any_moment c.open.ensures.store_then c.open.ensures.store_now c.in_ok-log.ensures.same new c.append.ensures.tells
     (λ told. subst (λ (n : ℕ). Adds mid new (λ i. IsOldOrBoth (log.Ceiling n ∷ []) (image_of mid.seen.log) (image_of i.log))) (sym c.requires.1.1.0) (c.append.ensures.any_moment told))
+    c.append.ensures.store_then c.append.ensures.store_now
 
 pub returns-clause-begun : goal.returns-clause-begun
 returns-clause-begun g c =
@@ -27,8 +37,10 @@ returns-clause-begun g c =
     let mid = view c.open.new.disk in
     let new = view c.append.new.disk in
     begun_append s old mid c.requires.1.1.1.1.1.0 (has_before s old c.args.image.now c.requires.1.1.1.1.0 c.requires.1.0) c.requires.1.1.1.1.1.1.0
-    c.open.ensures.tells c.open.ensures.any_moment c.open.ensures.later c.in_ok-log.ensures.same new c.append.ensures.tells c.append.ensures.later
+    (λ i may. g.met.D.Disk.counts_now c.args.disk.now s.start i c.requires.1.1.1.1.1.0 may)
+    c.open.ensures.tells c.open.ensures.any_moment c.open.ensures.store_then c.open.ensures.store_now c.in_ok-log.ensures.same new c.append.ensures.tells
     (λ told. subst (λ (n : ℕ). Adds mid new (λ i. IsOldOrBoth (log.Ceiling n ∷ []) (image_of mid.seen.log) (image_of i.log))) (sym c.requires.1.1.0) (c.append.ensures.any_moment told))
+    c.append.ensures.store_then c.append.ensures.store_now
 
 pub returns-clause-kept : goal.returns-clause-kept
 returns-clause-kept g c =
@@ -39,8 +51,10 @@ returns-clause-kept g c =
     let new = view c.append.new.disk in
     let ceiling = sym c.requires.1.1.0 in
     kept_begun s old mid c.requires.1.1.1.1.1.0 (has_before s old c.args.image.now c.requires.1.1.1.1.0 c.requires.1.0) c.requires.1.1.1.1.1.1.0
-    c.open.ensures.tells c.open.ensures.any_moment c.open.ensures.later c.in_ok-log.ensures.same new c.append.ensures.tells c.append.ensures.later
+    (λ i may. g.met.D.Disk.counts_now c.args.disk.now s.start i c.requires.1.1.1.1.1.0 may)
+    c.open.ensures.tells c.open.ensures.any_moment c.open.ensures.store_then c.open.ensures.store_now c.in_ok-log.ensures.same new c.append.ensures.tells
     (λ told. subst (λ (n : ℕ). Adds mid new (λ i. IsOldOrBoth (log.Ceiling n ∷ []) (image_of mid.seen.log) (image_of i.log))) ceiling (c.append.ensures.any_moment told))
+    c.append.ensures.store_then c.append.ensures.store_now
     c.append.new.self c.append.ensures.settled
     (λ told. subst (λ (n : ℕ). image_of new.seen.log ≡ with_batch (log.Ceiling n ∷ []) (image_of mid.seen.log)) ceiling (c.in_ok-append.ensures.reads (omega arith) told))
     (λ told i may. subst (λ (n : ℕ). image_of i.log ≡ with_batch (log.Ceiling n ∷ []) (image_of mid.seen.log)) ceiling (c.in_ok-append.ensures.acknowledged (omega arith) told i may))

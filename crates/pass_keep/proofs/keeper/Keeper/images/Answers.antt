@@ -1,5 +1,5 @@
 use Rattle.pass_keep.specs.Keepers.{IsKeeper}
-use Rattle.pass_keep.proofs.Shown.{since_shown, matched_shown, settled_shown, longer_shown}
+use Rattle.pass_keep.proofs.Shown.{since_shown, matched_shown, settled_shown, timed_shown, longer_shown}
 use Rattle.pass_keep.proofs.keeper.Keeper.images.Goals as goal
 
 pub returns-clause-begun : goal.returns-clause-begun
@@ -16,3 +16,6 @@ returns-clause-settled g c = settled_shown g.D.Disk.view g.past c.args.self.now 
 
 pub returns-clause-longer : goal.returns-clause-longer
 returns-clause-longer g c = longer_shown g.D.Disk.view g.past c.args.self.now c.requires.1
+
+pub returns-clause-timed : goal.returns-clause-timed
+returns-clause-timed g c = timed_shown g.D.Disk.view g.past c.args.self.now c.requires.1

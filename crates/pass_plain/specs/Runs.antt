@@ -10,7 +10,7 @@ use Rattle.pass_plain.specs.Processes.{has_begun}
 use Rattle.pass_plain.specs.Replies.{reply_to}
 use Rattle.pass_plain.specs.Calls.{Step, call_steps, pnode_at}
 use Rattle.pass_plain.specs.Legal.{IsLegal, before_call, is_over, last_number, step_of}
-use Rattle.pass_plain.specs.Traces.{Line, LineCall, fork_as, request_of, lines_of, calls_of}
+use Rattle.pass_plain.specs.Traces.{Line, LineCall, fork_as, name_of_call, request_of, lines_of, calls_of}
 
 -- the processes of a trace that have begun: each with its number in the trace and its pnode
 abbrev pub Begun : Type 0
@@ -61,7 +61,7 @@ steps_at session trace history who number call =
     call_steps who (before_call history who number) (call_entries history who number) (request_at session trace history who number call)
 
 -- a history is a run of a trace: each process in it is one of the trace, and its calls are its lines in order, with their
--- arguments, then exit; its last call may lack steps, and no other
+-- names and arguments, then exit; its last call may lack steps, and no other
 pub record IsRun (session : Session) (trace : List Line) (history : List Entry) : Type 0 where
   pub legal : IsLegal session history
   pub traced : (who : ℕ) → has_begun history who ≡ true → (process : ℕ) × (pnode_of_process session trace history process ≡ Some who)
@@ -69,6 +69,9 @@ pub record IsRun (session : Session) (trace : List Line) (history : List Entry) 
       → slice_get (calls_of trace process) number ≡ Some call
       → map step_of (call_entries history who (number + 1))
       ≡ take (length (call_entries history who (number + 1))) (steps_at session trace history who (number + 1) call)
+  pub named : (process who number : ℕ) (call : LineCall) → pnode_of_process session trace history process ≡ Some who
+      → slice_get (calls_of trace process) number ≡ Some call
+      → (j : ℕ) (s : ℕ × Entry) → slice_get (call_entries history who (number + 1)) j ≡ Some s → s.1.call ≡ name_of_call call
   pub whole : (who number : ℕ) → has_begun history who ≡ true → 1 ≤ number → number < last_number history who → is_over history who number ≡ true
   pub last : (process who : ℕ) → pnode_of_process session trace history process ≡ Some who
       → last_number history who ≤ length (calls_of trace process)

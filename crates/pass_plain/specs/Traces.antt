@@ -1,5 +1,8 @@
 -- The lines of a trace, and the requests that they make. This project's own format, seen without its text.
 use Rattle.std.specs.Prelude.{ℕ, ◌==◌, List, [], ◌∷◌, ◌++◌, filter, map}
+use Rattle.pass_entry.specs.declared.entry.CallName.{CallName}
+use Rattle.pass_entry.specs.declared.entry.CallName.TheVariants as call
+use Rattle.pass_plain.specs.Calls.{name_of}
 use Rattle.pass_plain.specs.declared.request.Request.{Request}
 use Rattle.pass_plain.specs.declared.request.Request.TheVariants as requests
 
@@ -23,6 +26,13 @@ request_of pnode last (given request) = request
 request_of pnode last (write_last fd) = requests.Write fd last
 request_of pnode last (fork_as child) = requests.Fork
 request_of pnode last (wait_for child) = requests.WaitChild (pnode child)
+
+-- the name of a line's call
+abbrev pub name_of_call : LineCall → CallName
+name_of_call (given request) = name_of request
+name_of_call (write_last fd) = call.Write
+name_of_call (fork_as child) = call.Fork
+name_of_call (wait_for child) = call.WaitChild
 
 -- the lines of a process, in order
 abbrev pub lines_of : List Line → ℕ → List Line

@@ -10,6 +10,7 @@ pub mod Legal
 pub mod Traces
 pub mod Runs
 pub mod Places
+pub mod PlaceLaws
 pub mod Lawful
 pub mod Sound
 pub mod Versions

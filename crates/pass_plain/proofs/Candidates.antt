@@ -20,6 +20,7 @@ use Rattle.pass_entry.specs.declared.objects.Kind.TheVariants as kind
 use Rattle.pass_entry.specs.declared.objects.Mode.{Mode}
 use Rattle.pass_entry.specs.declared.objects.Mode.TheVariants as mode
 use Rattle.pass_entry.specs.Texts.{is_name, is_line}
+use Rattle.pass_entry.specs.Limits.{transfer_limit}
 use Rattle.pass_plain.specs.Processes.{Process, refusal, is_file, same_mode, faults_if, file_limit}
 use Rattle.pass_plain.specs.Calls.{act_on, name_of, is_within, is_fd, ask_of, Made, Step, call_steps, steps_of, refused_ask, descriptor_at, pnode_at}
 use Rattle.pass_plain.specs.declared.request.Request.{Request}
@@ -79,7 +80,7 @@ asking call.CloseFd (ask.Held fd) h = (requests.CloseFd fd, refl, h, refl)
 asking call.Read (ask.ToRead fd) h = (requests.Read fd 1, refl, both_true _ _ (both_true _ _ h refl) refl, refl)
 asking call.Write (ask.ToWrite fd len) h =
     let size = length-replicate len 0 in
-    (requests.Write fd (replicate len 0), refl, both_true _ _ (true_left _ _ h) (ap (λ n. nat_le n 4096) size ∙ true_right (is_fd fd) _ h), ap (λ n. Some (ask.ToWrite fd n)) size)
+    (requests.Write fd (replicate len 0), refl, both_true _ _ (true_left _ _ h) (ap (λ n. nat_le n transfer_limit) size ∙ true_right (is_fd fd) _ h), ap (λ n. Some (ask.ToWrite fd n)) size)
 asking call.Seek (ask.ToSeek fd at) h = (requests.Seek fd at, refl, h, refl)
 asking call.Truncate (ask.ToCut fd size) h = (requests.Truncate fd size, refl, h, refl)
 asking call.MakePipe (ask.FreeTwo first second) h = (requests.MakePipe first second, refl, h, refl)
@@ -290,7 +291,7 @@ bytes_of_put true out at len bytes = refl
 bytes_of_put false out at len bytes = refl
 
 -- a write by as many zero bytes shows the same at first
-zero_bytes : (bytes : List ℕ) → nat_le (length bytes) 4096 ≡ true → (fd : ℕ) → bytes_shown (length bytes) (act.Show fd (length bytes)) ≡ replicate (length bytes) 0
+zero_bytes : (bytes : List ℕ) → nat_le (length bytes) transfer_limit ≡ true → (fd : ℕ) → bytes_shown (length bytes) (act.Show fd (length bytes)) ≡ replicate (length bytes) 0
 zero_bytes bytes short fd = ap (λ b. if b then replicate (length bytes) 0 else []) short
 
 write_next : (who : ℕ) (p : Process) (made : Made) (next : Step) (fd : ℕ) (bytes : List ℕ) → is_within (requests.Write fd bytes) ≡ true
@@ -299,10 +300,10 @@ write_next who p [] next fd bytes within fine steps =
     let (what, first) = first_own who p [] next (requests.Write fd bytes) fine steps (act_on who (act.Show fd (length bytes))) refl in
     let zeros : List ℕ = replicate (length bytes) 0 in
     let size : length zeros ≡ length bytes = length-replicate (length bytes) 0 in
-    let short : nat_le (length bytes) 4096 ≡ true = true_right (is_fd fd) _ within in
+    let short : nat_le (length bytes) transfer_limit ≡ true = true_right (is_fd fd) _ within in
     let allowed : refused_ask p (requests.Write fd zeros) ≡ None = ap (λ n. option_map_or (λ f. Some (ask.ToWrite fd n)) (refusal p (ask.ToWrite fd n)) None) size ∙ fine in
     fits_other who p [] next (requests.Write fd bytes) (requests.Write fd zeros) fd 0 (fd_of fd (true_left _ _ within)) below_one
-    (both_true _ _ (true_left _ _ within) (ap (λ n. nat_le n 4096) size ∙ short))
+    (both_true _ _ (true_left _ _ within) (ap (λ n. nat_le n transfer_limit) size ∙ short))
     (ap (take 1) (own_steps who p [] (requests.Write fd zeros) allowed) ∙ ap (λ n. act_on who (act.Show fd n) ∷ []) size
     ∙ sym (ap (take 1) (own_steps who p [] (requests.Write fd bytes) fine)))
     steps (ap (λ f. shown_write f f fd) first ∙ ap (λ bytes. Some (requests.Write fd bytes)) (zero_bytes bytes short fd))

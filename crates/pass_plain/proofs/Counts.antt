@@ -20,6 +20,7 @@ use Rattle.pass_entry.specs.declared.objects.Kind.{Kind}
 use Rattle.pass_entry.specs.declared.objects.Kind.TheVariants as kind
 use Rattle.pass_entry.specs.declared.objects.End.TheVariants as end
 use Rattle.pass_entry.specs.declared.objects.Descriptor.{Descriptor}
+use Rattle.pass_entry.specs.Limits.{transfer_limit}
 use Rattle.pass_plain.specs.Histories.{is_fault, own_step, call_entries, bytes_of, bytes_at}
 use Rattle.pass_plain.specs.Sessions.{Session}
 use Rattle.pass_plain.specs.Registries.{Registry, registry_after, is_full, next_pnode}
@@ -87,11 +88,11 @@ pipe_law session = legal_induction session (λ h. (object : ℕ) → Fits (pipe_
 
 -- what an entry gives
 
-taken_short : (b : Bool) (pipe : Pipe) (len : ℕ) (y : Reply) → cond b None (Some (answer.Took (take len pipe.bytes))) ≡ Some y → len ≤ 4096 → length (bytes_of y) ≤ 4096
+taken_short : (b : Bool) (pipe : Pipe) (len : ℕ) (y : Reply) → cond b None (Some (answer.Took (take len pipe.bytes))) ≡ Some y → len ≤ transfer_limit → length (bytes_of y) ≤ transfer_limit
 taken_short true pipe len y e short = absurd (cc)
 taken_short false pipe len y e short = let t = length-take len pipe.bytes in let z = ap (λ y. length (bytes_of y)) (some_is _ _ e) in omega (arith, t, z, short)
 
-none_given : (y z : Reply) → y ≡ z → bytes_of y ≡ [] → length (bytes_of z) ≤ 4096
+none_given : (y z : Reply) → y ≡ z → bytes_of y ≡ [] → length (bytes_of z) ≤ transfer_limit
 none_given y z e n = let a = ap (λ y. length (bytes_of y)) (sym e) in let b = ap length n in omega (arith, a, b)
 
 quiet_if : (b : Bool) (x y : Reply) → bytes_of x ≡ [] → bytes_of y ≡ [] → bytes_of (cond b x y) ≡ []
@@ -113,12 +114,12 @@ quiet_found : (o : Option ℕ) → bytes_of (found o) ≡ []
 quiet_found (Some n) = refl
 quiet_found None = refl
 
-quiet_pushed : (pipe : Pipe) (len : ℕ) (b c : Bool) (y : Reply) → cond b (Some (answer.Fault fault.BrokenPipe)) (cond c None (Some answer.Done)) ≡ Some y → length (bytes_of y) ≤ 4096
+quiet_pushed : (pipe : Pipe) (len : ℕ) (b c : Bool) (y : Reply) → cond b (Some (answer.Fault fault.BrokenPipe)) (cond c None (Some answer.Done)) ≡ Some y → length (bytes_of y) ≤ transfer_limit
 quiet_pushed pipe len true c y e = none_given (answer.Fault fault.BrokenPipe) y (some_is _ _ e) refl
 quiet_pushed pipe len false true y e = absurd (cc)
 quiet_pushed pipe len false false y e = none_given answer.Done y (some_is _ _ e) refl
 
-quiet_reaped : (b : Bool) (y : Reply) → cond b (Some answer.Done) None ≡ Some y → length (bytes_of y) ≤ 4096
+quiet_reaped : (b : Bool) (y : Reply) → cond b (Some answer.Done) None ≡ Some y → length (bytes_of y) ≤ transfer_limit
 quiet_reaped true y e = none_given answer.Done y (some_is _ _ e) refl
 quiet_reaped false y e = absurd (cc)
 
@@ -127,7 +128,7 @@ quiet_denied (Some f) = refl
 quiet_denied None = refl
 
 given_short : (session : Session) (history : List Entry) (who : ℕ) (p : Process) (made : Made) (steps : List Step) (k what : ℕ) (a : Act) (y : Reply) → Row who p made steps k what a → reply_to session history what a ≡ Some y
-    → length (bytes_of y) ≤ 4096
+    → length (bytes_of y) ≤ transfer_limit
 given_short session history who p made steps k what (act.Give at len) y r e =
     let t = length-take len (drop at (file_after session history what)) in let z = ap (λ y. length (bytes_of y)) (some_is _ _ e) in let s = r.1 in omega (arith, t, z, s)
 given_short session history who p made steps k what (act.Take len) y r e = taken_short (length (pipe_after history what).bytes == 0 && nat_lt 0 (pipe_after history what).writers) (pipe_after history what) len y e r.1
@@ -142,32 +143,32 @@ given_short session history who p made steps k what (act.Push out bytes) y r e =
 given_short session history who p made steps k what act.Reap y r e = quiet_reaped (has_ended history what) y e
 given_short session history who p made steps k what _ y r e = none_given answer.Done y (some_is _ _ e) refl
 
-gives_short : (session : Session) (history : List Entry) → IsLegal session history → (i : ℕ) (e : Entry) → slice_get history i ≡ Some e → length (bytes_of e.reply) ≤ 4096
+gives_short : (session : Session) (history : List Entry) → IsLegal session history → (i : ℕ) (e : Entry) → slice_get history i ≡ Some e → length (bytes_of e.reply) ≤ transfer_limit
 gives_short session history legal i e at =
     let past = take i history in
     let front = legal_take session history i legal in
     let next = legal i e at in
     given_short session past e.who (before_call past e.who e.number) (call_entries past e.who e.number) (steps_by session past e front next) (length (call_entries past e.who e.number)) e.what e.act e.reply (row session past e front next) next.replied
 
-bytes_short : (history : List Entry) (out : ℕ) (o : Option Entry) → slice_get history out ≡ o → ((e : Entry) → slice_get history out ≡ Some e → length (bytes_of e.reply) ≤ 4096) → length (bytes_at history out) ≤ 4096
+bytes_short : (history : List Entry) (out : ℕ) (o : Option Entry) → slice_get history out ≡ o → ((e : Entry) → slice_get history out ≡ Some e → length (bytes_of e.reply) ≤ transfer_limit) → length (bytes_at history out) ≤ transfer_limit
 bytes_short history out None t each = let z : length (bytes_at history out) ≡ 0 = ap (λ o. length (option_map_or (λ (e : Entry). bytes_of e.reply) o [])) t in omega (arith, z)
 bytes_short history out (Some e) t each =
     let z : length (bytes_at history out) ≡ length (bytes_of e.reply) = ap (λ o. length (option_map_or (λ (e : Entry). bytes_of e.reply) o [])) t in let b = each e t in omega (arith, z, b)
 
-read_short : (history : List Entry) (p : Process) (a : Act) → ((out : ℕ) → length (bytes_at history out) ≤ 4096) → length p.last_read ≤ 4096 → length (process_act history p a).last_read ≤ 4096
+read_short : (history : List Entry) (p : Process) (a : Act) → ((out : ℕ) → length (bytes_at history out) ≤ transfer_limit) → length p.last_read ≤ transfer_limit → length (process_act history p a).last_read ≤ transfer_limit
 read_short history p (act.Gain out fd) short b = short out
 read_short history p (act.Exec out name args) short b = omega arith
 read_short history p _ short b = b
 
-last_if : (b : Bool) (x p : Process) → length x.last_read ≤ 4096 → length p.last_read ≤ 4096 → length (cond b x p).last_read ≤ 4096
+last_if : (b : Bool) (x p : Process) → length x.last_read ≤ transfer_limit → length p.last_read ≤ transfer_limit → length (cond b x p).last_read ≤ transfer_limit
 last_if true x p a b = a
 last_if false x p a b = b
 
 pub read_law : ReadLaw
 read_law session history legal = (
   gives_short session history legal,
-  legal_induction session (λ h. (who : ℕ) → length (process_after h who).last_read ≤ 4096) (λ who. omega arith) (λ history e legal all next who.
-      subst (λ (p : Process). length p.last_read ≤ 4096) (sym (process-append history e who))
+  legal_induction session (λ h. (who : ℕ) → length (process_after h who).last_read ≤ transfer_limit) (λ who. omega arith) (λ history e legal all next who.
+      subst (λ (p : Process). length p.last_read ≤ transfer_limit) (sym (process-append history e who))
       (last_if (e.what == who && not (is_fault e.reply)) (process_act history (process_after history who) e.act) (process_after history who)
       (read_short history (process_after history who) e.act (λ out. bytes_short history out (slice_get history out) refl (λ f at. gives_short session history legal out f at)) (all who)) (all who)))
       history legal,

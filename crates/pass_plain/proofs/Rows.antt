@@ -15,6 +15,7 @@ use Rattle.pass_entry.specs.declared.entry.CallFault.TheVariants as fault
 use Rattle.pass_entry.specs.declared.objects.Kind.TheVariants as kind
 use Rattle.pass_entry.specs.declared.objects.Mode.TheVariants as mode
 use Rattle.pass_entry.specs.declared.objects.Descriptor.{Descriptor}
+use Rattle.pass_entry.specs.Limits.{transfer_limit}
 use Rattle.pass_plain.specs.Processes.{Process, refusal, is_held, is_file, is_pipe, is_app, same_mode, file_limit, at_held, faults_if}
 use Rattle.pass_plain.specs.Calls.{ask_of, act_on, is_within, Made, Step, call_steps, steps_of, refused_ask, is_fd, descriptor_at, no_descriptor, end_of, pipe_descriptors, place_at, pnode_at}
 use Rattle.pass_plain.specs.declared.request.Request.{Request}
@@ -67,7 +68,7 @@ Row who p made steps k what (act.Gather out child) =
 Row who p made steps k what act.Finish = (what ≡ who) × (suc k ≡ length steps)
 Row who p made steps k what (act.Kept fd) = what ≡ who
 Row who p made steps k what (act.Give at len) =
-    (k ≡ 0) × (len ≤ 4096) × (fd : ℕ) × Holds p fd × (what ≡ (descriptor_at p fd).pnode) × (is_file (descriptor_at p fd) ≡ true) × (at ≡ (descriptor_at p fd).offset)
+    (k ≡ 0) × (len ≤ transfer_limit) × (fd : ℕ) × Holds p fd × (what ≡ (descriptor_at p fd).pnode) × (is_file (descriptor_at p fd) ≡ true) × (at ≡ (descriptor_at p fd).offset)
 Row who p made steps k what (act.Put out at bytes) =
     (k ≡ 1) × (out ≡ place_at made 0) × (at + length bytes ≤ file_limit) × (fd : ℕ) × Holds p fd × (what ≡ (descriptor_at p fd).pnode)
     × (is_file (descriptor_at p fd) ≡ true) × (slice_get steps 0 ≡ Some (act_on who (act.Show fd (length bytes))))
@@ -76,7 +77,7 @@ Row who p made steps k what (act.Cut out size) =
     × (is_file (descriptor_at p fd) ≡ true) × (slice_get steps 0 ≡ Some (act_on who (act.Show fd 0)))
 Row who p made steps k what act.Load = (k ≡ 1) × (what ≡ pnode_at made 0) × (name : List ℕ) × (slice_get steps 0 ≡ Some (act_on 0 (act.Find name)))
 Row who p made steps k what (act.Take len) =
-    (k ≡ 0) × (len ≤ 4096) × (fd : ℕ) × Holds p fd × (what ≡ (descriptor_at p fd).pnode) × (is_file (descriptor_at p fd) ≡ false) × (is_app (descriptor_at p fd) ≡ false)
+    (k ≡ 0) × (len ≤ transfer_limit) × (fd : ℕ) × Holds p fd × (what ≡ (descriptor_at p fd).pnode) × (is_file (descriptor_at p fd) ≡ false) × (is_app (descriptor_at p fd) ≡ false)
 Row who p made steps k what (act.Push out bytes) =
     (k ≡ 1) × (out ≡ place_at made 0) × (fd : ℕ) × Holds p fd × (what ≡ (descriptor_at p fd).pnode)
     × (is_file (descriptor_at p fd) ≡ false) × (is_app (descriptor_at p fd) ≡ false) × (slice_get steps 0 ≡ Some (act_on who (act.Show fd (length bytes))))
@@ -201,7 +202,7 @@ close_rows who p made fd within held false pipe = ((refl, refl, within, held), t
 abbrev reading : Process → ℕ → ℕ → Bool → Step
 reading p fd len b = act_on (descriptor_at p fd).pnode (if b then act.Give (descriptor_at p fd).offset len else act.Take len)
 
-read_rows : (who : ℕ) (p : Process) (made : Made) (fd len : ℕ) → fd < 64 → len ≤ 4096 → Holds p fd → is_app (descriptor_at p fd) ≡ false
+read_rows : (who : ℕ) (p : Process) (made : Made) (fd len : ℕ) → fd < 64 → len ≤ transfer_limit → Holds p fd → is_app (descriptor_at p fd) ≡ false
     → (b : Bool) → is_file (descriptor_at p fd) ≡ b → AreRows who p made (reading p fd len b ∷ act_on who (act.Gain (place_at made 0) fd) ∷ [])
 read_rows who p made fd len within short held object true file =
     ((refl, short, fd, held, refl, file, refl), ((refl, refl, within, refl, held, len, ap (λ b. Some (reading p fd len b)) (sym file)), tt))
@@ -255,7 +256,7 @@ rows_of who p made (requests.OpenName fd name m) within fine =
 rows_of who p made (requests.CloseFd fd) within fine = close_rows who p made fd (fd_of fd within) (held_allowed p fd fine) (is_pipe (descriptor_at p fd)) refl
 rows_of who p made (requests.Read fd len) within fine =
     let (held, object) = read_allowed p fd len fine in
-    read_rows who p made fd len (fd_of fd (true_left _ _ (true_left _ _ within))) (at_most len 4096 (true_right _ _ within)) held object (is_file (descriptor_at p fd)) refl
+    read_rows who p made fd len (fd_of fd (true_left _ _ (true_left _ _ within))) (at_most len transfer_limit (true_right _ _ within)) held object (is_file (descriptor_at p fd)) refl
 rows_of who p made (requests.Write fd bytes) within fine =
     let (held, object, fits) = write_allowed p fd bytes fine in
     write_rows who p made fd bytes (fd_of fd (true_left _ _ within)) held object fits (is_file (descriptor_at p fd)) refl

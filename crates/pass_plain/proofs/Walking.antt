@@ -12,6 +12,7 @@ use Rattle.pass_entry.specs.declared.entry.Act.TheVariants as act
 use Rattle.pass_entry.specs.declared.objects.Node.{Node}
 use Rattle.pass_entry.specs.declared.record.Record.{Record}
 use Rattle.pass_entry.specs.declared.record.Record.TheVariants as log
+use Rattle.pass_entry.specs.Limits.{number_limit}
 use Rattle.pass_plain.specs.Histories.{is_fault}
 use Rattle.pass_plain.specs.Sessions.{Session, opening_version}
 use Rattle.pass_plain.specs.Sound.{IsSound, IsSoundFile, IsVersion}
@@ -145,7 +146,7 @@ walked start history e w v s is step nodes recording =
       versions = λ object.
           let here = is.versions e.what in
           let there = is.versions object in
-          omega (arith, rises session history e object (2 ^ 48 + length history) here (omega (arith, there)), size);
+          omega (arith, rises session history e object (number_limit + length history) here (omega (arith, there)), size);
     }
 
 -- a walk that has noted nothing
@@ -157,23 +158,23 @@ begun start w versions nodes recording = record {
 }
 
 -- a sound opening gives each object a version that a record can have
-file_version : (b : Bool) (f : StartFile) (rest : Option StartFile) (other : ℕ) → IsSoundFile f → option_map_or (λ (f : StartFile). f.node.version) rest other < 2 ^ 48
-    → option_map_or (λ (f : StartFile). f.node.version) (cond b (Some f) rest) other < 2 ^ 48
+file_version : (b : Bool) (f : StartFile) (rest : Option StartFile) (other : ℕ) → IsSoundFile f → option_map_or (λ (f : StartFile). f.node.version) rest other < number_limit
+    → option_map_or (λ (f : StartFile). f.node.version) (cond b (Some f) rest) other < number_limit
 file_version true f rest other sound later = let v = sound.version in omega (arith, v.1)
 file_version false f rest other sound later = later
 
-file_versions : (files : List StartFile) (object other : ℕ) → ((i : ℕ) (file : StartFile) → slice_get files i ≡ Some file → IsSoundFile file) → other < 2 ^ 48
-    → option_map_or (λ (f : StartFile). f.node.version) (find (λ f. f.node.pnode == object) files) other < 2 ^ 48
+file_versions : (files : List StartFile) (object other : ℕ) → ((i : ℕ) (file : StartFile) → slice_get files i ≡ Some file → IsSoundFile file) → other < number_limit
+    → option_map_or (λ (f : StartFile). f.node.version) (find (λ f. f.node.pnode == object) files) other < number_limit
 file_versions [] object other sound few = few
 file_versions (f ∷ files) object other sound few = file_version (f.node.pnode == object) f _ other (sound 0 f refl) (file_versions files object other (λ i file at. sound (suc i) file at) few)
 
-app_version : (b : Bool) (n : Node) (rest : Option Node) → IsVersion n.version → option_map_or (λ (n : Node). n.version) rest 1 < 2 ^ 48
-    → option_map_or (λ (n : Node). n.version) (cond b (Some n) rest) 1 < 2 ^ 48
+app_version : (b : Bool) (n : Node) (rest : Option Node) → IsVersion n.version → option_map_or (λ (n : Node). n.version) rest 1 < number_limit
+    → option_map_or (λ (n : Node). n.version) (cond b (Some n) rest) 1 < number_limit
 app_version true n rest sound later = omega (arith, sound.1)
 app_version false n rest sound later = later
 
 app_versions : (apps : List Node) (object : ℕ) → ((i : ℕ) (app : Node) → slice_get apps i ≡ Some app → IsVersion app.version)
-    → option_map_or (λ (n : Node). n.version) (find (λ n. n.pnode == object) apps) 1 < 2 ^ 48
+    → option_map_or (λ (n : Node). n.version) (find (λ n. n.pnode == object) apps) 1 < number_limit
 app_versions [] object sound = omega arith
 app_versions (n ∷ apps) object sound = app_version (n.pnode == object) n _ (sound 0 n refl) (app_versions apps object (λ i app at. sound (suc i) app at))
 

@@ -17,6 +17,7 @@ use Rattle.pass_entry.specs.declared.objects.End.{End}
 use Rattle.pass_entry.specs.declared.objects.End.TheVariants as end
 use Rattle.pass_entry.specs.declared.objects.Descriptor.{Descriptor}
 use Rattle.pass_entry.specs.Texts.{is_name, is_line}
+use Rattle.pass_entry.specs.Limits.{transfer_limit}
 use Rattle.pass_plain.specs.Histories.{pnode_of, is_fault}
 use Rattle.pass_plain.specs.declared.request.Request.{Request}
 use Rattle.pass_plain.specs.declared.request.Request.TheVariants as requests
@@ -55,8 +56,8 @@ is_within requests.Start = true
 is_within (requests.Creat fd name) = is_fd fd && is_name name
 is_within (requests.OpenName fd name m) = is_fd fd && is_name name && not (same_mode m mode.App)
 is_within (requests.CloseFd fd) = is_fd fd
-is_within (requests.Read fd len) = is_fd fd && nat_le 1 len && nat_le len 4096
-is_within (requests.Write fd bytes) = is_fd fd && nat_le (length bytes) 4096
+is_within (requests.Read fd len) = is_fd fd && nat_le 1 len && nat_le len transfer_limit
+is_within (requests.Write fd bytes) = is_fd fd && nat_le (length bytes) transfer_limit
 is_within (requests.Seek fd at) = is_fd fd
 is_within (requests.Truncate fd size) = is_fd fd
 is_within (requests.MakePipe reader writer) = is_fd reader && is_fd writer

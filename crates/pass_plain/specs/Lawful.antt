@@ -18,7 +18,6 @@ use Rattle.std.specs.Ordering.{nat_cmp}
 use Rattle.std.specs.Prelude.{[], ◌∷◌}
 use Rattle.pass_plain.specs.Histories.{bytes_of}
 use Rattle.pass_plain.specs.Pipes.{pipe_after}
-use Rattle.pass_plain.specs.Replies.{pipe_capacity}
 use Rattle.pass_entry.specs.declared.entry.CallName.{CallName}
 use Rattle.pass_entry.specs.declared.entry.CallFault.{CallFault}
 use Rattle.pass_entry.specs.declared.entry.Ask.{Ask}
@@ -33,9 +32,10 @@ use Rattle.std.specs.FinSet as finite_set
 use Rattle.pass_entry.specs.declared.objects.Kind.TheVariants as kind
 use Rattle.pass_entry.specs.declared.objects.Descriptor.{Descriptor}
 use Rattle.pass_plain.specs.Registries.{Registry, Exists, same_kind}
-use Rattle.pass_plain.specs.Processes.{Process, is_file, is_pipe, file_limit}
+use Rattle.pass_plain.specs.Processes.{Process, is_file, is_pipe}
 use Rattle.pass_plain.specs.Calls.{end_of}
 use Rattle.pass_entry.specs.declared.objects.End.{End}
+use Rattle.pass_entry.specs.Limits.{file_limit, pipe_capacity, transfer_limit}
 use Rattle.pass_plain.specs.Sessions.{Session}
 use Rattle.pass_plain.specs.Legal.{IsLegal, MayFollow, ObjectAllows, CallerAllows}
 
@@ -196,11 +196,11 @@ PipeLaw = (session : Session) (history : List Entry) → IsLegal session history
     × ((pipe_after history object).readers ≤ length history + 1)
     × ((pipe_after history object).writers ≤ length history + 1)
 
--- an entry gives at most 4,096 bytes, and a process's last read ones are no more
+-- an entry gives at most as many bytes as one read, and a process's last read ones are no more
 abbrev pub ReadLaw : Type 0
 ReadLaw = (session : Session) (history : List Entry) → IsLegal session history
-    → ((i : ℕ) (e : Entry) → slice_get history i ≡ Some e → length (bytes_of e.reply) ≤ 4096)
-    × ((who : ℕ) → length (process_after history who).last_read ≤ 4096)
+    → ((i : ℕ) (e : Entry) → slice_get history i ≡ Some e → length (bytes_of e.reply) ≤ transfer_limit)
+    × ((who : ℕ) → length (process_after history who).last_read ≤ transfer_limit)
 
 -- a call has at most 3 steps, or for a fork 67 and for an exit 65
 abbrev pub most_steps : CallName → ℕ

@@ -9,6 +9,7 @@ use Rattle.pass_entry.specs.declared.entry.CallName.{CallName}
 use Rattle.pass_entry.specs.declared.entry.CallName.TheVariants as call
 use Rattle.pass_entry.specs.declared.objects.Mode.{Mode}
 use Rattle.pass_entry.specs.declared.objects.Mode.TheVariants as mode
+use Rattle.pass_entry.specs.Limits.{transfer_limit}
 use Rattle.pass_plain.specs.declared.request.Request.{Request}
 use Rattle.pass_plain.specs.declared.request.Request.TheVariants as requests
 use Rattle.pass_plain.specs.Processes.{Process, refusal}
@@ -21,7 +22,7 @@ asks call.Creat (ask.Free fd) = is_fd fd
 asks call.OpenName (ask.Free fd) = is_fd fd
 asks call.CloseFd (ask.Held fd) = is_fd fd
 asks call.Read (ask.ToRead fd) = is_fd fd
-asks call.Write (ask.ToWrite fd len) = is_fd fd && nat_le len 4096
+asks call.Write (ask.ToWrite fd len) = is_fd fd && nat_le len transfer_limit
 asks call.Seek (ask.ToSeek fd at) = is_fd fd
 asks call.Truncate (ask.ToCut fd size) = is_fd fd
 asks call.MakePipe (ask.FreeTwo first second) = is_fd first && is_fd second
@@ -56,7 +57,7 @@ mode_shown _ = mode.Read
 abbrev pub bytes_shown : ℕ → Act → List ℕ
 bytes_shown len (act.Put out at bytes) = bytes
 bytes_shown len (act.Push out bytes) = bytes
-bytes_shown len _ = if nat_le len 4096 then replicate len 0 else []
+bytes_shown len _ = if nat_le len transfer_limit then replicate len 0 else []
 
 abbrev pub size_shown : Act → ℕ
 size_shown (act.Cut out size) = size

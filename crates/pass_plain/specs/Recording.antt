@@ -12,6 +12,7 @@ use Rattle.pass_entry.specs.declared.objects.Kind.TheVariants as kind
 use Rattle.pass_entry.specs.declared.objects.Node.{Node}
 use Rattle.pass_entry.specs.declared.record.Record.{Record}
 use Rattle.pass_entry.specs.declared.record.Record.TheVariants as log
+use Rattle.pass_entry.specs.Limits as limit
 use Rattle.pass_plain.specs.Histories.{is_fault, is_own, pnode_of}
 use Rattle.pass_plain.specs.Registries.{Names, registry_after}
 use Rattle.pass_plain.specs.States.{registry_of}
@@ -28,7 +29,7 @@ use Rattle.pass_plain.specs.declared.records.Walk.{Walk}
 
 -- how many blocks a file has at most
 unfoldable pub block_count : ℕ
-block_count = 1024
+block_count = limit.block_count
 
 -- a block that had a digest gets a new one, by the file's sizes before and after: its part of the file has another length
 abbrev pub is_resized : ℕ → ℕ → Bool → ℕ → Bool
@@ -142,8 +143,8 @@ pub record IsRecording (start : Start) (history : List Entry) (r : Recording) : 
 pub record IsWalk (start : Start) (history : List Entry) (w : Walk) : Type 0 where
   pub nodes : w.nodes.items ≡ nodes_of (session_of start 0) history
   pub recording : IsRecording start history w.recording
-  pub versions : (object : ℕ) → version_in (session_of start 0) (nodes_of (session_of start 0) history) object ≤ 2 ^ 48 + length history
+  pub versions : (object : ℕ) → version_in (session_of start 0) (nodes_of (session_of start 0) history) object ≤ limit.number_limit + length history
 
 -- each object begins with a version that a record can have
 abbrev pub HasVersions : Start → Type 0
-HasVersions start = (object : ℕ) → opening_version start object < 2 ^ 48
+HasVersions start = (object : ℕ) → opening_version start object < limit.number_limit

@@ -4,14 +4,14 @@ use Rattle.std.specs.List.{list_any}
 use Rattle.pass_entry.specs.declared.objects.Kind.{Kind}
 use Rattle.pass_entry.specs.declared.objects.Node.{Node}
 use Rattle.pass_entry.specs.Texts.{is_name}
+use Rattle.pass_entry.specs.Limits.{block_size, file_limit, kind_limit, number_limit}
 use Rattle.pass_plain.specs.declared.start.StartFile.{StartFile}
 use Rattle.pass_plain.specs.Sessions.{Session}
 use Rattle.pass_plain.specs.Registries.{opening_registry}
-use Rattle.pass_plain.specs.Processes.{file_limit}
 
 -- an opened version is one that a record can have
 abbrev pub IsVersion : ℕ → Type 0
-IsVersion version = (1 ≤ version) × (version < 2 ^ 48)
+IsVersion version = (1 ≤ version) × (version < number_limit)
 
 -- a file as an opening gives it: its size is that of its bytes and within the limit, its rows ascend and begin below the size,
 -- and what lies outside the blocks of its rows is zero
@@ -21,8 +21,8 @@ pub record IsSoundFile (file : StartFile) : Type 0 where
   pub sized : file.size ≡ length file.bytes.items
   pub limited : file.size ≤ file_limit
   pub ascending : (i j a b : ℕ) → slice_get file.rows.items i ≡ Some a → slice_get file.rows.items j ≡ Some b → i < j → a < b
-  pub within : (i block : ℕ) → slice_get file.rows.items i ≡ Some block → block * 4096 < file.size
-  pub zero : (at block byte : ℕ) → slice_get file.bytes.items at ≡ Some byte → block * 4096 ≤ at → at < (block + 1) * 4096
+  pub within : (i block : ℕ) → slice_get file.rows.items i ≡ Some block → block * block_size < file.size
+  pub zero : (at block byte : ℕ) → slice_get file.bytes.items at ≡ Some byte → block * block_size ≤ at → at < (block + 1) * block_size
       → list_any (λ b. b == block) file.rows.items ≡ false → byte ≡ 0
 
 -- the objects of the opening have numbers from 1 to the ceiling, each its own, files have names of their own,
@@ -35,7 +35,7 @@ pub record IsSound (session : Session) : Type 0 where
   pub apps : (i : ℕ) (app : Node) → slice_get session.start.apps.items i ≡ Some app → IsVersion app.version
   pub names : (i j : ℕ) (a b : StartFile) (name : List ℕ) → slice_get session.start.files.items i ≡ Some a
       → slice_get session.start.files.items j ≡ Some b → a.name ≡ Some name → b.name ≡ Some name → i ≡ j
-  pub file_count : length session.start.files.items ≤ 1024
-  pub app_count : length session.start.apps.items ≤ 1024
+  pub file_count : length session.start.files.items ≤ kind_limit
+  pub app_count : length session.start.apps.items ≤ kind_limit
   pub some : 1 ≤ session.objects
-  pub room : session.start.ceiling + session.objects < 2 ^ 48
+  pub room : session.start.ceiling + session.objects < number_limit

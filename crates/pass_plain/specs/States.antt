@@ -12,6 +12,7 @@ use Rattle.pass_plain.specs.Replies.{minted, found, done_if, is_app_object, take
 use Rattle.pass_plain.specs.declared.replies.Holder.{Holder}
 use Rattle.pass_plain.specs.declared.replies.Holder.TheVariants as holder
 use Rattle.pass_entry.specs.declared.entry.Entry.{Entry}
+use Rattle.pass_entry.specs.Limits.{transfer_limit}
 use Rattle.pass_plain.specs.Histories.{call_entries, is_own}
 use Rattle.pass_plain.specs.Sessions.{Session}
 use Rattle.pass_plain.specs.Sound.{IsSound}
@@ -131,8 +132,8 @@ holder_of _ = holder.Nothing
 
 -- the act asks for as many bytes as one entry may give
 abbrev pub AsksFew : Act → Type 0
-AsksFew (act.Give at len) = len ≤ 4096
-AsksFew (act.Take len) = len ≤ 4096
+AsksFew (act.Give at len) = len ≤ transfer_limit
+AsksFew (act.Take len) = len ≤ transfer_limit
 AsksFew _ = Unit {0}
 
 -- a process that is not the outside may make an entry of this number

@@ -1,5 +1,6 @@
 //! The calls of a process in a history.
 ghost use Rattle.std.specs.Prelude.{◌≡◌, ◌<◌, ◌≤◌, ◌+◌, ◌^◌, ◌||◌, IfOk, OnOk, ◌++◌, ◌∷◌, length, List, [], ℕ, true, false, IsTrue, ◌↔◌};
+ghost use Rattle.pass_entry.specs.Limits.{transfer_limit};
 ghost use Rattle.pass_entry.specs.declared.entry.Entry.{Entry as AnyEntry};
 ghost use Rattle.pass_plain.specs.Histories.{own_step};
 ghost use Rattle.pass_plain.specs.Processes.{Process, process_act, Gains, AllBelow64, OffsetsFit, begins as begins_of};
@@ -99,7 +100,7 @@ fn begins(who: Pnode, e: &Entry) -> bool
 /// The bytes that an act gains from the entry that it names.
 fn gained_by<'a>(past: &'a [Entry], act: &Act) -> &'a [u8]
     ensures bytes { Gains past.now act.now result.now }
-    ensures short { length result.now ≤ 4096 }
+    ensures short { length result.now ≤ transfer_limit }
 {
     match act {
         Act::Gain { out, .. } => match past.get(*out as usize) {

@@ -11,18 +11,15 @@ ghost use Rattle.pass_plain.specs.Recording.{is_resized as is_resized_of, is_dig
 use crate::file::{apply, opened_file, opening_content};
 use crate::start::{Start, StartFile};
 use md5::{Digest, Md5};
-use pass_entry::{Act, Entry, Pnode, Record};
+use pass_entry::{Act, BLOCK_COUNT, BLOCK_SIZE, Entry, Pnode, Record};
 use std::alloc::{AllocError, Global};
 use std::collections::BTreeMap;
-
-/// Bytes of a block.
-const BLOCK: u64 = 4096;
 
 /// How many blocks a file has at most.
 fn block_count() -> u32
     ensures { result ≡ block_count_of }
 {
-    1024
+    BLOCK_COUNT
 }
 
 /// The content of a file, and for each of its blocks, from the first on, whether it has a digest.
@@ -36,8 +33,8 @@ pub struct Content {
 fn touches(at: u64, len: usize, block: u32) -> bool
     ensures { result ≡ touches_of at len block }
 {
-    let begin = u64::from(block) * BLOCK;
-    len > 0 && begin < at.saturating_add(len as u64) && at < begin + BLOCK
+    let begin = u64::from(block) * BLOCK_SIZE;
+    len > 0 && begin < at.saturating_add(len as u64) && at < begin + BLOCK_SIZE
 }
 
 fn is_written(act: &Act, block: u32) -> bool
@@ -53,15 +50,16 @@ fn is_written(act: &Act, block: u32) -> bool
 fn range_len(size: usize, block: u32) -> u64
     ensures { result ≡ range_len_of size block }
 {
-    let begin = u64::from(block) * BLOCK;
-    (size as u64).min(begin + BLOCK).saturating_sub(begin)
+    let begin = u64::from(block) * BLOCK_SIZE;
+    (size as u64).min(begin + BLOCK_SIZE).saturating_sub(begin)
 }
 
 /// A block that had a digest gets a new one, by the file's sizes before and after: its part of the file has another length.
 fn is_resized(old: usize, new: usize, had: bool, block: u32) -> bool
     ensures { result ≡ is_resized_of old new had block }
 {
-    had && u64::from(block) * BLOCK < new as u64 && range_len(old, block) != range_len(new, block)
+    had && u64::from(block) * BLOCK_SIZE < new as u64
+        && range_len(old, block) != range_len(new, block)
 }
 
 /// The block gets a digest at an act.
@@ -86,7 +84,11 @@ fn part(content: &[u8], at: usize, len: usize) -> &[u8]
 pub fn bytes_in(content: &[u8], block: u32) -> &[u8]
     ensures { result.now ≡ take block_size (drop (block * block_size) content.now) }
 {
-    part(content, block as usize * BLOCK as usize, BLOCK as usize)
+    part(
+        content,
+        block as usize * BLOCK_SIZE as usize,
+        BLOCK_SIZE as usize,
+    )
 }
 
 fn digest_of(file: Pnode, content: &[u8], block: u32) -> Record
@@ -125,7 +127,7 @@ fn row_after(block: u32, had: bool, act: &Act) -> bool
 {
     match act {
         Act::Put { at, bytes, .. } => had || touches(*at, bytes.as_bytes().len(), block),
-        Act::Cut { size, .. } => had && u64::from(block) * BLOCK < *size,
+        Act::Cut { size, .. } => had && u64::from(block) * BLOCK_SIZE < *size,
         _ => had,
     }
 }

@@ -1,5 +1,6 @@
 //! The content of a file.
 ghost use Rattle.std.specs.Prelude.{◌≡◌, ◌≤◌, ◌+◌, ◌++◌, IfOk, OnOk, length, take, drop, option_copied};
+ghost use Rattle.pass_entry.specs.Limits.{transfer_limit};
 ghost use Rattle.pass_plain.specs.Sessions.{opening_bytes, opened_file as opened_file_of};
 ghost use Rattle.pass_plain.specs.Files.{extended, written, resized, file_act};
 ghost use Rattle.pass_plain.specs.Recording.{bytes_after};
@@ -104,7 +105,7 @@ pub fn content_after(
 }
 
 fn bytes_of(alloc: Global, bytes: &[u8]) -> Result<Bytes, AllocError>
-    requires { length bytes.now ≤ 4096 }
+    requires { length bytes.now ≤ transfer_limit }
     ensures { IfOk result (λ b. b ≡ bytes.now) }
 {
     match Bytes::of(alloc, bytes) {
@@ -115,7 +116,7 @@ fn bytes_of(alloc: Global, bytes: &[u8]) -> Result<Bytes, AllocError>
 
 /// The bytes of a content from a place, at most so many.
 pub fn bytes_from(alloc: Global, content: &[u8], at: u64, len: u32) -> Result<Bytes, AllocError>
-    requires { len ≤ 4096 }
+    requires { len ≤ transfer_limit }
     ensures { IfOk result (λ b. b ≡ take len (drop at content.now)) }
 {
     if at >= content.len() as u64 {

@@ -1,5 +1,6 @@
 //! What may come next after a history, from the states that are kept of it.
 ghost use Rattle.std.specs.Prelude.{◌≡◌, ◌<◌, ◌+◌, ◌^◌, ℕ, IfOk, IfSome, Some, IsTrue, ◌↔◌};
+ghost use Rattle.pass_entry.specs.Limits.{number_limit};
 ghost use Rattle.pass_entry.specs.declared.entry.Reply.{Reply as AnyReply};
 ghost use Rattle.pass_plain.specs.Files.{file_after};
 ghost use Rattle.pass_plain.specs.Legal.{session_of, CallerAllows, MayFollow};
@@ -29,7 +30,7 @@ impl StateCache {
         history: &[Entry],
         act: &Act,
     ) -> Result<Reply, AllocError>
-        requires room { start.now.ceiling + objects < 2 ^ 48 }
+        requires room { start.now.ceiling + objects < number_limit }
         requires kept { AreCached start.now history.now self.now }
         ensures { IfOk result (λ r. r ≡ registry_reply_of (session_of start.now objects) (registry_after (session_of start.now objects) history.now) act.now) }
     {

@@ -1,5 +1,6 @@
 //! Which step of a call may come next.
 ghost use Rattle.std.specs.Prelude.{◌≡◌, ◌+◌, ◌≤◌, ◌<◌, ◌↔◌, [], ◌∷◌, ◌++◌, ℕ, IfOk, IsTrue, Some, true, length, map, replicate, slice_get, take};
+ghost use Rattle.pass_entry.specs.Limits.{transfer_limit};
 ghost use Rattle.pass_entry.specs.declared.entry.Entry.{Entry as AnyEntry};
 ghost use Rattle.pass_plain.specs.Calls.{act_on};
 ghost use Rattle.pass_plain.specs.Legal.{IsNextStep, step_of};
@@ -9,7 +10,7 @@ use crate::equality::same_act;
 use crate::process::ProcessState;
 use crate::request::Request;
 use crate::steps::{Step, call_steps};
-use pass_entry::{Act, Ask, Bytes, CallName, Entry, Mode, Pnode, Text};
+use pass_entry::{Act, Ask, Bytes, CallName, Entry, Mode, Pnode, TRANSFER_LIMIT, Text};
 use std::alloc::{AllocError, Global};
 
 /// Some call of this name asks this of its process.
@@ -24,7 +25,8 @@ fn asks(call: CallName, ask: &Ask) -> bool
             matches!(ask, Ask::Held { fd } if *fd < 64)
         }
         CallName::Read => matches!(ask, Ask::ToRead { fd } if *fd < 64),
-        CallName::Write => matches!(ask, Ask::ToWrite { fd, len } if *fd < 64 && *len <= 4096),
+        CallName::Write =>
+            matches!(ask, Ask::ToWrite { fd, len } if *fd < 64 && *len as usize <= TRANSFER_LIMIT),
         CallName::Seek => matches!(ask, Ask::ToSeek { fd, .. } if *fd < 64),
         CallName::Truncate => matches!(ask, Ask::ToCut { fd, .. } if *fd < 64),
         CallName::MakePipe => {
@@ -82,7 +84,7 @@ fn mode_shown(last: &Act) -> Mode
 
 /// So many zero bytes.
 fn zeros(alloc: Global, len: usize) -> Result<Bytes, AllocError>
-    requires { len ≤ 4096 }
+    requires { len ≤ transfer_limit }
     ensures { IfOk result (λ b. b ≡ replicate len 0) }
 {
     let items: Vec<u8> = vec![in alloc; 0; len]?;
@@ -97,7 +99,7 @@ fn bytes_shown(alloc: Global, len: u32, last: &Act) -> Result<Bytes, AllocError>
         Act::Put { bytes, .. } => bytes.clone(),
         Act::Push { bytes, .. } => bytes.clone(),
         _ => {
-            if len <= 4096 {
+            if len as usize <= TRANSFER_LIMIT {
                 zeros(alloc, len as usize)
             } else {
                 zeros(alloc, 0)

@@ -3,16 +3,14 @@ ghost use Rattle.std.specs.Prelude.{◌≡◌, ◌<◌, ◌≤◌, ◌+◌, ◌^
 ghost use Rattle.pass_entry.specs.declared.entry.Ask.TheVariants as ask;
 ghost use Rattle.std.specs.FinMap as finite_map;
 ghost use Rattle.std.specs.FinSet as finite_set;
+ghost use Rattle.pass_entry.specs.Limits.{transfer_limit};
 ghost use Rattle.pass_entry.specs.declared.entry.Entry.{Entry};
 ghost use Rattle.pass_plain.specs.Processes.{new_process, process_act, changed_at, risen, OffsetsFit, AllBelow64, Gains, faults_if, is_held, pipe_end as pipe_end_of, refusal as refusal_of, is_file, file_limit};
 
-use pass_entry::{Act, Ask, CallFault, Descriptor, Descriptors, Kind, Mode, Pnode};
+use pass_entry::{Act, Ask, CallFault, Descriptor, Descriptors, FILE_LIMIT, Kind, Mode, Pnode};
 use std::alloc::{AllocError, Global};
 use std::collections::BTreeSet;
 use std::marker::Model;
-
-/// The most bytes that a file has.
-pub const FILE_LIMIT: u64 = 4_194_304;
 
 /// What a process has become by the entries on it.
 #[derive(Drop)]
@@ -176,7 +174,7 @@ impl ProcessState {
     /// `Gain` gains, and nothing for another act. After a refusal nothing has changed.
     pub fn apply(&mut self, alloc: Global, act: &Act, gained: &[u8]) -> Result<(), AllocError>
         requires offsets { OffsetsFit self.old.descriptors }
-        requires short { length gained.now ≤ 4096 }
+        requires short { length gained.now ≤ transfer_limit }
         requires numbers { AllBelow64 act.now }
         ensures ok { OnOk result ((past : List Entry) → Gains past act.now gained.now → self.new ≡ process_act past self.old act.now) }
         ensures err { OnErr result (self.new ≡ self.old) }

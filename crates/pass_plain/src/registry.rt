@@ -1,6 +1,7 @@
 //! The names and objects of a store.
 ghost use Rattle.std.specs.Prelude.{◌≡◌, ◌<◌, ◌≤◌, ◌+◌, ◌^◌, ◌++◌, OnOk, IfOk, map, length, count_by, false, take, ◌==◌, ◌&&◌};
 ghost use Rattle.std.specs.List.{list_any};
+ghost use Rattle.pass_entry.specs.Limits.{number_limit};
 ghost use Rattle.pass_entry.specs.declared.objects.Kind.TheVariants as kind_of;
 ghost use Rattle.pass_plain.specs.declared.start.Start.{Start as AnyStart};
 ghost use Rattle.pass_plain.specs.Histories.{is_fault as is_fault_of, is_own as is_own_of, pnode_of as pnode_in};
@@ -11,7 +12,7 @@ ghost use Rattle.pass_plain.specs.States.{registry_of, registry_step, IsRegistry
 
 use crate::names::Names;
 use crate::start::{Start, StartFile};
-use pass_entry::{Act, CallFault, Entry, Kind, Node, Pnode, Reply};
+use pass_entry::{Act, CallFault, Entry, KIND_LIMIT, Kind, Node, Pnode, Reply};
 use std::alloc::{AllocError, Global};
 
 /// The registry of a store after some entries: the files' names, the objects in the order in which they were made, and how
@@ -179,14 +180,14 @@ impl RegistryState {
             return true;
         }
         match kind {
-            Kind::File | Kind::App => self.count(kind) >= 1024,
+            Kind::File | Kind::App => self.count(kind) >= KIND_LIMIT as usize,
             _ => false,
         }
     }
 
     /// The answer to the making of an object: its number, or that there are too many.
     pub fn minted(&self, start: &Start, objects: u32, kind: Kind) -> Reply
-        requires { start.now.ceiling + objects < 2 ^ 48 }
+        requires { start.now.ceiling + objects < number_limit }
         ensures { result ≡ minted_of (session_of start.now objects) (registry_of self.now) kind }
     {
         if self.is_full(objects, kind) {

@@ -1,5 +1,6 @@
 //! What an object answers to an act, from its state.
 ghost use Rattle.std.specs.Prelude.{◌≡◌, ◌<◌, ◌≤◌, ◌+◌, ◌^◌, IfOk, Some, take};
+ghost use Rattle.pass_entry.specs.Limits.{number_limit, transfer_limit};
 ghost use Rattle.pass_entry.specs.declared.entry.Reply.TheVariants as answer;
 ghost use Rattle.pass_plain.specs.Legal.{session_of};
 ghost use Rattle.pass_plain.specs.Replies.{found as found_of, done_if as done_if_of, taken as taken_of, pushed as pushed_of};
@@ -10,11 +11,8 @@ use crate::pipe::PipeState;
 use crate::process::ProcessState;
 use crate::registry::RegistryState;
 use crate::start::Start;
-use pass_entry::{Act, CallFault, Kind, Pnode, Reply};
+use pass_entry::{Act, CallFault, Kind, PIPE_CAPACITY, Pnode, Reply};
 use std::alloc::{AllocError, Global};
-
-/// Bytes that a pipe holds.
-const CAPACITY: usize = 65_536;
 
 /// Whose state the answer to an act is read from.
 #[derive(Clone, Copy)]
@@ -64,7 +62,7 @@ fn done_if(done: bool, fault: CallFault) -> Reply
 
 /// What the registry of a session that may make so many objects answers.
 pub fn registry_reply(registry: &RegistryState, start: &Start, objects: u32, act: &Act) -> Reply
-    requires { start.now.ceiling + objects < 2 ^ 48 }
+    requires { start.now.ceiling + objects < number_limit }
     ensures { result ≡ registry_reply_of (session_of start.now objects) (registry_of registry.now) act.now }
 {
     match act {
@@ -102,7 +100,7 @@ pub fn file_reply(alloc: Global, content: &[u8], act: &Act) -> Result<Reply, All
 }
 
 fn taken(alloc: Global, pipe: &PipeState, len: u32) -> Result<Option<Reply>, AllocError>
-    requires { len ≤ 4096 }
+    requires { len ≤ transfer_limit }
     ensures { IfOk result (λ r. r ≡ taken_of (pipe_of pipe.now) len) }
 {
     if pipe.bytes.is_empty() && pipe.writers > 0 {
@@ -117,7 +115,7 @@ fn pushed(pipe: &PipeState, len: usize) -> Option<Reply>
 {
     if pipe.readers == 0 {
         Some(Reply::Fault(CallFault::BrokenPipe))
-    } else if CAPACITY.saturating_sub(pipe.bytes.len()) < len {
+    } else if PIPE_CAPACITY.saturating_sub(pipe.bytes.len()) < len {
         None
     } else {
         Some(Reply::Done)

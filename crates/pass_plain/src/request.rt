@@ -2,7 +2,7 @@
 ghost use Rattle.std.specs.Prelude.{◌≡◌};
 ghost use Rattle.pass_plain.specs.Calls.{name_of, is_within as is_within_of, ask_of};
 
-use pass_entry::{Ask, Bytes, CallName, Mode, Pnode, Text};
+use pass_entry::{Ask, Bytes, CallName, Mode, Pnode, TRANSFER_LIMIT, Text};
 use std::alloc::AllocError;
 
 /// A call that a process makes, with its arguments. Descriptors are numbers below 64, offsets and sizes are bytes.
@@ -63,7 +63,7 @@ impl Request {
         }
     }
 
-    /// The arguments are within their limits: descriptors below 64, reads of 1 to 4,096 bytes,
+    /// The arguments are within their limits: descriptors below 64, reads of at least one byte,
     /// names that are names. Arguments of a program are a text, and so within theirs.
     pub fn is_within(&self) -> bool
         ensures { result ≡ is_within_of self.now }
@@ -74,8 +74,8 @@ impl Request {
             Request::OpenName { fd, name, mode } => {
                 *fd < 64 && name.is_name() && *mode != Mode::App
             }
-            Request::Read { fd, len } => *fd < 64 && 1 <= *len && *len <= 4096,
-            Request::Write { fd, bytes } => *fd < 64 && bytes.as_bytes().len() <= 4096,
+            Request::Read { fd, len } => *fd < 64 && 1 <= *len && *len as usize <= TRANSFER_LIMIT,
+            Request::Write { fd, bytes } => *fd < 64 && bytes.as_bytes().len() <= TRANSFER_LIMIT,
             Request::MakePipe { reader, writer } => *reader < 64 && *writer < 64,
             Request::Exec { name, args } => {
                 let _line = args.as_bytes();

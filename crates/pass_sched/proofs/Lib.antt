@@ -1,6 +1,5 @@
-pub mod Fairness
 pub mod JobLists
 pub mod Perms
 pub mod Plays
-pub mod Results
 pub mod Underway
+pub mod Results

@@ -1,5 +1,4 @@
 pub mod Heaps
 pub mod Jobs
 pub mod Passes
-pub mod Shared
 pub mod Turns

@@ -5,32 +5,32 @@ ghost use Rattle.pass_sched.specs.Heaps.{tasks_of};
 ghost use Rattle.std.specs.List.Sorted.{IsNonDecreasingBy};
 ghost use Rattle.pass_sched.specs.Passes.{Run, IsUnderway, IsPass, end_of, room_of};
 
+use crate::outcome::Outcome;
 use crate::pass::{PassEnd, Passed, answer, refused};
 use crate::play::play;
 use crate::ranked::Ranked;
 use crate::room::room_for;
-use crate::tally::Tally;
 use crate::task::Task;
 use std::alloc::{AllocError, Global};
 use std::collections::BinaryHeap;
 
 /// What a pass on one thread works with: who waits, who is through, and room for the children of one task.
 #[derive(Drop)]
-pub struct Desk<T: Task> {
+pub struct Bench<T: Task> {
     pub pending: BinaryHeap<Ranked<T>>,
     pub done: Vec<T>,
     pub born: Vec<T>,
 }
 
 /// Takes the room for so many tasks.
-pub fn lay<T: Task>(alloc: Global, room: usize) -> Result<Desk<T>, AllocError>
-    ensures empty { IfOk result (λ desk. (tasks_of desk.pending ≡ []) × (heap_len desk.pending ≡ 0) × (desk.done.items ≡ []) × (vec_len desk.born ≡ 0)) }
-    ensures room { IfOk result (λ desk. (room ≤ heap_capacity desk.pending) × (room ≤ vec_capacity desk.done) × (room ≤ vec_capacity desk.born)) }
+pub fn lay<T: Task>(alloc: Global, room: usize) -> Result<Bench<T>, AllocError>
+    ensures empty { IfOk result (λ bench. (tasks_of bench.pending ≡ []) × (heap_len bench.pending ≡ 0) × (bench.done.items ≡ []) × (vec_len bench.born ≡ 0)) }
+    ensures room { IfOk result (λ bench. (room ≤ heap_capacity bench.pending) × (room ≤ vec_capacity bench.done) × (room ≤ vec_capacity bench.born)) }
 {
     let pending = BinaryHeap::with_capacity(alloc, room)?;
     let done = Vec::with_capacity(alloc, room)?;
     let born = Vec::with_capacity(alloc, room)?;
-    Ok(Desk {
+    Ok(Bench {
         pending,
         done,
         born,
@@ -71,59 +71,59 @@ fn sort_out<T: Task>(
 }
 
 /// Lets a living task take its turns, and sorts out what it bears.
-fn take_turns<T: Task>(mut task: T, desk: &mut Desk<T>, tally: &mut Tally)
+fn take_turns<T: Task>(mut task: T, bench: &mut Bench<T>, outcome: &mut Outcome)
     requires living { 0 < T.left task }
-    requires empty { vec_len desk.old.born ≡ 0 }
-    requires born { T.left task ≤ vec_capacity desk.old.born }
-    requires done { vec_len desk.old.done + T.left task ≤ vec_capacity desk.old.done }
-    requires pending { heap_len desk.old.pending + T.left task ≤ heap_capacity desk.old.pending }
-    ensures empty { vec_len desk.new.born ≡ 0 }
-    ensures born { vec_capacity desk.old.born ≤ vec_capacity desk.new.born }
-    ensures done { vec_capacity desk.old.done ≤ vec_capacity desk.new.done }
-    ensures pending { heap_capacity desk.old.pending ≤ heap_capacity desk.new.pending }
-    ensures room { vec_len desk.new.done + sum_by (room_of T.Task) (tasks_of desk.new.pending) ≤ vec_len desk.old.done + T.left task + sum_by (room_of T.Task) (tasks_of desk.old.pending) }
-    ensures falls { sum_by (room_of T.Task) (tasks_of desk.new.pending) < T.left task + sum_by (room_of T.Task) (tasks_of desk.old.pending) }
-    ensures kept { (given : List T) (runs : List (Run T)) → IsUnderway T.Task true given runs (task ∷ tasks_of desk.old.pending) desk.old.done.items tally.old.failed tally.old.moved → (run : Run T) × IsUnderway T.Task true given (run ∷ runs) (tasks_of desk.new.pending) desk.new.done.items tally.new.failed tally.new.moved }
+    requires empty { vec_len bench.old.born ≡ 0 }
+    requires born { T.left task ≤ vec_capacity bench.old.born }
+    requires done { vec_len bench.old.done + T.left task ≤ vec_capacity bench.old.done }
+    requires pending { heap_len bench.old.pending + T.left task ≤ heap_capacity bench.old.pending }
+    ensures empty { vec_len bench.new.born ≡ 0 }
+    ensures born { vec_capacity bench.old.born ≤ vec_capacity bench.new.born }
+    ensures done { vec_capacity bench.old.done ≤ vec_capacity bench.new.done }
+    ensures pending { heap_capacity bench.old.pending ≤ heap_capacity bench.new.pending }
+    ensures room { vec_len bench.new.done + sum_by (room_of T.Task) (tasks_of bench.new.pending) ≤ vec_len bench.old.done + T.left task + sum_by (room_of T.Task) (tasks_of bench.old.pending) }
+    ensures falls { sum_by (room_of T.Task) (tasks_of bench.new.pending) < T.left task + sum_by (room_of T.Task) (tasks_of bench.old.pending) }
+    ensures kept { (given : List T) (runs : List (Run T)) → IsUnderway T.Task true given runs (task ∷ tasks_of bench.old.pending) bench.old.done.items outcome.old.failed outcome.old.moved → (run : Run T) × IsUnderway T.Task true given (run ∷ runs) (tasks_of bench.new.pending) bench.new.done.items outcome.new.failed outcome.new.moved }
 {
     let had = task.left();
     let above = task.order();
-    play(&mut task, &mut desk.born);
-    tally.note(had, &task);
-    sort_out(above, &mut desk.born, &mut desk.pending, &mut desk.done);
-    desk.done.push_reserved(task);
+    play(&mut task, &mut bench.born);
+    outcome.note(had, &task);
+    sort_out(above, &mut bench.born, &mut bench.pending, &mut bench.done);
+    bench.done.push_reserved(task);
 }
 
 /// Lets a task take its part in the pass. One that had ended is through as it is.
-fn take_part<T: Task>(task: T, desk: &mut Desk<T>, tally: &mut Tally)
-    requires empty { vec_len desk.old.born ≡ 0 }
-    requires born { room_of T.Task task ≤ vec_capacity desk.old.born }
-    requires done { vec_len desk.old.done + room_of T.Task task ≤ vec_capacity desk.old.done }
-    requires pending { heap_len desk.old.pending + room_of T.Task task ≤ heap_capacity desk.old.pending }
-    ensures empty { vec_len desk.new.born ≡ 0 }
-    ensures born { vec_capacity desk.old.born ≤ vec_capacity desk.new.born }
-    ensures done { vec_capacity desk.old.done ≤ vec_capacity desk.new.done }
-    ensures pending { heap_capacity desk.old.pending ≤ heap_capacity desk.new.pending }
-    ensures room { vec_len desk.new.done + sum_by (room_of T.Task) (tasks_of desk.new.pending) ≤ vec_len desk.old.done + room_of T.Task task + sum_by (room_of T.Task) (tasks_of desk.old.pending) }
-    ensures falls { sum_by (room_of T.Task) (tasks_of desk.new.pending) < room_of T.Task task + sum_by (room_of T.Task) (tasks_of desk.old.pending) }
-    ensures kept { (given : List T) (runs : List (Run T)) → IsUnderway T.Task true given runs (task ∷ tasks_of desk.old.pending) desk.old.done.items tally.old.failed tally.old.moved → (run : Run T) × IsUnderway T.Task true given (run ∷ runs) (tasks_of desk.new.pending) desk.new.done.items tally.new.failed tally.new.moved }
+fn take_part<T: Task>(task: T, bench: &mut Bench<T>, outcome: &mut Outcome)
+    requires empty { vec_len bench.old.born ≡ 0 }
+    requires born { room_of T.Task task ≤ vec_capacity bench.old.born }
+    requires done { vec_len bench.old.done + room_of T.Task task ≤ vec_capacity bench.old.done }
+    requires pending { heap_len bench.old.pending + room_of T.Task task ≤ heap_capacity bench.old.pending }
+    ensures empty { vec_len bench.new.born ≡ 0 }
+    ensures born { vec_capacity bench.old.born ≤ vec_capacity bench.new.born }
+    ensures done { vec_capacity bench.old.done ≤ vec_capacity bench.new.done }
+    ensures pending { heap_capacity bench.old.pending ≤ heap_capacity bench.new.pending }
+    ensures room { vec_len bench.new.done + sum_by (room_of T.Task) (tasks_of bench.new.pending) ≤ vec_len bench.old.done + room_of T.Task task + sum_by (room_of T.Task) (tasks_of bench.old.pending) }
+    ensures falls { sum_by (room_of T.Task) (tasks_of bench.new.pending) < room_of T.Task task + sum_by (room_of T.Task) (tasks_of bench.old.pending) }
+    ensures kept { (given : List T) (runs : List (Run T)) → IsUnderway T.Task true given runs (task ∷ tasks_of bench.old.pending) bench.old.done.items outcome.old.failed outcome.old.moved → (run : Run T) × IsUnderway T.Task true given (run ∷ runs) (tasks_of bench.new.pending) bench.new.done.items outcome.new.failed outcome.new.moved }
 {
     if task.left() == 0 {
-        desk.done.push_reserved(task);
+        bench.done.push_reserved(task);
     } else {
-        take_turns(task, desk, tally);
+        take_turns(task, bench, outcome);
     }
 }
 
 /// Lets all tasks that wait take their part, the least order first.
-fn play_all<T: Task>(desk: &mut Desk<T>, tally: &mut Tally)
-    requires empty { vec_len desk.old.born ≡ 0 }
-    requires born { sum_by (room_of T.Task) (tasks_of desk.old.pending) ≤ vec_capacity desk.old.born }
-    requires done { vec_len desk.old.done + sum_by (room_of T.Task) (tasks_of desk.old.pending) ≤ vec_capacity desk.old.done }
-    requires pending { sum_by (room_of T.Task) (tasks_of desk.old.pending) ≤ heap_capacity desk.old.pending }
-    ensures { (given : List T) (runs : List (Run T)) → IsUnderway T.Task true given runs (tasks_of desk.old.pending) desk.old.done.items tally.old.failed tally.old.moved → (all : List (Run T)) × IsUnderway T.Task true given all [] desk.new.done.items tally.new.failed tally.new.moved }
+fn play_all<T: Task>(bench: &mut Bench<T>, outcome: &mut Outcome)
+    requires empty { vec_len bench.old.born ≡ 0 }
+    requires born { sum_by (room_of T.Task) (tasks_of bench.old.pending) ≤ vec_capacity bench.old.born }
+    requires done { vec_len bench.old.done + sum_by (room_of T.Task) (tasks_of bench.old.pending) ≤ vec_capacity bench.old.done }
+    requires pending { sum_by (room_of T.Task) (tasks_of bench.old.pending) ≤ heap_capacity bench.old.pending }
+    ensures { (given : List T) (runs : List (Run T)) → IsUnderway T.Task true given runs (tasks_of bench.old.pending) bench.old.done.items outcome.old.failed outcome.old.moved → (all : List (Run T)) × IsUnderway T.Task true given all [] bench.new.done.items outcome.new.failed outcome.new.moved }
 {
-    while let Some(Ranked { task }) = desk.pending.pop() {
-        take_part(task, desk, tally);
+    while let Some(Ranked { task }) = bench.pending.pop() {
+        take_part(task, bench, outcome);
     }
 }
 
@@ -148,11 +148,11 @@ pub fn pass_alone<T: Task>(alloc: Global, tasks: Vec<T>) -> Passed<T>
     let Some(room) = room_for(tasks.as_slice()) else {
         return refused(tasks);
     };
-    let Ok(mut desk) = lay(alloc, room) else {
+    let Ok(mut bench) = lay(alloc, room) else {
         return refused(tasks);
     };
-    seat_all(tasks, &mut desk.pending);
-    let mut tally = Tally::new();
-    play_all(&mut desk, &mut tally);
-    answer(desk.done, tally)
+    seat_all(tasks, &mut bench.pending);
+    let mut outcome = Outcome::new();
+    play_all(&mut bench, &mut outcome);
+    answer(bench.done, outcome)
 }

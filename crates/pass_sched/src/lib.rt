@@ -2,18 +2,14 @@
 #![tactic(auto)]
 
 mod alone;
-mod crew;
 mod job;
+mod outcome;
 mod pass;
 mod play;
 mod ranked;
 mod room;
 mod spread;
-mod tally;
 mod task;
-#[cfg(test)]
-mod tests;
-mod todo;
 
 ghost use Rattle.std.specs.Prelude.{◌≡◌, ◌≢◌, ◌≤◌, List, IsPermutation, nat_eq};
 ghost use Rattle.std.specs.List.Sorted.{IsNonDecreasingBy};
@@ -30,7 +26,7 @@ pub use task::{Task, Turn};
 /// Makes one pass over all tasks. Each living task takes turns until it waits, ends or fails.
 ///
 /// With one worker the pass is made on the caller's thread, the task of the least order first, and a child whose order is above its
-/// parent's takes part in it. With more, each worker takes the next task as soon as it is free, and children take part from the next pass on.
+/// parent's takes part in it. With more, each worker has its share of the living tasks, and children take part from the next pass on.
 /// Room for all children is taken before the first turn, and `NoMemory` comes only there.
 pub fn run_all<R: Threads + Wait + Sync, T: Task + Send>(
     rt: &R,

@@ -4,7 +4,7 @@ ghost use Rattle.std.specs.List.{list_all};
 ghost use Rattle.std.specs.List.Sorted.{IsNonDecreasingBy};
 ghost use Rattle.pass_sched.specs.Passes.{has_ended, end_by};
 
-use crate::tally::Tally;
+use crate::outcome::Outcome;
 use crate::task::Task;
 
 /// How a pass ended: the first of these that applies, in the order of `NoMemory`, `OneFailed`, `AllEnded`, `AllWaiting`, `GoOn`.
@@ -39,13 +39,13 @@ pub fn in_order<T: Task>(mut tasks: Vec<T>) -> Vec<T>
 }
 
 /// The answer of a pass that was made.
-pub fn answer<T: Task>(tasks: Vec<T>, tally: Tally) -> Passed<T>
+pub fn answer<T: Task>(tasks: Vec<T>, outcome: Outcome) -> Passed<T>
     ensures same { IsPermutation tasks.items result.tasks.items }
     ensures ascending { IsNonDecreasingBy T.order result.tasks.items }
-    ensures end { result.end ≡ end_by tally.failed (list_all (has_ended T.Task) result.tasks.items) tally.moved }
+    ensures end { result.end ≡ end_by outcome.failed (list_all (has_ended T.Task) result.tasks.items) outcome.moved }
 {
     let tasks = in_order(tasks);
-    let end = tally.end(tasks.as_slice());
+    let end = outcome.end(tasks.as_slice());
     Passed { tasks, end }
 }
 

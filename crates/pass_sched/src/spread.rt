@@ -1,189 +1,145 @@
 //! A pass of several workers.
-ghost use Rattle.std.specs.Prelude.{◌≡◌, ◌≢◌, ◌+◌, ◌≤◌, ◌<◌, [], ◌∷◌, ◌++◌, List, true, false, length, sum_by, max, All, IfOk, IsTrue, IsPermutation, vec_len, vec_capacity};
+ghost use Rattle.std.specs.Prelude.{◌≡◌, ◌≢◌, ◌+◌, ◌≤◌, ◌<◌, [], ◌∷◌, ◌++◌, List, false, sum_by, All, IfOk, IsTrue, IsPermutation, vec_len, vec_capacity};
 ghost use Rattle.std.specs.List.Sorted.{IsNonDecreasingBy};
-ghost use Rattle.crossbeam_queue.specs.Passes.{view, IsPassOf, ruled_capacity};
-ghost use Rattle.pass_sched.specs.Jobs.{HasRoom, IsDone, tasks_in, were, dones_of, size_of};
-ghost use Rattle.pass_sched.specs.Shared.{hand};
+ghost use Rattle.pass_sched.specs.Jobs.{IsFit, IsDone, tasks_in, were, size_of};
 ghost use Rattle.pass_sched.specs.Passes.{Run, IsUnderway, IsPass, end_of, room_of};
 
-use crate::crew::{crew, finish};
-use crate::job::{Done, Job};
+use crate::job::{Job, play_job};
+use crate::outcome::Outcome;
 use crate::pass::{PassEnd, Passed, answer, refused};
 use crate::room::room_for;
-use crate::tally::Tally;
 use crate::task::Task;
-use crate::todo::{Puts, Ticket, Todo};
 use std::alloc::{AllocError, Global};
-use std::sync::Wait;
-use std::thread::Threads;
+use std::snapshot::Snapshot;
+use std::thread::{Threads, for_each_mut};
 
-/// What a pass of several workers works with, but for the room for each task's children.
+/// What a pass of several workers works with: the living tasks, and those that are through.
 struct Hall<T: Task> {
     jobs: Vec<Job<T>>,
     through: Vec<T>,
-    rest: Vec<Done<T>>,
-    lists: Vec<Vec<Done<T>>>,
-    todo: Todo<T>,
-    ticket: Ticket<T>,
 }
 
-/// Takes that room, for so many tasks of which so many can come.
-fn open<T: Task>(
-    alloc: Global,
-    count: usize,
-    room: usize,
-    workers: usize,
-) -> Result<Hall<T>, AllocError>
-    ensures empty { IfOk result (λ hall. (hall.jobs.items ≡ []) × (hall.through.items ≡ []) × (hall.rest.items ≡ []) × (hall.lists.items ≡ [])) }
-    ensures room { IfOk result (λ hall. (count ≤ vec_capacity hall.jobs) × (room ≤ vec_capacity hall.through) × (count ≤ vec_capacity hall.rest) × (workers ≤ vec_capacity hall.lists)) }
-    ensures queue { IfOk result (λ hall. IsPassOf hall.todo hall.ticket × (view hall.ticket ≡ hand 64 [] []) × (count ≤ ruled_capacity hall.todo)) }
+/// Takes the room for so many tasks of which so many can come.
+fn open<T: Task>(alloc: Global, count: usize, room: usize) -> Result<Hall<T>, AllocError>
+    ensures empty { IfOk result (λ hall. (hall.jobs.items ≡ []) × (hall.through.items ≡ [])) }
+    ensures room { IfOk result (λ hall. (count ≤ vec_capacity hall.jobs) × (room ≤ vec_capacity hall.through)) }
 {
     let jobs = Vec::with_capacity(alloc, count)?;
     let through = Vec::with_capacity(alloc, room)?;
-    let rest = Vec::with_capacity(alloc, count)?;
-    let lists = Vec::with_capacity(alloc, workers)?;
-    let (todo, ticket) = Todo::ruled(alloc, count.max(1))?;
-    Ok(Hall {
-        jobs,
-        through,
-        rest,
-        lists,
-        todo,
-        ticket,
-    })
+    Ok(Hall { jobs, through })
 }
 
-/// A task with room for its children, and whether there was memory for it.
+/// A living task with room for its children, and whether there was memory for it.
 fn job_for<T: Task>(alloc: Global, task: T) -> (Job<T>, bool)
+    requires { 0 < T.left task }
     ensures task { result.0.task ≡ task }
-    ensures room { IsTrue result.1 → HasRoom T.Task result.0 }
+    ensures fit { IsTrue result.1 → IsFit T.Task result.0 }
 {
-    match Vec::with_capacity(alloc, task.left() as usize) {
-        Ok(born) => (Job { task, born }, true),
-        Err(_) => {
-            let born = Vec::new(alloc);
-            (Job { task, born }, false)
-        }
-    }
+    let was = Snapshot::of(&task);
+    let had = task.left();
+    let (born, fits) = match Vec::with_capacity(alloc, had as usize) {
+        Ok(born) => (born, true),
+        Err(_) => (Vec::new(alloc), false),
+    };
+    let job = Job {
+        was,
+        had,
+        task,
+        born,
+    };
+    (job, fits)
 }
 
-/// Makes a job of each task, and answers whether there was memory for all. The last task comes first.
-fn make_jobs<T: Task>(alloc: Global, mut tasks: Vec<T>, jobs: &mut Vec<Job<T>>) -> bool
-    requires { (jobs.old.items ≡ []) × (vec_len tasks ≤ vec_capacity jobs.old) }
-    ensures tasks { IsPermutation tasks.items (tasks_in jobs.new.items) }
-    ensures room { IsTrue result → All (HasRoom T.Task) jobs.new.items }
+/// Makes a job of each living task, the last task first; the others are through as they are. Answers whether there was memory
+/// for all.
+fn make_jobs<T: Task>(
+    alloc: Global,
+    mut tasks: Vec<T>,
+    jobs: &mut Vec<Job<T>>,
+    through: &mut Vec<T>,
+) -> bool
+    requires jobs { (jobs.old.items ≡ []) × (vec_len tasks ≤ vec_capacity jobs.old) }
+    requires through { (through.old.items ≡ []) × (sum_by (room_of T.Task) tasks.items ≤ vec_capacity through.old) }
+    ensures tasks { IsPermutation tasks.items (through.new.items ++ tasks_in jobs.new.items) }
+    ensures room { vec_len through.new + sum_by (room_of T.Task) (tasks_in jobs.new.items) ≤ vec_capacity through.new }
+    ensures fit { IsTrue result → All (IsFit T.Task) jobs.new.items }
+    ensures begun { (runs : List (Run T)) × IsUnderway T.Task false tasks.items runs (tasks_in jobs.new.items) through.new.items false false }
 {
     let mut all = true;
     while let Some(task) = tasks.pop() {
-        let (job, fits) = job_for(alloc, task);
-        jobs.push_reserved(job);
-        all = fits && all;
+        if task.left() == 0 {
+            through.push_reserved(task);
+        } else {
+            let (job, fits) = job_for(alloc, task);
+            jobs.push_reserved(job);
+            all = fits && all;
+        }
     }
     all
 }
 
 /// Gives the tasks back as they were.
 fn give_back<T: Task>(mut jobs: Vec<Job<T>>, into: &mut Vec<T>)
-    requires { (into.old.items ≡ []) × (vec_len jobs ≤ vec_capacity into.old) }
-    ensures { IsPermutation (tasks_in jobs.items) into.new.items }
+    requires { vec_len into.old + vec_len jobs ≤ vec_capacity into.old }
+    ensures { IsPermutation (into.old.items ++ tasks_in jobs.items) into.new.items }
 {
     while let Some(job) = jobs.pop() {
         into.push_reserved(job.task);
     }
 }
 
-/// Puts a job for the workers, for which there is room.
-fn put<T: Task, R: Wait>(rt: &R, todo: &Todo<T>, ticket: &mut Ticket<T>, job: Job<T>)
-    requires ticket { IsPassOf todo.now ticket.old × ((view ticket.old).parts ≡ 64) }
-    requires room { length (view ticket.old).put < ruled_capacity todo.now }
-    requires job { HasRoom T.Task job × (0 < T.left job.task) }
-    ensures ticket { IsPassOf todo.now ticket.new }
-    ensures put { view ticket.new ≡ hand 64 ((view ticket.old).put ++ job ∷ []) (view ticket.old).taken }
+/// Each job's task takes its turns, on so many threads at most.
+fn play_jobs<T: Task + Send, R: Threads + Sync>(rt: &R, jobs: &mut [Job<T>], workers: usize)
+    requires workers { 0 < workers }
+    requires fit { All (IsFit T.Task) jobs.old }
+    ensures done { All (IsDone T.Task) jobs.new }
+    ensures were { were jobs.new ≡ tasks_in jobs.old }
 {
-    let Ok(()) = todo.push_as::<Puts, R>(rt, ticket, job) else {
-        unreachable!()
-    };
+    let play = |_: usize, job: &mut Job<T>|
+        requires { IsFit T.Task job.old }
+        ensures was { job.new.was ≡ job.old.was }
+        ensures done { IsDone T.Task job.new }
+    { play_job(job) };
+    for_each_mut(rt, jobs, workers, &play);
 }
 
-/// Puts the living tasks for the workers, the last job first; the others are through as they are. Answers how many it put.
-fn deal<T: Task, R: Wait>(
-    rt: &R,
-    mut jobs: Vec<Job<T>>,
-    todo: &Todo<T>,
-    ticket: &mut Ticket<T>,
-    through: &mut Vec<T>,
-) -> usize
-    requires ticket { IsPassOf todo.now ticket.old × (view ticket.old ≡ hand 64 [] []) }
-    requires queue { vec_len jobs ≤ ruled_capacity todo.now }
-    requires jobs { All (HasRoom T.Task) jobs.items }
-    requires through { (through.old.items ≡ []) × (sum_by (room_of T.Task) (tasks_in jobs.items) ≤ vec_capacity through.old) }
-    ensures ticket { IsPassOf todo.now ticket.new × ((view ticket.new).parts ≡ 64) × ((view ticket.new).taken ≡ []) }
-    ensures count { (result ≡ length (view ticket.new).put) × (result ≤ vec_len jobs) }
-    ensures room { vec_len through.new + sum_by (room_of T.Task) (tasks_in (view ticket.new).put) ≤ vec_capacity through.new }
-    ensures begun { (given : List T) → IsPermutation given (tasks_in jobs.items) → (runs : List (Run T)) × IsUnderway T.Task false given runs (tasks_in (view ticket.new).put) through.new.items false false }
+/// Notes what a task has done: it and its children are through.
+fn gather<T: Task>(job: Job<T>, through: &mut Vec<T>, outcome: &mut Outcome)
+    requires done { IsDone T.Task job }
+    requires room { vec_len through.old + size_of job ≤ vec_capacity through.old }
+    ensures room { (vec_len through.new ≡ vec_len through.old + size_of job) × (vec_capacity through.old ≤ vec_capacity through.new) }
+    ensures kept { (given : List T) (runs : List (Run T)) (others : List T) → IsUnderway T.Task false given runs (job.was.value ∷ others) through.old.items outcome.old.failed outcome.old.moved → (run : Run T) × IsUnderway T.Task false given (run ∷ runs) others through.new.items outcome.new.failed outcome.new.moved }
 {
-    let mut count = 0;
-    while let Some(job) = jobs.pop() {
-        if job.task.left() == 0 {
-            through.push_reserved(job.task);
-        } else {
-            put(rt, todo, ticket, job);
-            count += 1;
-        }
-    }
-    count
-}
-
-/// Notes what a worker has done: the task and its children are through.
-fn gather<T: Task>(done: Done<T>, through: &mut Vec<T>, tally: &mut Tally)
-    requires done { IsDone T.Task done }
-    requires room { vec_len through.old + size_of done ≤ vec_capacity through.old }
-    ensures room { (vec_len through.new ≡ vec_len through.old + size_of done) × (vec_capacity through.old ≤ vec_capacity through.new) }
-    ensures kept { (given : List T) (runs : List (Run T)) (others : List T) → IsUnderway T.Task false given runs (done.was.value ∷ others) through.old.items tally.old.failed tally.old.moved → (run : Run T) × IsUnderway T.Task false given (run ∷ runs) others through.new.items tally.new.failed tally.new.moved }
-{
-    let Done {
+    let Job {
         was: _,
         had,
         task,
         mut born,
-    } = done;
-    tally.note(had, &task);
+    } = job;
+    outcome.note(had, &task);
     through.push_reserved(task);
     let _ = through.append(&mut born);
 }
 
-/// Notes all that a worker has done.
-fn gather_list<T: Task>(mut list: Vec<Done<T>>, through: &mut Vec<T>, tally: &mut Tally)
-    requires done { All (IsDone T.Task) list.items }
-    requires room { vec_len through.old + sum_by size_of list.items ≤ vec_capacity through.old }
-    ensures room { (vec_len through.new ≡ vec_len through.old + sum_by size_of list.items) × (vec_capacity through.old ≤ vec_capacity through.new) }
-    ensures kept { (given : List T) (runs : List (Run T)) (others : List T) → IsUnderway T.Task false given runs (were list.items ++ others) through.old.items tally.old.failed tally.old.moved → (all : List (Run T)) × IsUnderway T.Task false given all others through.new.items tally.new.failed tally.new.moved }
+/// Notes what all have done.
+fn gather_all<T: Task>(mut jobs: Vec<Job<T>>, through: &mut Vec<T>, outcome: &mut Outcome)
+    requires done { All (IsDone T.Task) jobs.items }
+    requires room { vec_len through.old + sum_by size_of jobs.items ≤ vec_capacity through.old }
+    ensures { (given : List T) (runs : List (Run T)) → IsUnderway T.Task false given runs (were jobs.items) through.old.items outcome.old.failed outcome.old.moved → (all : List (Run T)) × IsUnderway T.Task false given all [] through.new.items outcome.new.failed outcome.new.moved }
 {
-    while let Some(done) = list.pop() {
-        gather(done, through, tally);
+    while let Some(job) = jobs.pop() {
+        gather(job, through, outcome);
     }
 }
 
-/// Notes all that the workers have done.
-fn gather_all<T: Task>(mut lists: Vec<Vec<Done<T>>>, through: &mut Vec<T>, tally: &mut Tally)
-    requires done { All (IsDone T.Task) (dones_of lists.items) }
-    requires room { vec_len through.old + sum_by size_of (dones_of lists.items) ≤ vec_capacity through.old }
-    ensures room { (vec_len through.new ≡ vec_len through.old + sum_by size_of (dones_of lists.items)) × (vec_capacity through.old ≤ vec_capacity through.new) }
-    ensures kept { (given : List T) (runs : List (Run T)) (others : List T) → IsUnderway T.Task false given runs (were (dones_of lists.items) ++ others) through.old.items tally.old.failed tally.old.moved → (all : List (Run T)) × IsUnderway T.Task false given all others through.new.items tally.new.failed tally.new.moved }
-{
-    while let Some(list) = lists.pop() {
-        gather_list(list, through, tally);
-    }
-}
-
-/// One pass of so many workers, of whom the last is this thread.
-pub fn pass_spread<T: Task + Send, R: Threads + Wait + Sync>(
+/// One pass of so many workers.
+pub fn pass_spread<T: Task + Send, R: Threads + Sync>(
     rt: &R,
     alloc: Global,
     tasks: Vec<T>,
     workers: usize,
 ) -> Passed<T>
-    requires { (0 < workers) × (workers ≤ 64) }
+    requires { 0 < workers }
     ensures ascending { IsNonDecreasingBy T.order result.tasks.items }
     ensures untouched { result.end ≡ PassEnd.NoMemory → IsPermutation tasks.items result.tasks.items }
     ensures pass { result.end ≢ PassEnd.NoMemory → (runs : List (Run T)) × IsPass T.Task false tasks.items runs result.tasks.items × (result.end ≡ end_of T.Task runs result.tasks.items) }
@@ -191,26 +147,19 @@ pub fn pass_spread<T: Task + Send, R: Threads + Wait + Sync>(
     let Some(room) = room_for(tasks.as_slice()) else {
         return refused(tasks);
     };
-    let Ok(hall) = open(alloc, tasks.len(), room, workers) else {
+    let Ok(hall) = open(alloc, tasks.len(), room) else {
         return refused(tasks);
     };
     let Hall {
         mut jobs,
         mut through,
-        rest,
-        lists,
-        todo,
-        mut ticket,
     } = hall;
-    if !make_jobs(alloc, tasks, &mut jobs) {
+    if !make_jobs(alloc, tasks, &mut jobs, &mut through) {
         give_back(jobs, &mut through);
         return refused(through);
     }
-    let mut tally = Tally::new();
-    let count = deal(rt, jobs, &todo, &mut ticket, &mut through);
-    let (ticket, lists) = crew(rt, alloc, &todo, ticket, workers.min(count.max(1)), lists);
-    let (_, rest) = finish(rt, &todo, ticket, rest);
-    gather_all(lists, &mut through, &mut tally);
-    gather_list(rest, &mut through, &mut tally);
-    answer(through, tally)
+    play_jobs(rt, jobs.as_mut_slice(), workers);
+    let mut outcome = Outcome::new();
+    gather_all(jobs, &mut through, &mut outcome);
+    answer(through, outcome)
 }

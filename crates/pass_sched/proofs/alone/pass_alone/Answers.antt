@@ -19,7 +19,7 @@ pub play_all-requires-clause-born : goal.play_all-requires-clause-born
 play_all-requires-clause-born g c = omega (arith, total g (goal.at.play_all-requires-clause-born g c).After-seat_all, c.in-Ok.ensures.room)
 
 pub play_all-requires-clause-done : goal.play_all-requires-clause-done
-play_all-requires-clause-done g c = omega (arith, total g (goal.at.play_all-requires-clause-done g c).After-seat_all, c.in-Ok.ensures.room, ap length c.in-Ok.ensures.empty.2, c.in-Ok.desk.done.ok.0)
+play_all-requires-clause-done g c = omega (arith, total g (goal.at.play_all-requires-clause-done g c).After-seat_all, c.in-Ok.ensures.room, ap length c.in-Ok.ensures.empty.2, c.in-Ok.bench.done.ok.0)
 
 pub play_all-requires-clause-pending : goal.play_all-requires-clause-pending
 play_all-requires-clause-pending g c = omega (arith, total g (goal.at.play_all-requires-clause-pending g c).After-seat_all, c.in-Ok.ensures.room)
@@ -27,9 +27,9 @@ play_all-requires-clause-pending g c = omega (arith, total g (goal.at.play_all-r
 pub returns-clause-pass : goal.returns-clause-pass
 returns-clause-pass g c _ =
     let empty = c.in-Ok.ensures.empty.2 in
-    let tally = c.new-tally.ensures in
+    let outcome = c.new-outcome.ensures in
     let start = subst (λ (y : List _ × Bool × Bool). IsUnderway g.T.Task true c.args.tasks.items [] (tasks_of c.seat_all.new.pending) y.0 y.1 y.2)
-    (λ i. (sym empty i, (sym tally i).failed, (sym tally i).moved)) (begins g.T.Task true c.args.tasks.items (tasks_of c.seat_all.new.pending) c.seat_all.ensures.tasks) in
+    (λ i. (sym empty i, (sym outcome i).failed, (sym outcome i).moved)) (begins g.T.Task true c.args.tasks.items (tasks_of c.seat_all.new.pending) c.seat_all.ensures.tasks) in
     let all = c.play_all.ensures c.args.tasks.items [] start in
     let ends = over g.T.Task true c.args.tasks.items all.0 _ _ _ _ _ all.1 c.answer.ensures.same c.answer.ensures.end in
     (all.0, ends.0, ends.1)

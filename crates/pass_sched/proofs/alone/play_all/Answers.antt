@@ -9,10 +9,10 @@ use Rattle.pass_sched.proofs.Underway.{short, reorder}
 use Rattle.pass_sched.proofs.alone.play_all.Goals as goal
 use Rattle.pass_sched.proofs.alone.play_all.Goals.{In-Some}
 
-popped : (g : _) (c : In-Some g) → IsPermutation (tasks_of c.loop-task.desk.pending) (c.in-Some.field-0.task ∷ tasks_of c.pop.new.self)
+popped : (g : _) (c : In-Some g) → IsPermutation (tasks_of c.loop-task.bench.pending) (c.in-Some.field-0.task ∷ tasks_of c.pop.new.self)
 popped g c = IsPermutation-map (λ r. r.task) _ _ c.in-Some.ensures.permutation
 
-total : (g : _) (c : In-Some g) → room_of g.T.Task c.in-Some.field-0.task + sum_by (room_of g.T.Task) (tasks_of c.pop.new.self) ≡ sum_by (room_of g.T.Task) (tasks_of c.loop-task.desk.pending)
+total : (g : _) (c : In-Some g) → room_of g.T.Task c.in-Some.field-0.task + sum_by (room_of g.T.Task) (tasks_of c.pop.new.self) ≡ sum_by (room_of g.T.Task) (tasks_of c.loop-task.bench.pending)
 total g c = omega (arith, sum_by-IsPermutation (room_of g.T.Task) _ _ (popped g c), sum_of_cons (room_of g.T.Task) c.in-Some.field-0.task (tasks_of c.pop.new.self))
 
 pub take_part-requires-clause-pending : goal.take_part-requires-clause-pending

@@ -6,14 +6,14 @@ use Rattle.pass_sched.proofs.alone.play_all.Given as goal
 
 abbrev pub invariant-loop-task : goal.invariant-loop-task
 invariant-loop-task g l = record {
-  empty : vec_len l.desk.born ≡ 0;
-  born : sum_by (room_of g.T.Task) (tasks_of l.desk.pending) ≤ vec_capacity l.desk.born;
-  done : vec_len l.desk.done + sum_by (room_of g.T.Task) (tasks_of l.desk.pending) ≤ vec_capacity l.desk.done;
-  pending : sum_by (room_of g.T.Task) (tasks_of l.desk.pending) ≤ heap_capacity l.desk.pending;
+  empty : vec_len l.bench.born ≡ 0;
+  born : sum_by (room_of g.T.Task) (tasks_of l.bench.pending) ≤ vec_capacity l.bench.born;
+  done : vec_len l.bench.done + sum_by (room_of g.T.Task) (tasks_of l.bench.pending) ≤ vec_capacity l.bench.done;
+  pending : sum_by (room_of g.T.Task) (tasks_of l.bench.pending) ≤ heap_capacity l.bench.pending;
   kept : (given : List _) (runs : List (Run _))
-      → IsUnderway g.T.Task true given runs (tasks_of l.initial.desk.pending) l.initial.desk.done.items l.initial.tally.failed l.initial.tally.moved
-      → (all : List (Run _)) × IsUnderway g.T.Task true given all (tasks_of l.desk.pending) l.desk.done.items l.tally.failed l.tally.moved;
+      → IsUnderway g.T.Task true given runs (tasks_of l.initial.bench.pending) l.initial.bench.done.items l.initial.outcome.failed l.initial.outcome.moved
+      → (all : List (Run _)) × IsUnderway g.T.Task true given all (tasks_of l.bench.pending) l.bench.done.items l.outcome.failed l.outcome.moved;
 }
 
 abbrev pub decreases-loop-task : goal.decreases-loop-task
-decreases-loop-task g l = sum_by (room_of g.T.Task) (tasks_of l.desk.pending)
+decreases-loop-task g l = sum_by (room_of g.T.Task) (tasks_of l.bench.pending)

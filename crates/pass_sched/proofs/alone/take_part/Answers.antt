@@ -14,11 +14,11 @@ returns-then-left-eq0-clause-kept g c given runs under =
     let ended : nat_lt 0 (g.T.Task.left c.args.task) ≡ false = le-ltb _ _ (omega arith) in
     let still : nat_lt (g.T.Task.left c.args.task) (g.T.Task.left c.args.task) ≡ false = le-ltb _ _ (omega arith) in (
       r,
-      step g.T.Task true given runs (tasks_of c.args.desk.now.pending) c.args.desk.now.done.items (tasks_of c.args.desk.now.pending) c.push_reserved.new.self.items
-          c.args.tally.now.failed c.args.tally.now.moved c.args.tally.now.failed c.args.tally.now.moved r under
+      step g.T.Task true given runs (tasks_of c.args.bench.now.pending) c.args.bench.now.done.items (tasks_of c.args.bench.now.pending) c.push_reserved.new.self.items
+          c.args.outcome.now.failed c.args.outcome.now.moved c.args.outcome.now.failed c.args.outcome.now.moved r under
           (run_of_ended g.T.Task c.args.task none)
-          (same _ _ (append-nil (tasks_of c.args.desk.now.pending)))
-          (through_last _ _ _ c.args.task (same _ _ (append-nil c.args.desk.now.done.items)) c.push_reserved.ensures.items)
-          (ap (λ b. (b && is_failed (g.T.Task.last c.args.task)) || c.args.tally.now.failed) (sym ended))
-          (ap (λ b. b || c.args.tally.now.moved) (sym still)),
+          (same _ _ (append-nil (tasks_of c.args.bench.now.pending)))
+          (through_last _ _ _ c.args.task (same _ _ (append-nil c.args.bench.now.done.items)) c.push_reserved.ensures.items)
+          (ap (λ b. (b && is_failed (g.T.Task.last c.args.task)) || c.args.outcome.now.failed) (sym ended))
+          (ap (λ b. b || c.args.outcome.now.moved) (sym still)),
     )

@@ -12,6 +12,6 @@ loop-job-preserved g c =
     record {
       room = omega (arith, c.in-Some.ensures.cases);
       tasks = moves_over _ c.loop-job.into.items (tasks_in c.pop.new.self.items) c.push_reserved.new.self.items c.in-Some.job.task
-          (subst (λ l. IsPermutation (tasks_in c.args.jobs.items) (c.loop-job.into.items ++ l)) (tasks_last c.loop-job.jobs.items c.pop.new.self.items c.in-Some.job items) old.tasks)
+          (subst (λ l. IsPermutation (c.args.into.now.items ++ tasks_in c.args.jobs.items) (c.loop-job.into.items ++ l)) (tasks_last c.loop-job.jobs.items c.pop.new.self.items c.in-Some.job items) old.tasks)
           (through_last _ _ _ c.in-Some.job.task (IsPermutation-refl c.loop-job.into.items) c.push_reserved.ensures.items);
     }

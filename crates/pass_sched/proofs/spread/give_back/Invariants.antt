@@ -5,7 +5,7 @@ use Rattle.pass_sched.proofs.spread.give_back.Given as goal
 abbrev pub invariant-loop-job : goal.invariant-loop-job
 invariant-loop-job g l = record {
   room : vec_len l.into + vec_len l.jobs ≤ vec_capacity l.into;
-  tasks : IsPermutation (tasks_in l.initial.jobs.items) (l.into.items ++ tasks_in l.jobs.items);
+  tasks : IsPermutation (l.initial.into.items ++ tasks_in l.initial.jobs.items) (l.into.items ++ tasks_in l.jobs.items);
 }
 
 abbrev pub decreases-loop-job : goal.decreases-loop-job

@@ -8,16 +8,16 @@ use crate::task::{Task, Turn};
 
 /// Whether a turn failed, and whether one moved.
 #[derive(Clone, Copy)]
-pub struct Tally {
+pub struct Outcome {
     pub failed: bool,
     pub moved: bool,
 }
 
-impl Tally {
-    pub fn new() -> Tally
+impl Outcome {
+    pub fn new() -> Outcome
         ensures { result ≡ record { failed = false; moved = false } }
     {
-        Tally {
+        Outcome {
             failed: false,
             moved: false,
         }

@@ -1,5 +1,6 @@
 -- What the range table of every history is.
 use Rattle.std.specs.Prelude.{◌≡◌, ◌⊎◌, ℕ, ◌+◌, ◌*◌, ◌<◌, ◌≤◌, ◌==◌, true, false, List, [], ◌∷◌, ◌++◌, length, take, map, filter, slice_index, is_some, Some, None}
+use Rattle.pass_entry.specs.Limits.{block_count, kind_limit}
 use Rattle.std.specs.List.{list_any}
 use Rattle.md5.specs.Md5.{md5}
 use Rattle.pass_entry.specs.declared.entry.Entry.{Entry}
@@ -41,7 +42,7 @@ FirstTellsLaw = (start : Start) → start.files.items ≡ [] → Tells [] start
 pub record IsSet (list : List Record) (session : Session) (history : List Entry) (pnode block at : ℕ) : Type 0 where
   pub below : at < length history
   pub row : row_of list pnode block ≡ Some (md5 (range block (file_after session history pnode)))
-  pub limited : block < 1024
+  pub limited : block < block_count
   pub begins : block * block_size < length (file_after session history pnode)
   pub has : has_row session history pnode block ≡ true
 
@@ -111,7 +112,7 @@ abbrev pub NumbersLaw : Type 0
 NumbersLaw = (list : List Record) (pnode number : ℕ) → number_of list pnode ≡ Some number
     → ((more : List Record) → number_of (list ++ more) pnode ≡ Some number)
     × ((other : ℕ) → number_of list other ≡ Some number → other ≡ pnode)
-    × (IsWellLogged list → number < 1024)
+    × (IsWellLogged list → number < kind_limit)
 
 -- a row of a well logged list is of a file with a number, and its block begins within the file's size
 abbrev pub WellLoggedRowLaw : Type 0
@@ -122,7 +123,7 @@ WellLoggedRowLaw = (list : List Record) → IsWellLogged list → (pnode block :
 
 -- the ranges of two blocks have no byte in common
 abbrev pub PlacesLaw : Type 0
-PlacesLaw = (number block other two len other_len : ℕ) → block < 1024 → two < 1024 → (number ≡ other → block ≡ two → ⊥) → len ≤ block_size → other_len ≤ block_size
+PlacesLaw = (number block other two len other_len : ℕ) → block < block_count → two < block_count → (number ≡ other → block ≡ two → ⊥) → len ≤ block_size → other_len ≤ block_size
     → IsApart (place number block) len (place other two) other_len
 
 -- bytes that were written are there, and a write leaves those apart from it, also one that failed

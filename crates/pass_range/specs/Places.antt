@@ -1,10 +1,10 @@
 -- Where the bytes of a block stand on the store area (this project's own format).
 use Rattle.std.specs.Prelude.{◌≡◌, ◌⊎◌, ℕ, ◌+◌, ◌*◌, ◌≤◌, List, ◌++◌, length, take, drop, replicate}
-use Rattle.pass_plain.specs.Records.{block_size}
+use Rattle.pass_entry.specs.Limits.{block_size, block_count}
 
 -- where a block of the file of that number begins
 abbrev pub place : ℕ → ℕ → ℕ
-place number block = (number * 1024 + block) * block_size
+place number block = (number * block_count + block) * block_size
 
 -- so many bytes as an area gives them there, zero past its end
 abbrev pub found_there : ℕ → ℕ → List ℕ → List ℕ

@@ -3,7 +3,7 @@ ghost use Rattle.std.specs.Prelude.{◌≡◌, ◌↔◌, ℕ, List, Some, OnOk,
 ghost use Rattle.pass_range.specs.Sources.{stays, touch_of, and_then};
 
 use crate::Range;
-use pass_entry::{Pnode, Record};
+use pass_entry::{BLOCK_SIZE, Pnode, Record};
 use std::alloc::{AllocError, Global};
 use std::collections::BTreeMap;
 
@@ -55,7 +55,7 @@ impl Later {
     fn digest(&mut self, range: Range, md5: [u8; 16]) -> Result<(), AllocError>
         ensures { OnOk result ((pnode block : ℕ) → touch_in self.new pnode block ≡ and_then (touch_of pnode block (Record.Digest range.pnode range.block md5)) (touch_in self.old pnode block)) }
     {
-        if self.has_size(range.pnode, u64::from(range.block) * 4096)
+        if self.has_size(range.pnode, u64::from(range.block) * BLOCK_SIZE)
             || self.rows.contains_key(&range)
         {
             return Ok(());

@@ -7,8 +7,6 @@ pub mod laws;
 mod listing;
 mod range;
 mod table;
-#[cfg(test)]
-mod tests;
 
 pub use fault::RangeFault;
 pub use later::Later;

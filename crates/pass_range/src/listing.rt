@@ -1,11 +1,13 @@
 //! Which ranges of a table the store area doesn't match.
 ghost use Rattle.std.specs.Prelude.{◌≡◌, ◌⊎◌, ◌<◌, ◌≤◌, ℕ, List, IsTrue, OnOk, IfOk, IsErr, IsErrOf, length};
+ghost use Rattle.pass_entry.specs.Limits.{block_size};
 ghost use Rattle.pass_entry.specs.declared.record.Record.{Record};
 ghost use Rattle.pass_outside.specs.Areas.{Image};
 ghost use Rattle.pass_outside.specs.Moments.{IsAtEnd, Adds};
 ghost use Rattle.pass_range.specs.Tables.{IsTableOf, AreUnmatched, is_matched, unmatched_in};
 
 use crate::{Range, RangeFault, Table, range_len, read_matched};
+use pass_entry::BLOCK_SIZE;
 use pass_outside::{Disk, Failed};
 use std::alloc::{AllocError, Global};
 
@@ -38,10 +40,10 @@ pub fn unmatched<D: Disk>(
 
 // Room for the bytes of a block.
 fn block_buffer(alloc: Global) -> Result<Vec<u8>, AllocError>
-    ensures { IfOk result (λ v. length v.items ≡ 4096) }
+    ensures { IfOk result (λ v. length v.items ≡ block_size) }
 {
     let mut bytes = Vec::new(alloc);
-    bytes.resize(4096, 0)?;
+    bytes.resize(BLOCK_SIZE as usize, 0)?;
     Ok(bytes)
 }
 
@@ -53,7 +55,7 @@ fn is_matched<D: Disk>(
     buffer: &mut [u8],
     disk: &mut D,
 ) -> Result<bool, Failed>
-    requires { 4096 ≤ length buffer.old }
+    requires { block_size ≤ length buffer.old }
     ensures exactly { IfOk result (λ b. IsTrue (D.view disk.old).tells → b ≡ is_matched table.now (D.view disk.old).seen.store (range, digest.now)) }
     ensures failed { IsErr result → ((D.view disk.old).faults < (D.view disk.new).faults) ⊎ IsAtEnd (D.view disk.new) }
     ensures went { OnOk result ((D.view disk.new).faults ≡ (D.view disk.old).faults) }

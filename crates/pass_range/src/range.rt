@@ -10,16 +10,10 @@ ghost use Rattle.pass_range.specs.Places.{place, found_there};
 ghost use Rattle.pass_range.specs.Rows.{range};
 
 use md5::{Digest, Md5};
-use pass_entry::Pnode;
+use pass_entry::{BLOCK_COUNT, BLOCK_SIZE, Pnode};
 use pass_outside::{Area, Disk, Failed};
 use pass_plain::bytes_in;
 use std::alloc::{AllocError, Global};
-
-/// The bytes of a block.
-const BLOCK: usize = 4096;
-
-/// The greatest number of blocks of a file.
-const FILE_BLOCKS: u64 = 1024;
 
 /// A block of a file. Its range is what of the file's bytes lies in it.
 #[derive(Clone, Copy, Debug, PartialEq, Eq, PartialOrd, Ord)]
@@ -31,10 +25,10 @@ pub struct Range {
 /// How many bytes of a file of that size lie in a block.
 pub fn range_len(size: u64, block: u32) -> usize
     ensures len { result ≡ range_len size block }
-    ensures most { result ≤ 4096 }
+    ensures most { result ≤ block_size }
 {
-    let begin = u64::from(block) * BLOCK as u64;
-    size.min(begin + BLOCK as u64).saturating_sub(begin) as usize
+    let begin = u64::from(block) * BLOCK_SIZE;
+    size.min(begin + BLOCK_SIZE).saturating_sub(begin) as usize
 }
 
 /// The digests of these blocks of a file's content, each one that of its range (RFC 1321).
@@ -57,7 +51,7 @@ pub fn digests_of(
 fn place(number: u32, block: u32) -> u64
     ensures { result ≡ place number block }
 {
-    (u64::from(number) * FILE_BLOCKS + u64::from(block)) * BLOCK as u64
+    (u64::from(number) * u64::from(BLOCK_COUNT) + u64::from(block)) * BLOCK_SIZE
 }
 
 /// Writes to the range of a block of the file of that number, by one device call.

@@ -1,5 +1,6 @@
 //! The range table of a list of records.
 ghost use Rattle.std.specs.Prelude.{◌≡◌, ◌+◌, ◌≤◌, ◌==◌, ℕ, IfOk, OnOk, option_map, if◌then◌else◌};
+ghost use Rattle.pass_entry.specs.Limits.{kind_limit};
 ghost use Rattle.std.specs.Ordering.{nat_cmp};
 ghost use Rattle.std.specs.BTreeMap.{get, btree_map_len};
 ghost use Rattle.pass_plain.specs.WellLogged.{IsWellLogged};
@@ -42,7 +43,7 @@ fn files_of(alloc: Global, list: &[Record]) -> Result<BTreeMap<Pnode, TableFile>
 
 // Notes the next record of a list.
 fn note_file(files: &mut BTreeMap<Pnode, TableFile>, one: &Record) -> Result<(), AllocError>
-    requires { btree_map_len files.old ≤ 1024 }
+    requires { btree_map_len files.old ≤ kind_limit }
     ensures files { OnOk result ((q : ℕ) → get nat_cmp files.new q ≡ file_look (btree_map_len files.old) q (get nat_cmp files.old q) one.now) }
     ensures len { OnOk result (btree_map_len files.new ≡ btree_map_len files.old + file_more files.old one.now) }
 {

@@ -1,5 +1,6 @@
 -- Blocks that are to be written (this project's own rule).
 use Rattle.std.specs.Prelude.{◌≡◌, ◌⊎◌, ℕ, ◌+◌, ◌<◌, ◌≤◌, Bool, true, List, length, take, slice_get, Some, IsTrue}
+use Rattle.pass_entry.specs.Limits.{block_count}
 use Rattle.pass_outside.specs.Areas.{Image}
 use Rattle.pass_outside.specs.Moments.{Moment, Adds, AfterStep, Follows}
 use Rattle.pass_plain.specs.Records.{block_size}
@@ -13,7 +14,7 @@ use Rattle.pass_keep.specs.Kept.{Story, Noted, list_to, range_to, covered}
 pub record IsDirty (s : Story) (noted : List Noted) (n number block : ℕ) : Type 0 where
   pub pnode : ℕ
   pub numbered : number_of (list_to s n) pnode ≡ Some number
-  pub limited : block < 1024
+  pub limited : block < block_count
   pub at : ℕ
   pub dirtied : dirtied_at s.session (take n s.history) pnode block ≡ Some at
   pub uncovered : covered noted number ≤ at
@@ -42,7 +43,7 @@ IsAscending blocks = (i j : ℕ) (x y : Block) → i < j → slice_get blocks i 
 
 -- each lies within the places of a file, and has no more bytes than a block
 abbrev pub AreSized : List Block → Type 0
-AreSized blocks = (i : ℕ) (x : Block) → slice_get blocks i ≡ Some x → (x.block < 1024) × (length x.bytes.now ≤ block_size)
+AreSized blocks = (i : ℕ) (x : Block) → slice_get blocks i ≡ Some x → (x.block < block_count) × (length x.bytes.now ≤ block_size)
 
 -- a range of the store area has no byte in common with any of these
 abbrev pub IsApartFrom : List Block → ℕ → ℕ → Type 0

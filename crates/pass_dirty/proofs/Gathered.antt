@@ -9,7 +9,9 @@ use Rattle.std.proofs.lemmas.Option.{slice_get_within}
 use Rattle.pass_entry.specs.declared.entry.Entry.{Entry}
 use Rattle.pass_graph.specs.Lawful.{PrefixLaw}
 use Rattle.pass_graph.specs.Openings.{Continues}
+use Rattle.pass_range.proofs.Dirtying.{source_law}
 use Rattle.pass_keep.specs.declared.block.Block.{Block}
+use Rattle.pass_keep.proofs.Writing.{dirty_source}
 use Rattle.pass_keep.specs.Dirty.{IsDirty, IsDirtyBlock, AreDirty, IsAmong}
 use Rattle.pass_keep.specs.Kept.{Story, IsStory, Noted, list_to, source_to}
 use Rattle.pass_plain.proofs.Lists.{some_is}
@@ -22,7 +24,7 @@ use Rattle.pass_plain.specs.Registries.{registry_after}
 use Rattle.pass_plain.specs.WellLogged.{IsWellLogged}
 use Rattle.pass_range.specs.declared.later.Later.{Later}
 use Rattle.pass_range.specs.Laters.{touch_in}
-use Rattle.pass_range.specs.Lawful.{RowLaw, FilesLaw, file_objects, list_of}
+use Rattle.pass_range.specs.Lawful.{FilesLaw, file_objects, list_of}
 use Rattle.pass_range.specs.Rows.{range, files_of}
 use Rattle.pass_range.specs.Sources.{touch, row_source}
 use Rattle.pass_dirty.specs.Gathering.{every_file, CoverNone, is_set, IsOf, AddsOf, IsGathered, AreGathered}
@@ -103,7 +105,7 @@ same_files s story file_law files are =
 
 -- all files' blocks
 module _ (s : Story) (story : IsStory s) (continues : Continues s.before s.session) (ceiling : s.ceiling ≡ s.session.start.ceiling + s.session.objects)
-    (prefixes : PrefixLaw) (rows : RowLaw) (file_law : FilesLaw)
+    (prefixes : PrefixLaw) (file_law : FilesLaw)
     (r : Recording) (recording : IsRecording s.session.start s.history r) (later : Later) (files : List ℕ) (blocks : List Block)
     (touches : (pnode block : ℕ) → touch_in later pnode block ≡ touch pnode block r.list.items)
     (are_files : files ≡ file_objects (registry_after s.session s.history).objects)
@@ -129,8 +131,9 @@ module _ (s : Story) (story : IsStory s) (continues : Continues s.before s.sessi
       let dirty : IsDirty s noted n x.number x.block = record {
         pnode = g.pnode;
         numbered = counted (list_to s n) (logged_to s story continues ceiling prefixes) x.number g.pnode (ap (λ (fs : List ℕ). slice_get fs x.number) (sym (same_files s story file_law files are_files)) ∙ g.numbered);
+        limited = g.low;
         at = at;
-        source = source;
+        dirtied = sym (source_law s.session (take n s.history) g.pnode x.block g.low) ∙ source;
         uncovered = let z = none x.number in omega (arith, z);
       } in
       (dirty, g.bytes ∙ ap (range x.block) (bytes_at g.pnode g.content g.is_kept))
@@ -143,11 +146,10 @@ module _ (s : Story) (story : IsStory s) (continues : Continues s.before s.sessi
           let quiet : IsUntouched s.session.start s.history dirty.pnode =
           subst (λ (o : Option Content). MatchOption o (IsUntouched s.session.start s.history dirty.pnode) (IsContent s.session.start s.history dirty.pnode)) none (recording.files dirty.pnode) in
           absurd (let z : None ≡ Some dirty.at =
-          sym (ap (λ (h : List Entry). row_source s.session h dirty.pnode block) (whole s) ∙ unchanged s.session dirty.pnode block s.history quiet.quiet) ∙ dirty.source in cc)
+          sym (ap (λ (h : List Entry). row_source s.session h dirty.pnode block) (whole s) ∙ unchanged s.session dirty.pnode block s.history quiet.quiet) ∙ dirty_source s noted n number block dirty in cc)
       by_content (Some content) has =
           let at : slice_get files number ≡ Some dirty.pnode = ap (λ (fs : List ℕ). slice_get fs number) (same_files s story file_law files are_files) ∙ file_at (list_to s n) dirty.pnode number dirty.numbered in
-          let set = rows s.before s.ceiling s.session (take n s.history) dirty.pnode block dirty.at dirty.source in
-          are.all number block dirty.pnode content (slice_get_within files number dirty.pnode at) at has set.limited (sym (set_at dirty.pnode block) ∙ ap is_some dirty.source)
+          are.all number block dirty.pnode content (slice_get_within files number dirty.pnode at) at has dirty.limited (sym (set_at dirty.pnode block) ∙ ap is_some (dirty_source s noted n number block dirty))
 
   pub dirty_are : (noted : List Noted) → CoverNone noted → AreDirty s noted n every_file blocks
   dirty_are noted none = record {

@@ -1,5 +1,6 @@
 -- How dirty blocks are gathered, file by file.
 use Rattle.std.specs.Prelude.{◌≡◌, ◌⊎◌, ℕ, ◌<◌, Bool, true, List, is_some, slice_get, Some}
+use Rattle.pass_entry.specs.Limits.{block_count}
 use Rattle.std.specs.Ordering.{nat_cmp}
 use Rattle.std.specs.BTreeMap.{BTreeMap, get}
 use Rattle.pass_plain.specs.declared.contents.Content.{Content}
@@ -42,7 +43,7 @@ pub record IsGathered (later : Later) (files : List ℕ) (kept : BTreeMap ℕ Co
   pub numbered : slice_get files x.number ≡ Some pnode
   pub content : Content
   pub is_kept : get nat_cmp kept pnode ≡ Some content
-  pub low : x.block < 1024
+  pub low : x.block < block_count
   pub set : is_set later pnode x.block ≡ true
   pub bytes : x.bytes.now ≡ range x.block content.bytes.items
 
@@ -50,5 +51,5 @@ pub record IsGathered (later : Later) (files : List ℕ) (kept : BTreeMap ℕ Co
 pub record AreGathered (later : Later) (files : List ℕ) (kept : BTreeMap ℕ Content) (below : ℕ) (blocks : List Block) : Type 0 where
   pub each : (i : ℕ) (x : Block) → slice_get blocks i ≡ Some x → (x.number < below) × IsGathered later files kept x
   pub all : (number block pnode : ℕ) (content : Content) → number < below → slice_get files number ≡ Some pnode → get nat_cmp kept pnode ≡ Some content
-      → block < 1024 → is_set later pnode block ≡ true → IsAmong blocks number block
+      → block < block_count → is_set later pnode block ≡ true → IsAmong blocks number block
   pub ascending : IsAscending blocks

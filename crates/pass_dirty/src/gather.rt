@@ -8,17 +8,14 @@ ghost use Rattle.pass_plain.specs.Recording.{IsRecording};
 ghost use Rattle.pass_range.specs.Lawful.{file_objects};
 ghost use Rattle.pass_dirty.specs.Gathering.{every_file, CoverNone, is_set as is_set_of, AddsOf, AreGathered};
 
-use pass_entry::{Kind, Pnode};
+use pass_entry::{BLOCK_COUNT, Kind, Pnode};
 use pass_graph::laws::prefixes;
 use pass_keep::Block;
 use pass_plain::{Content, Recording, bytes_in};
-use pass_range::laws::{files as file_laws, rows};
+use pass_range::laws::files as file_laws;
 use pass_range::{Later, Range, later_of};
 use std::alloc::{AllocError, Global};
 use std::collections::BTreeMap;
-
-/// How many blocks a file has at most.
-const BLOCKS: u32 = 1024;
 
 // The records set the row of a block for good.
 fn is_set(later: &Later, pnode: Pnode, block: u32) -> bool
@@ -50,7 +47,7 @@ fn add_blocks<'a>(
     requires ascending { IsAscending blocks.old.items }
     ensures { OnOk result (AddsOf number content.now (is_set_of later.now pnode) 1024 blocks.old.items blocks.new.items) }
 {
-    for block in 0..BLOCKS {
+    for block in 0..BLOCK_COUNT {
         if is_set(later, pnode, block) {
             let bytes = bytes_in(content, block);
             blocks.push(Block {
@@ -83,9 +80,7 @@ fn gather<'a>(
     Ok(blocks)
 }
 
-/// The blocks whose rows come from entries of a session's history, by file number and block, with the bytes of their ranges.
-///
-/// Called after the run of a trace, before its files' bytes are written.
+/// The blocks that a session's history made dirty, by file number and block, with the bytes of their ranges.
 pub fn dirty_blocks<'a>(
     alloc: Global,
     recording: &'a Recording,
@@ -99,7 +94,6 @@ pub fn dirty_blocks<'a>(
     ensures ascending { IfOk result (λ blocks. IsAscending blocks.items) }
 {
     prefixes();
-    rows();
     file_laws();
     let later = later_of(alloc, &recording.list)?;
     let files = files_in(alloc, recording.objects())?;

@@ -43,5 +43,5 @@ returns g c =
     let touches : (pnode block : ℕ) → touch_in c.in_ok-later.later pnode block ≡ touch pnode block r.list.items =
     λ pnode block. c.in_ok-later.ensures pnode block ∙ ap (λ (l : List Record). touch pnode block l) c.deref.ensures.value in
     let all = told s c.in_ok-later.later files r c.gather.result c.gather.ensures
-    (λ blocks are. dirty_are s c.requires.0 c.requires.1.0 c.requires.1.1.0 c.prefixes.ensures c.rows.ensures.rows c.files.ensures.files r c.requires.1.1.1 c.in_ok-later.later files blocks touches of_objects are) in
+    (λ blocks are. dirty_are s c.requires.0 c.requires.1.0 c.requires.1.1.0 c.prefixes.ensures c.files.ensures.files r c.requires.1.1.1 c.in_ok-later.later files blocks touches of_objects are) in
     record { dirty = all.0; ascending = all.1 }

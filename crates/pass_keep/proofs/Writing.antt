@@ -3,7 +3,7 @@ use Rattle.std.proofs.Common.{◌≡◌, ◌⊎◌, ℕ, zero, suc, ◌+◌, ◌
 use Rattle.std.specs.Prelude.{slice_get, None, is_some}
 use Rattle.pass_outside.specs.declared.disk.Area.TheVariants as areas
 use Rattle.pass_outside.specs.Areas.{Image, OnArea, Torn, written}
-use Rattle.pass_outside.specs.Moments.{Moment, IsAtEnd, IsCall, IsRun, Adds, AfterStep, Follows}
+use Rattle.pass_outside.specs.Moments.{Moment, IsAtEnd, IsDeviceCall, IsDeviceRun, Adds, AfterStep, Follows}
 use Rattle.pass_outside.specs.Runs.{adds_nothing, adds_weaker, adds_steps, follows_both}
 use Rattle.pass_plain.specs.Files.{file_after}
 use Rattle.pass_plain.proofs.Lists.{some_is}
@@ -68,7 +68,7 @@ module _ (xs : List Block) (old mid new : Moment) (i : ℕ) (x : Block) (is : sl
   adds_more adds = adds_steps (Beside xs) old mid new (beside_two xs) writing.beside writing.adds (adds_weaker (AfterStep (Beside xs) mid) mid new adds follows_one)
 
   -- one block more
-  pub writing_more : {T E : Type 0} (r : Result T E) → IsAscending xs → AreSized xs → IsOk r → IsCall mid new r
+  pub writing_more : {T E : Type 0} (r : Result T E) → IsAscending xs → AreSized xs → IsOk r → IsDeviceCall mid new r
       → (IsTrue mid.tells → OnArea areas.Store (Torn (place x.number x.block) (length x.bytes.now)) mid.seen new.seen)
       → (IsTrue mid.tells → new.seen.store ≡ written mid.seen.store (place x.number x.block) x.bytes.now) → IsWriting xs old new (i + 1)
   writing_more r up sized went call content done = record {
@@ -94,8 +94,8 @@ module _ (xs : List Block) (old mid new : Moment) (i : ℕ) (x : Block) (is : sl
       below_or_at j i low = grind (arith, low)
 
   -- or a write that failed, at which the run ends
-  pub writing_failed : {T E U F : Type 0} (r : Result T E) (e : E) (u : Result U F) → IsCall mid new r → r ≡ Err e → IsErr u → (IsAtEnd old → mid ≡ old)
-      → IsRun old new u (AfterStep (Beside xs) old)
+  pub writing_failed : {T E U F : Type 0} (r : Result T E) (e : E) (u : Result U F) → IsDeviceCall mid new r → r ≡ Err e → IsErr u → (IsAtEnd old → mid ≡ old)
+      → IsDeviceRun old new u (AfterStep (Beside xs) old)
   writing_failed r e u call was failed stands = record {
     tells = call.tells ∙ writing.tells;
     rises = omega (arith, call.rises, writing.faults);
@@ -227,7 +227,7 @@ module _ (s : Story) (is : IsStory s) (xs : List Noted) (durable : ℕ) (files :
 -- writes of dirty blocks, whatever came of them
 pub wrote : {T E : Type 0} (s : Story) → IsStory s → (m new : Moment) (log : Log) (durable : ℕ) (xs : List Noted) (files : ℕ → Bool) (blocks : List Block) (r : Result T E) → IsKept s m log durable xs
     → AreDirty s xs durable files blocks → ((c : Image) → m.may_leave c → m.left_since m.calls c) → ((t u : ℕ) (c : Image) → t ≤ u → new.left_since u c → new.left_since t c)
-    → IsRun m new r (AfterStep (Beside blocks) m) → Follows (Beside blocks) m new → (IsTrue m.tells → new.seen.log ≡ m.seen.log) → (IsAtEnd m → new ≡ m) → IsKept s new log durable xs
+    → IsDeviceRun m new r (AfterStep (Beside blocks) m) → Follows (Beside blocks) m new → (IsTrue m.tells → new.seen.log ≡ m.seen.log) → (IsAtEnd m → new ≡ m) → IsKept s new log durable xs
 wrote s is m new log durable xs files blocks r kept given counts less run follows same_log stands =
     let bounded : (number : ℕ) → covered xs number ≤ durable = λ number. covered_le s m durable xs number kept.past in
     let left : IsTrue m.tells → (c : Image) → AfterStep (Beside blocks) m c → IsLeft s durable (covered xs) c =
@@ -250,7 +250,7 @@ module _ (xs : List Block) (old mid new : Moment) (n : ℕ) (writing : IsWriting
   pub synced_follows : Follows (Beside xs) old new
   synced_follows = λ c may. writing.beside c (crash c may)
 
-  pub synced_run : {T E : Type 0} (r : Result T E) → IsCall mid new r → (IsAtEnd old → mid ≡ old) → IsRun old new r (AfterStep (Beside xs) old)
+  pub synced_run : {T E : Type 0} (r : Result T E) → IsDeviceCall mid new r → (IsAtEnd old → mid ≡ old) → IsDeviceRun old new r (AfterStep (Beside xs) old)
   synced_run r call stands = record {
     tells = call.tells ∙ writing.tells;
     rises = omega (arith, call.rises, writing.faults);

@@ -1,7 +1,7 @@
 //! Blocks of files that are written.
 ghost use Rattle.std.specs.Prelude.{◌≡◌, ◌+◌, IsTrue, OnOk, length};
 ghost use Rattle.pass_outside.specs.Areas.{Image};
-ghost use Rattle.pass_outside.specs.Moments.{IsAtEnd, IsRun, AfterStep, Follows};
+ghost use Rattle.pass_outside.specs.Moments.{IsAtEnd, IsDeviceRun, AfterStep, Follows};
 ghost use Rattle.pass_keep.specs.Dirty.{IsAscending, AreSized, AreHeld, Beside};
 
 use pass_outside::{Area, Disk, Failed};
@@ -21,7 +21,7 @@ pub fn write_blocks<D: Disk>(disk: &mut D, blocks: &[Block<'_>]) -> Result<(), F
     requires sized { AreSized blocks.now }
     ensures held { OnOk result (IsTrue (D.view disk.old).tells → (c : Image) → (D.view disk.new).may_leave c → AreHeld blocks.now (length blocks.now) c.store) }
     ensures beside { Follows (Beside blocks.now) (D.view disk.old) (D.view disk.new) }
-    ensures run { IsRun (D.view disk.old) (D.view disk.new) result (AfterStep (Beside blocks.now) (D.view disk.old)) }
+    ensures run { IsDeviceRun (D.view disk.old) (D.view disk.new) result (AfterStep (Beside blocks.now) (D.view disk.old)) }
     ensures log { IsTrue (D.view disk.old).tells → (D.view disk.new).seen.log ≡ (D.view disk.old).seen.log }
     ensures calls { OnOk result ((D.view disk.new).calls ≡ (D.view disk.old).calls + length blocks.now + 1) }
     ensures stands { IsAtEnd (D.view disk.old) → disk.new ≡ disk.old }

@@ -5,7 +5,7 @@ use Rattle.std.proofs.lemmas.Bool.{cases_eq}
 use Rattle.std.proofs.lemmas.List.{length-replicate, take_at}
 use Rattle.pass_outside.specs.declared.disk.Area.TheVariants as areas
 use Rattle.pass_outside.specs.Areas.{Image, OnArea, Torn, written}
-use Rattle.pass_outside.specs.Moments.{Moment, IsAtEnd, IsRun, Adds, AfterStep, Follows}
+use Rattle.pass_outside.specs.Moments.{Moment, IsAtEnd, IsDeviceRun, Adds, AfterStep, Follows}
 use Rattle.pass_outside.specs.Runs.{adds_nothing, adds_weaker, adds_both, adds_steps, follows_both, follows_weaker}
 use Rattle.pass_log.specs.declared.log.Log.{Log}
 use Rattle.pass_log.specs.Frames.{frames_of, longest, with_frame, staged, Rests}
@@ -119,7 +119,7 @@ staged_moments log old mid frame settled healthy room tells stands adds = elim (
 ]
 
 -- after a failure nothing is known of the area
-pub settled_failed : {T E : Type 0} (log : Log) (old mid new : Moment) (r : Result T E) (P : Image → Type 0) → IsSettled log old → old.faults ≤ mid.faults → IsRun mid new r P → IsErr r → IsSettled log new
+pub settled_failed : {T E : Type 0} (log : Log) (old mid new : Moment) (r : Result T E) (P : Image → Type 0) → IsSettled log old → old.faults ≤ mid.faults → IsDeviceRun mid new r P → IsErr r → IsSettled log new
 settled_failed log old mid new r P settled rose run failed = record {
   opened = omega (arith, settled.opened, rose, run.rises);
   stands = λ tells same not_end. ⊎_elim (λ more. absurd (omega (arith, more, same, settled.opened, rose))) (λ ended. absurd (not_end ended)) (run.err failed);

@@ -2,7 +2,7 @@
 use Rattle.std.proofs.Common.{◌≡◌, ◌⊎◌, ℕ, min, ◌+◌, ◌-◌, ◌<◌, ◌≤◌, List, ◌++◌, length, take, drop, Result, IsErr, inl, inr, ⊎_elim, sym, ◌∙◌, ap, arith, length-append, length-drop, length-take}
 use Rattle.std.proofs.Math.Seq.{take-add}
 use Rattle.std.proofs.lemmas.List.{take_at, take_all}
-use Rattle.pass_outside.specs.Moments.{Moment, IsAtEnd, IsCall}
+use Rattle.pass_outside.specs.Moments.{Moment, IsAtEnd, IsDeviceCall}
 
 -- one piece more
 pub more_bytes : (log bytes new piece old : List ℕ) (n : ℕ) → bytes ≡ take (length bytes) log → n ≤ length log - length bytes
@@ -25,7 +25,7 @@ all_bytes log bytes size so_far whole enough =
     take_all size bytes (omega (arith, least, whole)) ∙ so_far ∙ take_all (length bytes) log (omega (arith, enough, whole))
 
 -- a call that failed
-pub call_failed : {T E : Type 0} (old new : Moment) (r : Result T E) → IsCall old new r → IsErr r → (old.faults < new.faults) ⊎ IsAtEnd new
+pub call_failed : {T E : Type 0} (old new : Moment) (r : Result T E) → IsDeviceCall old new r → IsErr r → (old.faults < new.faults) ⊎ IsAtEnd new
 call_failed old new r call failed =
     ⊎_elim inl (λ stood. inr (⊎_elim (λ a. inl (omega (arith, a, stood.1))) (λ b. inr (omega (arith, b, stood.2))) stood.0)) (call.err failed)
 

@@ -5,7 +5,7 @@ use Rattle.pass_outside.specs.declared.disk.Area.{Area}
 use Rattle.pass_outside.specs.declared.change.Change.TheVariants.{Wrote}
 use Rattle.pass_outside.specs.declared.change.Event.{Event}
 use Rattle.pass_outside.specs.Areas.{Image, area_of, with_area, written, Torn, OnArea}
-use Rattle.pass_outside.specs.Moments.{IsCall}
+use Rattle.pass_outside.specs.Moments.{IsDeviceCall}
 use Rattle.pass_outside.specs.Scripts.{Script, is_due, IsOver, HasBegun, IsRefused, GoesOn}
 use Rattle.pass_outside.specs.History.{Past, changed, leaves, next, after_all, beginning, latest}
 use Rattle.pass_outside.specs.Memory.{moment_of}
@@ -46,7 +46,7 @@ goes_starved e old mid new begun starves = record {
 
 -- a call that changes nothing
 
-pub call_ok : {T E : Type 0} (x : T) (p : Past) (old new : Script) → HasBegun old new → IsCall {T = T} {E = E} (moment_of p old) (moment_of p new) (Ok x)
+pub call_ok : {T E : Type 0} (x : T) (p : Past) (old new : Script) → HasBegun old new → IsDeviceCall {T = T} {E = E} (moment_of p old) (moment_of p new) (Ok x)
 call_ok x p old new begun =
     let calls : new.calls ≡ old.calls + 1 = ap (λ (s : Script). s.calls) begun.counted in
     let faults : new.faults ≡ old.faults = ap (λ (s : Script). s.faults) begun.counted in
@@ -60,11 +60,11 @@ call_ok x p old new begun =
       keeps = λ t c le left. left;
     }
 
-pub call_refused : {T E : Type 0} (r : Result T E) (p : Past) (old new : Script) → IsErr r → IsRefused old new → IsCall (moment_of p old) (moment_of p new) r
+pub call_refused : {T E : Type 0} (r : Result T E) (p : Past) (old new : Script) → IsErr r → IsRefused old new → IsDeviceCall (moment_of p old) (moment_of p new) r
 call_refused {T} {E} (Ok x) p old new failed refused = absurd (cc failed)
 call_refused {T} {E} (Err e) p old new failed refused = ⊎_elim by_end by_due refused
   where
-    by_end : IsOver old × (new ≡ old) → IsCall {T = T} {E = E} (moment_of p old) (moment_of p new) (Err e)
+    by_end : IsOver old × (new ≡ old) → IsDeviceCall {T = T} {E = E} (moment_of p old) (moment_of p new) (Err e)
     by_end stood =
         let calls : new.calls ≡ old.calls = ap (λ (s : Script). s.calls) stood.1 in
         let faults : new.faults ≡ old.faults = ap (λ (s : Script). s.faults) stood.1 in
@@ -78,7 +78,7 @@ call_refused {T} {E} (Err e) p old new failed refused = ⊎_elim by_end by_due r
           keeps = λ t c le left. left;
         }
 
-    by_due : (IsOver old → ⊥) × (is_due old.fail old.stop (old.calls + 1) ≡ true) × (new ≡ record old { calls = old.calls + 1; faults = old.faults + 1 }) → IsCall {T = T} {E = E} (moment_of p old) (moment_of p new) (Err e)
+    by_due : (IsOver old → ⊥) × (is_due old.fail old.stop (old.calls + 1) ≡ true) × (new ≡ record old { calls = old.calls + 1; faults = old.faults + 1 }) → IsDeviceCall {T = T} {E = E} (moment_of p old) (moment_of p new) (Err e)
     by_due due =
         let calls : new.calls ≡ old.calls + 1 = ap (λ (s : Script). s.calls) due.2 in
         let faults : new.faults ≡ old.faults + 1 = ap (λ (s : Script). s.faults) due.2 in
@@ -93,7 +93,7 @@ call_refused {T} {E} (Err e) p old new failed refused = ⊎_elim by_end by_due r
         }
 
 pub call_starved : {T E : Type 0} (e : E) (p : Past) (old mid new : Script) → HasBegun old mid → new ≡ record mid { faults = mid.faults + 1; starved = mid.starved + 1 }
-    → IsCall {T = T} {E = E} (moment_of p old) (moment_of p new) (Err e)
+    → IsDeviceCall {T = T} {E = E} (moment_of p old) (moment_of p new) (Err e)
 call_starved e p old mid new begun starves =
     let calls : new.calls ≡ old.calls + 1 = ap (λ (s : Script). s.calls) starves ∙ ap (λ (s : Script). s.calls) begun.counted in
     let faults : new.faults ≡ old.faults + 1 = ap (λ (s : Script). s.faults) starves ∙ ap (λ (s : Script). s.faults + 1) begun.counted in
@@ -145,7 +145,7 @@ module _ (first : Image) (es vs : List Event) (e : Event) (grown : vs ≡ es ++ 
   new_may c left = subst (λ (x : Past). x.may_leave c) (sym next_is) left
 
   pub call_new : {T E : Type 0} (x : T) (old new : Script) → HasBegun old new → e.call ≡ old.calls + 1
-      → IsCall {T = T} {E = E} (moment_of (after_all (beginning first) es) old) (moment_of (after_all (beginning first) vs) new) (Ok x)
+      → IsDeviceCall {T = T} {E = E} (moment_of (after_all (beginning first) es) old) (moment_of (after_all (beginning first) vs) new) (Ok x)
   call_new x old new begun now =
       let calls : new.calls ≡ old.calls + 1 = ap (λ (s : Script). s.calls) begun.counted in
       let faults : new.faults ≡ old.faults = ap (λ (s : Script). s.faults) begun.counted in

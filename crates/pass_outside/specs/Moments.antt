@@ -40,7 +40,7 @@ pub record Adds (old new : Moment) (P : Image → Type 0) : Type 0 where
   pub nothing_else : (t : ℕ) (c : Image) → t ≤ old.calls → new.left_since t c → old.left_since t c ⊎ P c
 
 -- One device call. It fails exactly where the count of faults rose, or a count stood at its end.
-pub record IsCall {T E : Type 0} (old new : Moment) (result : Result T E) : Type 0 where
+pub record IsDeviceCall {T E : Type 0} (old new : Moment) (result : Result T E) : Type 0 where
   pub tells : new.tells ≡ old.tells
   pub rises : old.faults ≤ new.faults
   pub one_more : (IsAtEnd old → ⊥) → new.calls ≡ old.calls + 1
@@ -50,9 +50,18 @@ pub record IsCall {T E : Type 0} (old new : Moment) (result : Result T E) : Type
   pub keeps : (t : ℕ) (c : Image) → t ≤ old.calls → old.left_since t c → new.left_since t c
 
 -- A run of device calls that ends at the first that fails, and what it adds.
-pub record IsRun {T E : Type 0} (old new : Moment) (result : Result T E) (P : Image → Type 0) : Type 0 where
+pub record IsDeviceRun {T E : Type 0} (old new : Moment) (result : Result T E) (P : Image → Type 0) : Type 0 where
   pub tells : new.tells ≡ old.tells
   pub rises : old.faults ≤ new.faults
   pub ok : IsOk result → (new.faults ≡ old.faults) × (IsAtEnd old → ⊥)
   pub err : IsErr result → (old.faults < new.faults) ⊎ IsAtEnd new
   pub adds : Adds old new P
+
+-- What a function did that may call the device, or answer before it does: the count of faults rises where the answer is
+-- a fault of the device, and only there.
+pub record IsDeviceWork (old new : Moment) (failed : Type 0) : Type 0 where
+  pub tells : new.tells ≡ old.tells
+  pub rises : old.faults ≤ new.faults
+  pub later : old.calls ≤ new.calls
+  pub fault : failed → (old.faults < new.faults) ⊎ IsAtEnd new
+  pub no_fault : (failed → ⊥) → new.faults ≡ old.faults

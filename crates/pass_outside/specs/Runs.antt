@@ -3,7 +3,7 @@ use Rattle.std.specs.Prelude.{◌≡◌, ℕ, ◌≤◌, Result, Ok, Err, IsOk, 
 use Rattle.std.proofs.Common.{inl, inr, ⊎_elim, arith, subst, sym, refl, ◌∙◌}
 use Rattle.pass_outside.specs.Areas.{Image}
 use Rattle.pass_outside.specs.Faults.{HasRisen, HasStayed}
-use Rattle.pass_outside.specs.Moments.{Moment, Adds, IsCall, IsRun, AfterStep, Follows}
+use Rattle.pass_outside.specs.Moments.{Moment, Adds, IsDeviceCall, IsDeviceRun, AfterStep, Follows}
 
 -- a count that stayed didn't rise
 pub not_both : (old new : ℕ) → HasStayed old new → HasRisen old new → ⊥
@@ -38,7 +38,7 @@ since_kept {P} R old new t run le before added c left = ⊎_elim (before c) (add
 
 -- a run that ends at its first call
 pub run_failed : {T E U F : Type 0} {old new : Moment} (P : Image → Type 0) (r : Result T E) (e : E) (s : Result U F)
-    → IsCall old new r → r ≡ Err e → IsErr s → ((c : Image) → new.may_leave c → P c) → IsRun old new s P
+    → IsDeviceCall old new r → r ≡ Err e → IsErr s → ((c : Image) → new.may_leave c → P c) → IsDeviceRun old new s P
 run_failed {T} {E} {U} {F} {old} {new} P r e (Ok x) call is h p = absurd (cc h)
 run_failed {T} {E} {U} {F} {old} {new} P r e (Err x) call is h p =
     let failed : IsErr r = subst IsErr (sym is) refl in
@@ -52,7 +52,7 @@ run_failed {T} {E} {U} {F} {old} {new} P r e (Err x) call is h p =
 
 -- a run of two calls
 pub run_two : {T E U F : Type 0} {old mid new : Moment} (P : Image → Type 0) (r : Result T E) (x : T) (s : Result U F)
-    → IsCall old mid r → r ≡ Ok x → IsCall mid new s → ((c : Image) → mid.may_leave c → P c) → ((c : Image) → new.may_leave c → P c) → IsRun old new s P
+    → IsDeviceCall old mid r → r ≡ Ok x → IsDeviceCall mid new s → ((c : Image) → mid.may_leave c → P c) → ((c : Image) → new.may_leave c → P c) → IsDeviceRun old new s P
 run_two {T} {E} {U} {F} {old} {mid} {new} P r x s first is then p q =
     let went : IsOk r = subst IsOk (sym is) refl in
     let same = (first.ok went).0 in

@@ -13,7 +13,7 @@ pub enum Area {
 /// Two areas that outlive a crash. Each call but the last two is a device call, and counts as one.
 pub trait Disk {
     ghost use Rattle.pass_outside.specs.Areas.{Image, area_of, other, written, Torn, CutBack, OnArea};
-    ghost use Rattle.pass_outside.specs.Moments.{Moment, IsAtEnd, IsCall, Follows, Reaches};
+    ghost use Rattle.pass_outside.specs.Moments.{Moment, IsAtEnd, IsDeviceCall, Follows, Reaches};
 
     /// What it means now.
     ghost view: { Self → Moment };
@@ -24,7 +24,7 @@ pub trait Disk {
         ensures content { (view self.new).seen ≡ (view self.old).seen }
         ensures crash { (c : Image) → (view self.new).may_leave c → (view self.old).may_leave c }
         ensures reaches { (c : Image) → (view self.old).may_leave c → (view self.new).may_leave c }
-        ensures call { IsCall (view self.old) (view self.new) result }
+        ensures call { IsDeviceCall (view self.old) (view self.new) result }
         ensures stands { IsAtEnd (view self.old) → self.new ≡ self.old };
 
     /// Fills the front of `into` with the bytes from `at` on: as many as lie there, at most its length.
@@ -35,7 +35,7 @@ pub trait Disk {
         ensures content { (view self.new).seen ≡ (view self.old).seen }
         ensures crash { (c : Image) → (view self.new).may_leave c → (view self.old).may_leave c }
         ensures reaches { (c : Image) → (view self.old).may_leave c → (view self.new).may_leave c }
-        ensures call { IsCall (view self.old) (view self.new) result }
+        ensures call { IsDeviceCall (view self.old) (view self.new) result }
         ensures stands { IsAtEnd (view self.old) → self.new ≡ self.old };
 
     /// Writes over what is there, and past the end. Until a sync, a crash may leave any bytes in the range.
@@ -44,7 +44,7 @@ pub trait Disk {
         ensures content { IsTrue (view self.old).tells → OnArea area (Torn at (length bytes.now)) (view self.old).seen (view self.new).seen }
         ensures crash { Follows (OnArea area (Torn at (length bytes.now))) (view self.old) (view self.new) }
         ensures reaches { OnOk result (IsTrue (view self.old).tells → Reaches (OnArea area (Torn at (length bytes.now))) (view self.old) (view self.new)) }
-        ensures call { IsCall (view self.old) (view self.new) result }
+        ensures call { IsDeviceCall (view self.old) (view self.new) result }
         ensures stands { IsAtEnd (view self.old) → self.new ≡ self.old };
 
     /// Cuts an area to a length, where it is longer. Until a sync, it may end anywhere from there on.
@@ -53,7 +53,7 @@ pub trait Disk {
         ensures content { IsTrue (view self.old).tells → OnArea area (CutBack len) (view self.old).seen (view self.new).seen }
         ensures crash { Follows (OnArea area (CutBack len)) (view self.old) (view self.new) }
         ensures reaches { OnOk result (IsTrue (view self.old).tells → Reaches (OnArea area (CutBack len)) (view self.old) (view self.new)) }
-        ensures call { IsCall (view self.old) (view self.new) result }
+        ensures call { IsDeviceCall (view self.old) (view self.new) result }
         ensures stands { IsAtEnd (view self.old) → self.new ≡ self.old };
 
     /// After it, a crash leaves of this area what a read gives. One that failed promises nothing.
@@ -63,7 +63,7 @@ pub trait Disk {
         ensures elsewhere { IsTrue (view self.old).tells → area_of (other area) (view self.new).seen ≡ area_of (other area) (view self.old).seen }
         ensures crash { (c : Image) → (view self.new).may_leave c → (view self.old).may_leave c }
         ensures reaches { OnOk result (IsTrue (view self.old).tells → (c : Image) → (view self.old).may_leave c → area_of area c ≡ area_of area (view self.old).seen → (view self.new).may_leave c) }
-        ensures call { IsCall (view self.old) (view self.new) result }
+        ensures call { IsDeviceCall (view self.old) (view self.new) result }
         ensures stands { IsAtEnd (view self.old) → self.new ≡ self.old };
 
     /// The count of device calls. What a crash since this moment may leave is what one now may leave.

@@ -96,7 +96,7 @@ impl MemDisk {
 impl Disk for MemDisk {
     ghost use Rattle.std.specs.Prelude.{◌-◌, ◌++◌, length, take, drop, min, IfOk, OnOk, OnErr};
     ghost use Rattle.pass_outside.specs.Areas.{Image, area_of, other, with_area, written, Torn, CutBack, OnArea};
-    ghost use Rattle.pass_outside.specs.Moments.{IsAtEnd, IsCall, Follows, Reaches};
+    ghost use Rattle.pass_outside.specs.Moments.{IsAtEnd, IsDeviceCall, Follows, Reaches};
     ghost use Rattle.pass_outside.specs.Scripts.{IsOver, GoesOn};
     ghost use Rattle.pass_outside.specs.declared.keep.Keep.{Keep};
     ghost use Rattle.pass_outside.specs.Keeping.{kept_write, kept_cut};
@@ -116,7 +116,7 @@ impl Disk for MemDisk {
         ensures content { (memory_view self.new).seen ≡ (memory_view self.old).seen }
         ensures crash { (c : Image) → (memory_view self.new).may_leave c → (memory_view self.old).may_leave c }
         ensures reaches { (c : Image) → (memory_view self.old).may_leave c → (memory_view self.new).may_leave c }
-        ensures call { IsCall (memory_view self.old) (memory_view self.new) result }
+        ensures call { IsDeviceCall (memory_view self.old) (memory_view self.new) result }
         ensures stands { IsAtEnd (memory_view self.old) → self.new ≡ self.old }
         ensures script { (IsOver (disk_script self.old) → ⊥) → GoesOn (disk_script self.old) (disk_script self.new) result }
         ensures kept { (keep : Keep) → image_kept keep self.new ≡ image_kept keep self.old }
@@ -132,7 +132,7 @@ impl Disk for MemDisk {
         ensures content { (memory_view self.new).seen ≡ (memory_view self.old).seen }
         ensures crash { (c : Image) → (memory_view self.new).may_leave c → (memory_view self.old).may_leave c }
         ensures reaches { (c : Image) → (memory_view self.old).may_leave c → (memory_view self.new).may_leave c }
-        ensures call { IsCall (memory_view self.old) (memory_view self.new) result }
+        ensures call { IsDeviceCall (memory_view self.old) (memory_view self.new) result }
         ensures stands { IsAtEnd (memory_view self.old) → self.new ≡ self.old }
         ensures script { (IsOver (disk_script self.old) → ⊥) → GoesOn (disk_script self.old) (disk_script self.new) result }
         ensures kept { (keep : Keep) → image_kept keep self.new ≡ image_kept keep self.old }
@@ -146,7 +146,7 @@ impl Disk for MemDisk {
         ensures content { OnArea area (Torn at (length bytes.now)) (memory_view self.old).seen (memory_view self.new).seen }
         ensures crash { Follows (OnArea area (Torn at (length bytes.now))) (memory_view self.old) (memory_view self.new) }
         ensures reaches { OnOk result (Reaches (OnArea area (Torn at (length bytes.now))) (memory_view self.old) (memory_view self.new)) }
-        ensures call { IsCall (memory_view self.old) (memory_view self.new) result }
+        ensures call { IsDeviceCall (memory_view self.old) (memory_view self.new) result }
         ensures stands { IsAtEnd (memory_view self.old) → self.new ≡ self.old }
         ensures script { (IsOver (disk_script self.old) → ⊥) → GoesOn (disk_script self.old) (disk_script self.new) result }
         ensures kept { OnOk result ((keep : Keep) → image_kept keep self.new ≡ with_area area (kept_write keep (area_of area (image_kept keep self.old)) at bytes.now) (image_kept keep self.old)) }
@@ -173,7 +173,7 @@ impl Disk for MemDisk {
         ensures content { OnArea area (CutBack len) (memory_view self.old).seen (memory_view self.new).seen }
         ensures crash { Follows (OnArea area (CutBack len)) (memory_view self.old) (memory_view self.new) }
         ensures reaches { OnOk result (Reaches (OnArea area (CutBack len)) (memory_view self.old) (memory_view self.new)) }
-        ensures call { IsCall (memory_view self.old) (memory_view self.new) result }
+        ensures call { IsDeviceCall (memory_view self.old) (memory_view self.new) result }
         ensures stands { IsAtEnd (memory_view self.old) → self.new ≡ self.old }
         ensures script { (IsOver (disk_script self.old) → ⊥) → GoesOn (disk_script self.old) (disk_script self.new) result }
         ensures kept { OnOk result ((keep : Keep) → image_kept keep self.new ≡ with_area area (kept_cut keep (area_of area (image_kept keep self.old)) len) (image_kept keep self.old)) }
@@ -193,7 +193,7 @@ impl Disk for MemDisk {
         ensures elsewhere { area_of (other area) (memory_view self.new).seen ≡ area_of (other area) (memory_view self.old).seen }
         ensures crash { (c : Image) → (memory_view self.new).may_leave c → (memory_view self.old).may_leave c }
         ensures reaches { OnOk result ((c : Image) → (memory_view self.old).may_leave c → area_of area c ≡ area_of area (memory_view self.old).seen → (memory_view self.new).may_leave c) }
-        ensures call { IsCall (memory_view self.old) (memory_view self.new) result }
+        ensures call { IsDeviceCall (memory_view self.old) (memory_view self.new) result }
         ensures stands { IsAtEnd (memory_view self.old) → self.new ≡ self.old }
         ensures script { (IsOver (disk_script self.old) → ⊥) → GoesOn (disk_script self.old) (disk_script self.new) result }
         // What is read now is kept whatever comes.

@@ -4,7 +4,7 @@ use Rattle.std.specs.Prelude.{Result, Ok, Err, IsErr}
 use Rattle.std.proofs.lemmas.List.{append-nil, take_min, take-replicate, drop_all, take_at}
 use borrow.Rule.Slice.PartMut.{put_mid}
 use Rattle.pass_outside.proofs.Flat.{take_append}
-use Rattle.pass_outside.specs.Moments.{Moment, IsCall}
+use Rattle.pass_outside.specs.Moments.{Moment, IsDeviceCall}
 use Rattle.pass_range.specs.Places.{found_there}
 
 -- bytes that were read, and zeros behind them
@@ -28,7 +28,7 @@ read_filled at len count area old into zeros counted is long zero =
     ∙ ap (λ (l : List ℕ). l ++ replicate (length into - count) 0) head ∙ sym found
 
 -- what is answered for a call that failed
-pub failed_call : {T E U F : Type 0} {old new : Moment} (r : Result T E) (e : E) (s : Result U F) → IsCall old new r → r ≡ Err e → IsErr s → IsCall old new s
+pub failed_call : {T E U F : Type 0} {old new : Moment} (r : Result T E) (e : E) (s : Result U F) → IsDeviceCall old new r → r ≡ Err e → IsErr s → IsDeviceCall old new s
 failed_call r e (Ok x) call is err = absurd (cc err)
 failed_call {T} {E} r e (Err f) call is err =
     let failed : IsErr r = subst IsErr (sym is) refl in

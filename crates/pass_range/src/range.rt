@@ -4,7 +4,7 @@ ghost use Rattle.std.specs.List.{All};
 ghost use Rattle.md5.specs.Md5.{md5};
 ghost use Rattle.pass_outside.specs.Areas.{Image, written, Torn, OnArea};
 ghost use Rattle.pass_outside.specs.declared.disk.Area.TheVariants as areas;
-ghost use Rattle.pass_outside.specs.Moments.{IsAtEnd, IsCall, Adds, Follows, Reaches};
+ghost use Rattle.pass_outside.specs.Moments.{IsAtEnd, IsDeviceCall, Adds, Follows, Reaches};
 ghost use Rattle.pass_plain.specs.Records.{block_size, range_len};
 ghost use Rattle.pass_range.specs.Places.{place, found_there};
 ghost use Rattle.pass_range.specs.Rows.{range};
@@ -65,7 +65,7 @@ pub fn write_range<D: Disk>(
     ensures content { IsTrue (D.view disk.old).tells → OnArea areas.Store (Torn (place number block) (length bytes.now)) (D.view disk.old).seen (D.view disk.new).seen }
     ensures crash { Follows (OnArea areas.Store (Torn (place number block) (length bytes.now))) (D.view disk.old) (D.view disk.new) }
     ensures reaches { OnOk result (IsTrue (D.view disk.old).tells → Reaches (OnArea areas.Store (Torn (place number block) (length bytes.now))) (D.view disk.old) (D.view disk.new)) }
-    ensures call { IsCall (D.view disk.old) (D.view disk.new) result }
+    ensures call { IsDeviceCall (D.view disk.old) (D.view disk.new) result }
     ensures stands { IsAtEnd (D.view disk.old) → disk.new ≡ disk.old }
 {
     disk.write_at(Area::Store, place(number, block), bytes)
@@ -83,7 +83,7 @@ pub fn read_range<D: Disk>(
     ensures content { (D.view disk.new).seen ≡ (D.view disk.old).seen }
     ensures crash { (c : Image) → (D.view disk.new).may_leave c → (D.view disk.old).may_leave c }
     ensures reaches { (c : Image) → (D.view disk.old).may_leave c → (D.view disk.new).may_leave c }
-    ensures call { IsCall (D.view disk.old) (D.view disk.new) result }
+    ensures call { IsDeviceCall (D.view disk.old) (D.view disk.new) result }
     ensures stands { IsAtEnd (D.view disk.old) → disk.new ≡ disk.old }
 {
     let count = disk.read(Area::Store, place(number, block), &mut *into)?;

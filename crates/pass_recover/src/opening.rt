@@ -5,7 +5,7 @@ ghost use Rattle.pass_entry.specs.Ranges.{IsInRange};
 ghost use Rattle.pass_graph.specs.Openings.{Continues};
 ghost use Rattle.pass_log.specs.LogImage.{IsRead};
 ghost use Rattle.pass_outside.specs.Areas.{Image};
-ghost use Rattle.pass_outside.specs.Moments.{IsRun, Adds};
+ghost use Rattle.pass_outside.specs.Moments.{IsDeviceRun, Adds};
 ghost use Rattle.pass_plain.specs.Legal.{session_of};
 ghost use Rattle.pass_plain.specs.Sound.{IsSound};
 ghost use Rattle.pass_plain.specs.WellLogged.{IsWellLogged};
@@ -46,7 +46,7 @@ fn settle<D: Disk>(disk: &mut D) -> Result<(), Failed>
     ensures content { OnOk result ((D.view disk.new).seen ≡ (D.view disk.old).seen) }
     ensures two { OnOk result ((D.view disk.new).calls ≡ (D.view disk.old).calls + 2) }
     ensures crash { (c : Image) → (D.view disk.new).may_leave c → (D.view disk.old).may_leave c }
-    ensures run { IsRun (D.view disk.old) (D.view disk.new) result (D.view disk.old).may_leave }
+    ensures run { IsDeviceRun (D.view disk.old) (D.view disk.new) result (D.view disk.old).may_leave }
 {
     sync_both(disk)?;
     // The count marks the moment.

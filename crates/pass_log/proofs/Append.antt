@@ -9,7 +9,7 @@ use Rattle.pass_outside.specs.Moments.{Moment, IsAtEnd, IsDeviceRun, Adds, After
 use Rattle.pass_outside.specs.Runs.{adds_nothing, adds_weaker, adds_both, adds_steps, follows_both, follows_weaker}
 use Rattle.pass_log.specs.declared.log.Log.{Log}
 use Rattle.pass_log.specs.Frames.{frames_of, longest, with_frame, staged, Rests}
-use Rattle.pass_log.specs.Log.{Stands, IsSettled, IsStaged, batch_of, IsBeforeOrAfter, SameStore}
+use Rattle.pass_log.specs.Log.{Stands, IsSettled, IsStaged, batch_of, IsBeforeOrAfter, SameStore, LeavesStore}
 use Rattle.pass_log.proofs.Crash.{image_rests, torn_behind, written_behind, torn_gate, written_gate, Ready, found}
 
 at_end_or : (m : Moment) → IsAtEnd m ⊎ (IsAtEnd m → ⊥)
@@ -134,17 +134,28 @@ both_moments log old mid new frame s room is done durable first second =
     adds_both (λ c. IsBeforeOrAfter (batch_of frame) (frames_of old.seen.log) (frames_of c.log)) old mid new first second
     (λ c x. inl (behind log old s frame room c x)) (at_gate log old s frame room mid is done durable)
 
--- both steps leave the store area alone
-pub both_now : (old mid new : Moment) (step next : List ℕ → List ℕ → Type 0) → Follows (OnArea areas.Log step) old mid → Follows (OnArea areas.Log next) mid new → Follows SameStore old new
-both_now old mid new step next first then =
-    follows_both SameStore old mid new (λ a b c x y. y ∙ x) (follows_weaker (OnArea areas.Log step) SameStore old mid (λ a b x. x.elsewhere) first)
-    (follows_weaker (OnArea areas.Log next) SameStore mid new (λ a b x. x.elsewhere) then)
+-- a step of the log area leaves the store area
+pub store_one : (old new : Moment) (step : List ℕ → List ℕ → Type 0) → (IsTrue old.tells → SameStore old.seen new.seen) → Follows (OnArea areas.Log step) old new
+    → Adds old new (AfterStep (OnArea areas.Log step) old) → LeavesStore old new
+store_one old new step reads crash adds = record {
+  reads = reads;
+  at_once = follows_weaker (OnArea areas.Log step) SameStore old new (λ a b x. x.elsewhere) crash;
+  moments = adds_weaker (AfterStep SameStore old) old new adds (λ i x. (x.0, x.1, x.2.elsewhere));
+}
 
-pub both_stores : (old mid new : Moment) (step next : List ℕ → List ℕ → Type 0) → Follows (OnArea areas.Log step) old mid
-    → Adds old mid (AfterStep (OnArea areas.Log step) old) → Adds mid new (AfterStep (OnArea areas.Log next) mid) → Adds old new (AfterStep SameStore old)
-both_stores old mid new step next follows first then =
-    adds_steps SameStore old mid new (λ a b c x y. y ∙ x) (follows_weaker (OnArea areas.Log step) SameStore old mid (λ a b x. x.elsewhere) follows)
-    (adds_weaker (AfterStep SameStore old) old mid first (λ i x. (x.0, x.1, x.2.elsewhere))) (adds_weaker (AfterStep SameStore mid) mid new then (λ i x. (x.0, x.1, x.2.elsewhere)))
+-- and so do both steps
+pub store_both : (old mid new : Moment) (step next : List ℕ → List ℕ → Type 0) → mid.tells ≡ old.tells
+    → (IsTrue old.tells → SameStore old.seen mid.seen) → (IsTrue mid.tells → SameStore mid.seen new.seen)
+    → Follows (OnArea areas.Log step) old mid → Follows (OnArea areas.Log next) mid new
+    → Adds old mid (AfterStep (OnArea areas.Log step) old) → Adds mid new (AfterStep (OnArea areas.Log next) mid) → LeavesStore old new
+store_both old mid new step next same first_reads then_reads first then adds adds_then =
+    let one = store_one old mid step first_reads first adds in
+    let two = store_one mid new next then_reads then adds_then in
+    record {
+      reads = λ told. two.reads (subst IsTrue (sym same) told) ∙ one.reads told;
+      at_once = follows_both SameStore old mid new (λ a b c x y. y ∙ x) one.at_once two.at_once;
+      moments = adds_steps SameStore old mid new (λ a b c x y. y ∙ x) one.at_once one.moments two.moments;
+    }
 
 pub batch_staged : (b : List ℕ) → batch_of (staged b) ≡ b
 batch_staged b =

@@ -47,6 +47,40 @@ front_append a b fs gs x y = record {
       ∙ ap (λ (n : ℕ). before (fs ++ gs) (scan 0 n rest)) ends;
 }
 
+-- Four bytes that spell a length, and what is left behind them.
+module _ (count : ℕ) (behind left : List ℕ) (fits : count < 2 ^ 32) (is : behind ≡ to_be_bytes w32 count ++ left) where
+  four : length (to_be_bytes w32 count) ≡ 4
+  four = refl
+
+  pub spells : number behind ≡ count
+  spells = ap number is ∙ ap (from_be_bytes w32) (take_at (to_be_bytes w32 count) left 4 four) ∙ from_be_bytes-to_be_bytes_4 count fits
+
+  pub left_length : length behind ≡ 4 + length left
+  left_length = omega (arith, ap length is, length-append (to_be_bytes w32 count) left, four)
+
+  -- too few bytes for a frame and the next gate
+  pub too_short : length left ≤ count → length behind ≤ number behind + 4
+  too_short few = omega (arith, spells, left_length, few)
+
+  module _ (frame after : List ℕ) (parts : left ≡ frame ++ after) (whole : length frame ≡ count) where
+    pub frame_is : frame ≡ take (number behind) (drop 4 behind)
+    frame_is =
+        sym (ap (λ (n : ℕ). take n (drop 4 behind)) spells
+        ∙ ap (λ (l : List ℕ). take count (drop 4 l)) is
+        ∙ ap (take count) (drop_at (to_be_bytes w32 count) left 4 four ∙ parts)
+        ∙ take_at frame after count whole)
+
+    pub after_is : after ≡ drop (number behind + 4) behind
+    after_is =
+        let head = to_be_bytes w32 count in
+        let long : length (head ++ frame) ≡ count + 4 = omega (arith, length-append head frame, whole, four) in
+        sym (ap (λ (n : ℕ). drop (n + 4) behind) spells
+        ∙ ap (drop (count + 4)) (is ∙ ap (λ (l : List ℕ). head ++ l) parts ∙ sym (append_assoc head frame after))
+        ∙ drop_at (head ++ frame) after (count + 4) long)
+
+    pub room_behind : 0 < length after → number behind + 4 < length behind
+    room_behind some = omega (arith, spells, left_length, ap length parts, length-append frame after, whole, some)
+
 -- one frame: a length, and so many bytes
 pub front_one : (xs : List ℕ) → length xs ≡ number xs + 4 → IsFront (1 ∷ xs) (drop 4 xs ∷ [])
 front_one xs long = record {

@@ -4,7 +4,7 @@ use Rattle.std.specs.List.{All}
 use Rattle.pass_entry.specs.declared.record.Record.{Record}
 use Rattle.pass_entry.specs.Ranges.{IsInRange}
 use Rattle.pass_outside.specs.Areas.{Image}
-use Rattle.pass_outside.specs.Moments.{Moment, IsAtEnd}
+use Rattle.pass_outside.specs.Moments.{Moment, IsAtEnd, Adds, AfterStep, Follows}
 use Rattle.pass_log.specs.declared.log.Log.{Log}
 use Rattle.pass_log.specs.Frames.{Frames, with_frame, staged, longest, Rests}
 use Rattle.pass_log.specs.Records.{spellings}
@@ -55,3 +55,13 @@ SameStore old new = new.store ≡ old.store
 -- the log area stays
 abbrev pub SameLog : Image → Image → Type 0
 SameLog old new = new.log ≡ old.log
+
+-- the store area stays: on each image that a crash leaves it is one that a crash might have left before
+pub record LeavesStore (old new : Moment) : Type 0 where
+  pub reads : IsTrue old.tells → SameStore old.seen new.seen
+  pub at_once : Follows SameStore old new
+  pub moments : Adds old new (AfterStep SameStore old)
+
+-- how many device calls an append makes: frame and sync, gate and sync
+abbrev pub append_calls : ℕ
+append_calls = 4

@@ -59,6 +59,14 @@ abbrev pub spellings : List Record → List ℕ
 spellings [] = []
 spellings (one ∷ list) = spelling one ++ spellings list
 
+-- how many bytes a batch's frame takes in a log: its gate, four bytes of length, and the records' bytes
+abbrev pub frame_length : List Record → ℕ
+frame_length batch = 5 + length (spellings batch)
+
+-- that of a frame with a ceiling alone
+abbrev pub ceiling_length : ℕ
+ceiling_length = 14
+
 -- the log with the records of one frame more
 abbrev pub with_batch : List Record → Result Held LogFault → Result Held LogFault
 with_batch batch (Ok log) = Ok (record { list = log.list ++ batch; end = log.end + 5 + length (spellings batch) })

@@ -3,7 +3,7 @@ ghost use Rattle.std.specs.Prelude.{◌≡◌, ◌⊎◌, ◌<◌, ◌≤◌, �
 ghost use Rattle.std.specs.List.{All};
 ghost use Rattle.pass_entry.specs.Ranges.{IsInRange};
 ghost use Rattle.pass_outside.specs.Areas.{Image};
-ghost use Rattle.pass_outside.specs.Moments.{IsAtEnd, Adds};
+ghost use Rattle.pass_outside.specs.Moments.{IsAtEnd, Adds, IsDeviceWork};
 ghost use Rattle.pass_log.specs.LogImage.{IsRead, IsFaultRead};
 
 use crate::image::parse;
@@ -11,15 +11,13 @@ use crate::{LogFault, LogImage};
 use pass_outside::{Area, Disk};
 use std::alloc::{AllocError, Global};
 
-/// The greatest length of a log area, in bytes.
+// The greatest length of a log area, in bytes.
 const LONGEST: u64 = 1 << 39;
 
-/// How many bytes one device call reads.
+// How many bytes one device call reads.
 const PIECE: usize = 65_536;
 
 /// Reads what the log area tells. Memory is taken only for what was read, and for one piece more.
-///
-/// Called by recovery.
 pub fn read_image<D: Disk>(alloc: Global, disk: &mut D) -> Result<LogImage, LogFault>
     ensures image { IfOk result (λ image. IsRead (D.view disk.old) image) }
     ensures open_next { IfOk result (λ image. IsRead (D.view disk.new) image) }
@@ -28,14 +26,10 @@ pub fn read_image<D: Disk>(alloc: Global, disk: &mut D) -> Result<LogImage, LogF
     ensures in_range { IfOk result (λ image. All IsInRange image.list.items) }
     // Which fault it is: that of the disk where a call failed, else that of the bytes, or want of memory.
     ensures fault { IfErr result (λ e. (e ≡ LogFault.DiskFault) ⊎ IsFaultRead (D.view disk.old) e) }
-    ensures failed { IsErrOf result LogFault.DiskFault → ((D.view disk.old).faults < (D.view disk.new).faults) ⊎ IsAtEnd (D.view disk.new) }
-    ensures tells { (D.view disk.new).tells ≡ (D.view disk.old).tells }
-    ensures rises { (D.view disk.old).faults ≤ (D.view disk.new).faults }
+    ensures work { IsDeviceWork (D.view disk.old) (D.view disk.new) (IsErrOf result LogFault.DiskFault) }
     ensures content { (D.view disk.new).seen ≡ (D.view disk.old).seen }
     ensures crash { (c : Image) → (D.view disk.new).may_leave c → (D.view disk.old).may_leave c }
     ensures run { Adds (D.view disk.old) (D.view disk.new) (D.view disk.old).may_leave }
-    ensures later { (D.view disk.old).calls ≤ (D.view disk.new).calls }
-    ensures no_fault { (IsErrOf result LogFault.DiskFault → ⊥) → (D.view disk.new).faults ≡ (D.view disk.old).faults }
     ensures stands { IsAtEnd (D.view disk.old) → disk.new ≡ disk.old }
 {
     let size = disk.len(Area::Log)?;
@@ -50,9 +44,7 @@ pub fn read_image<D: Disk>(alloc: Global, disk: &mut D) -> Result<LogImage, LogF
 fn buffer(alloc: Global, size: usize) -> Result<Vec<u8>, AllocError>
     ensures { IfOk result (λ v. length v.items ≡ size) }
 {
-    let mut bytes = Vec::new(alloc);
-    bytes.resize(size, 0)?;
-    Ok(bytes)
+    vec![in alloc; 0; size]
 }
 
 // The bytes of the log area, which has that length.
@@ -61,14 +53,10 @@ fn read_area<D: Disk>(alloc: Global, disk: &mut D, size: usize) -> Result<Vec<u8
     ensures bytes { IfOk result (λ v. IsTrue (D.view disk.old).tells → size ≡ length (D.view disk.old).seen.log → v.items ≡ (D.view disk.old).seen.log) }
     ensures length { IfOk result (λ v. length v.items ≤ size) }
     ensures fault { IfErr result (λ e. (e ≡ LogFault.DiskFault) ⊎ (e ≡ LogFault.NoMemory)) }
-    ensures failed { IsErrOf result LogFault.DiskFault → ((D.view disk.old).faults < (D.view disk.new).faults) ⊎ IsAtEnd (D.view disk.new) }
-    ensures tells { (D.view disk.new).tells ≡ (D.view disk.old).tells }
-    ensures rises { (D.view disk.old).faults ≤ (D.view disk.new).faults }
+    ensures work { IsDeviceWork (D.view disk.old) (D.view disk.new) (IsErrOf result LogFault.DiskFault) }
     ensures content { (D.view disk.new).seen ≡ (D.view disk.old).seen }
     ensures crash { (c : Image) → (D.view disk.new).may_leave c → (D.view disk.old).may_leave c }
     ensures run { Adds (D.view disk.old) (D.view disk.new) (D.view disk.old).may_leave }
-    ensures later { (D.view disk.old).calls ≤ (D.view disk.new).calls }
-    ensures no_fault { (IsErrOf result LogFault.DiskFault → ⊥) → (D.view disk.new).faults ≡ (D.view disk.old).faults }
     ensures stands { IsAtEnd (D.view disk.old) → disk.new ≡ disk.old }
 {
     let mut bytes = Vec::new(alloc);

@@ -7,6 +7,7 @@ ghost use Rattle.pass_log.specs.Records.{spellings};
 
 use crate::LogFault;
 use pass_entry::Record;
+use pass_num::put_u32;
 use pass_record::encode;
 use std::alloc::{AllocError, Global};
 
@@ -23,8 +24,6 @@ pub fn spell(alloc: Global, batch: &[Record]) -> Result<Vec<u8>, AllocError>
 }
 
 /// The bytes that the first write of a batch's frame has: a length, the records' bytes, and the closed gate behind them.
-///
-/// Called by whoever appends by `append_frame`.
 pub fn stage(alloc: Global, batch: &[Record]) -> Result<Vec<u8>, LogFault>
     requires in_range { All IsInRange batch.now }
     requires size { length (spellings batch.now) < 2 ^ 32 }
@@ -33,7 +32,7 @@ pub fn stage(alloc: Global, batch: &[Record]) -> Result<Vec<u8>, LogFault>
 {
     let bytes = spell(alloc, batch)?;
     let mut frame = Vec::new(alloc);
-    frame.extend_from_slice(&(bytes.len() as u32).to_be_bytes())?;
+    put_u32(&mut frame, bytes.len() as u32)?;
     frame.extend_from_slice(&bytes)?;
     frame.push(0)?;
     Ok(frame)

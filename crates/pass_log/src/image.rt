@@ -8,11 +8,15 @@ ghost use Rattle.pass_log.specs.LogImage.{held_in};
 
 use crate::LogFault;
 use pass_entry::Record;
+use pass_num::Cursor;
 use pass_record::{RecordFault, decode};
 use std::alloc::Global;
 
-/// The byte of an open gate.
+// The byte of an open gate.
 const OPEN: u8 = 1;
+
+// How many bytes stand in the log before a frame's records: its gate and its length.
+const FRAME_HEAD: u64 = 5;
 
 /// The records of a log area, the place of the gate behind its last frame, in bytes, and whether the area holds at
 /// most one byte.
@@ -31,14 +35,18 @@ fn frame_at(bytes: &[u8]) -> Option<(&[u8], &[u8])>
     ensures rest { IfSome result (λ f. f.1.now ≡ drop (number (drop 1 bytes.now) + 4) (drop 1 bytes.now)) }
     ensures none { IfNone result (length (drop 1 bytes.now) ≤ number (drop 1 bytes.now) + 4) }
 {
-    let [_gate, a, b, c, d, after @ ..] = bytes else {
+    let mut cursor = Cursor::new(&bytes[1..]);
+    let Ok(count) = cursor.take_u32() else {
         return None;
     };
-    let count = u32::from_be_bytes([*a, *b, *c, *d]) as usize;
-    if after.len() <= count {
+    let Ok(frame) = cursor.take_bytes(count as usize) else {
+        return None;
+    };
+    let after = cursor.left();
+    if after.is_empty() {
         return None;
     }
-    Some((&after[..count], &after[count..]))
+    Some((frame, after))
 }
 
 // The end of the frames in the bytes of a log area.
@@ -54,7 +62,7 @@ fn frames_end(bytes: &[u8]) -> Result<u64, LogFault>
         let Some((frame, after)) = frame_at(rest) else {
             return Err(LogFault::BadFrame { at: place });
         };
-        place += 5 + frame.len() as u64;
+        place += FRAME_HEAD + frame.len() as u64;
         rest = after;
     }
     Ok(place)

@@ -6,11 +6,9 @@ mod fault;
 mod frame;
 mod image;
 mod log;
-#[cfg(test)]
-mod tests;
 
 pub use area::read_image;
 pub use fault::LogFault;
-pub use frame::stage;
+pub use frame::{spell, stage};
 pub use image::LogImage;
 pub use log::Log;

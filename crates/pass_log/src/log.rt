@@ -19,10 +19,10 @@ impl Log {
     ghost use Rattle.pass_entry.specs.declared.record.Record.{Record};
     ghost use Rattle.pass_entry.specs.Ranges.{IsInRange};
     ghost use Rattle.pass_outside.specs.Areas.{Image};
-    ghost use Rattle.pass_outside.specs.Moments.{IsAtEnd, Adds, Follows, AfterStep};
+    ghost use Rattle.pass_outside.specs.Moments.{IsAtEnd, Adds, IsDeviceWork};
     ghost use Rattle.pass_log.specs.Frames.{frames_of, with_frame};
-    ghost use Rattle.pass_log.specs.Records.{image_of, spellings, with_batch, IsOldOrBoth};
-    ghost use Rattle.pass_log.specs.Log.{log_end, log_opened, IsSettled, IsStaged, IsFrameOf, batch_of, IsBeforeOrAfter, SameStore};
+    ghost use Rattle.pass_log.specs.Records.{image_of, spellings, frame_length, with_batch, IsOldOrBoth};
+    ghost use Rattle.pass_log.specs.Log.{log_end, log_opened, IsSettled, IsStaged, IsFrameOf, batch_of, IsBeforeOrAfter, LeavesStore, append_calls};
     ghost use Rattle.pass_log.specs.LogImage.{IsRead};
 
     /// Opens a log of which that image was read, all of it on the disk and nothing written since. A log area of at
@@ -39,13 +39,8 @@ impl Log {
         ensures durable { OnOk result (IsTrue (D.view disk.old).tells → (c : Image) → (D.view disk.new).may_leave c → c.log ≡ (D.view disk.new).seen.log) }
         // A crash at any moment leaves the image that was read.
         ensures any_moment { IsTrue (D.view disk.old).tells → Adds (D.view disk.old) (D.view disk.new) (λ c. image_of c.log ≡ image_of (D.view disk.old).seen.log) }
-        // On each of these images the store area is one that a crash might have left before.
-        ensures store_then { Adds (D.view disk.old) (D.view disk.new) (AfterStep SameStore (D.view disk.old)) }
-        ensures store_now { Follows SameStore (D.view disk.old) (D.view disk.new) }
-        ensures store { IsTrue (D.view disk.old).tells → (D.view disk.new).seen.store ≡ (D.view disk.old).seen.store }
-        ensures tells { (D.view disk.new).tells ≡ (D.view disk.old).tells }
-        ensures rises { (D.view disk.old).faults ≤ (D.view disk.new).faults }
-        ensures later { (D.view disk.old).calls ≤ (D.view disk.new).calls }
+        ensures store { LeavesStore (D.view disk.old) (D.view disk.new) }
+        ensures work { IsDeviceWork (D.view disk.old) (D.view disk.new) (IsErrOf result LogFault.DiskFault) }
         // The gate is a write and a sync; a log that has one makes no device call.
         ensures calls { OnOk result (image.now.short ≡ true → (D.view disk.new).calls ≡ (D.view disk.old).calls + 2) }
         ensures untouched { image.now.short ≡ false → disk.new ≡ disk.old }
@@ -107,17 +102,14 @@ impl Log {
             → frames_of c.log ≡ with_frame (batch_of frame.now) (frames_of (D.view disk.old).seen.log)) }
         ensures any_moment { IsTrue (D.view disk.old).tells → Adds (D.view disk.old) (D.view disk.new)
             (λ c. IsBeforeOrAfter (batch_of frame.now) (frames_of (D.view disk.old).seen.log) (frames_of c.log)) }
-        ensures store_then { Adds (D.view disk.old) (D.view disk.new) (AfterStep SameStore (D.view disk.old)) }
-        ensures store_now { Follows SameStore (D.view disk.old) (D.view disk.new) }
+        ensures store { LeavesStore (D.view disk.old) (D.view disk.new) }
         ensures reads { OnOk result (IsTrue (D.view disk.old).tells → frames_of (D.view disk.new).seen.log ≡ with_frame (batch_of frame.now) (frames_of (D.view disk.old).seen.log)) }
-        ensures calls { OnOk result ((D.view disk.new).calls ≡ (D.view disk.old).calls + 4) }
+        ensures calls { OnOk result ((D.view disk.new).calls ≡ (D.view disk.old).calls + append_calls) }
         ensures healthy { OnOk result (((D.view disk.old).faults ≡ self.old.opened) × ((D.view disk.new).faults ≡ self.old.opened) × (IsAtEnd (D.view disk.old) → ⊥)) }
         ensures settled { IsSettled self.new (D.view disk.new) }
         ensures end { OnOk result (self.new ≡ record self.old { end = self.old.end + length frame.now }) }
         ensures err { OnErr result (self.new ≡ self.old) }
-        ensures store { IsTrue (D.view disk.old).tells → (D.view disk.new).seen.store ≡ (D.view disk.old).seen.store }
-        ensures tells { (D.view disk.new).tells ≡ (D.view disk.old).tells }
-        ensures rises { (D.view disk.old).faults ≤ (D.view disk.new).faults }
+        ensures work { IsDeviceWork (D.view disk.old) (D.view disk.new) (IsErrOf result LogFault.DiskFault) }
         ensures failed { IfErr result (λ e. (e ≡ LogFault.DiskFault) × (((D.view disk.old).faults < (D.view disk.new).faults) ⊎ IsAtEnd (D.view disk.new))) }
         ensures stands { IsAtEnd (D.view disk.old) → disk.new ≡ disk.old }
     {
@@ -128,8 +120,6 @@ impl Log {
     }
 
     /// Appends a frame, given as the bytes that its first device call writes: four device calls, and no memory.
-    ///
-    /// Called by the vault for parts of a long batch.
     pub fn append_frame<D: Disk>(&mut self, disk: &mut D, frame: &[u8]) -> Result<(), LogFault>
         requires settled { IsSettled self.old (D.view disk.old) }
         requires frame { (batch : List Record) × IsFrameOf batch frame.now }
@@ -143,20 +133,14 @@ impl Log {
             → Adds (D.view disk.old) (D.view disk.new) (λ c. IsOldOrBoth batch (image_of (D.view disk.old).seen.log) (image_of c.log)) }
         ensures reads { OnOk result ((batch : List Record) → IsFrameOf batch frame.now → IsTrue (D.view disk.old).tells
             → image_of (D.view disk.new).seen.log ≡ with_batch batch (image_of (D.view disk.old).seen.log)) }
-        // On each of these images the store area is one that a crash might have left before.
-        ensures store_then { Adds (D.view disk.old) (D.view disk.new) (AfterStep SameStore (D.view disk.old)) }
-        ensures store_now { Follows SameStore (D.view disk.old) (D.view disk.new) }
-        ensures store { IsTrue (D.view disk.old).tells → (D.view disk.new).seen.store ≡ (D.view disk.old).seen.store }
+        ensures store { LeavesStore (D.view disk.old) (D.view disk.new) }
         ensures settled { IsSettled self.new (D.view disk.new) }
         ensures end { OnOk result (log_end self.new ≡ log_end self.old + length frame.now) }
         ensures opened { log_opened self.new ≡ log_opened self.old }
         ensures err { OnErr result (self.new ≡ self.old) }
-        ensures calls { OnOk result ((D.view disk.new).calls ≡ (D.view disk.old).calls + 4) }
+        ensures calls { OnOk result ((D.view disk.new).calls ≡ (D.view disk.old).calls + append_calls) }
         ensures healthy { OnOk result (((D.view disk.old).faults ≡ log_opened self.old) × ((D.view disk.new).faults ≡ log_opened self.old) × (IsAtEnd (D.view disk.old) → ⊥)) }
-        ensures tells { (D.view disk.new).tells ≡ (D.view disk.old).tells }
-        ensures rises { (D.view disk.old).faults ≤ (D.view disk.new).faults }
-        ensures later { (D.view disk.old).calls ≤ (D.view disk.new).calls }
-        ensures no_fault { (IsErrOf result LogFault.DiskFault → ⊥) → (D.view disk.new).faults ≡ (D.view disk.old).faults }
+        ensures work { IsDeviceWork (D.view disk.old) (D.view disk.new) (IsErrOf result LogFault.DiskFault) }
         // After a fault it leaves the disk alone until the log is opened again.
         ensures broken { log_opened self.old < (D.view disk.old).faults → (result ≡ Err (LogFault.Broken (log_opened self.old) (D.view disk.old).faults)) × (disk.new ≡ disk.old) }
         ensures unbroken { (D.view disk.old).faults ≤ log_opened self.old → IfErr result (λ e. (e ≡ LogFault.DiskFault) × (((D.view disk.old).faults < (D.view disk.new).faults) ⊎ IsAtEnd (D.view disk.new))) }
@@ -169,8 +153,6 @@ impl Log {
     }
 
     /// Appends the records as one frame: four device calls. An empty batch makes none.
-    ///
-    /// Called by the vault.
     pub fn append<D: Disk>(
         &mut self,
         alloc: Global,
@@ -180,7 +162,7 @@ impl Log {
         requires settled { IsSettled self.old (D.view disk.old) }
         requires in_range { All IsInRange batch.now }
         requires size { length (spellings batch.now) < 2 ^ 32 }
-        requires room { log_end self.old + 5 + length (spellings batch.now) < 2 ^ 39 }
+        requires room { log_end self.old + frame_length batch.now < 2 ^ 39 }
 
         // From then on each crash leaves the records from before, and the whole batch.
         ensures acknowledged { OnOk result (0 < length batch.now → IsTrue (D.view disk.old).tells → (c : Image) → (D.view disk.new).may_leave c
@@ -190,21 +172,15 @@ impl Log {
             → Adds (D.view disk.old) (D.view disk.new) (λ c. IsOldOrBoth batch.now (image_of (D.view disk.old).seen.log) (image_of c.log)) }
         ensures reads { OnOk result (0 < length batch.now → IsTrue (D.view disk.old).tells
             → image_of (D.view disk.new).seen.log ≡ with_batch batch.now (image_of (D.view disk.old).seen.log)) }
-        // On each of these images the store area is one that a crash might have left before.
-        ensures store_then { Adds (D.view disk.old) (D.view disk.new) (AfterStep SameStore (D.view disk.old)) }
-        ensures store_now { Follows SameStore (D.view disk.old) (D.view disk.new) }
-        ensures store { IsTrue (D.view disk.old).tells → (D.view disk.new).seen.store ≡ (D.view disk.old).seen.store }
+        ensures store { LeavesStore (D.view disk.old) (D.view disk.new) }
         ensures settled { IsSettled self.new (D.view disk.new) }
         ensures none { length batch.now ≡ 0 → (disk.new ≡ disk.old) × (self.new ≡ self.old) }
-        ensures end { OnOk result (0 < length batch.now → log_end self.new ≡ log_end self.old + (5 + length (spellings batch.now))) }
+        ensures end { OnOk result (0 < length batch.now → log_end self.new ≡ log_end self.old + frame_length batch.now) }
         ensures opened { log_opened self.new ≡ log_opened self.old }
         ensures err { OnErr result (self.new ≡ self.old) }
-        ensures calls { OnOk result (0 < length batch.now → (D.view disk.new).calls ≡ (D.view disk.old).calls + 4) }
+        ensures calls { OnOk result (0 < length batch.now → (D.view disk.new).calls ≡ (D.view disk.old).calls + append_calls) }
         ensures healthy { OnOk result (0 < length batch.now → ((D.view disk.old).faults ≡ log_opened self.old) × ((D.view disk.new).faults ≡ log_opened self.old) × (IsAtEnd (D.view disk.old) → ⊥)) }
-        ensures tells { (D.view disk.new).tells ≡ (D.view disk.old).tells }
-        ensures rises { (D.view disk.old).faults ≤ (D.view disk.new).faults }
-        ensures later { (D.view disk.old).calls ≤ (D.view disk.new).calls }
-        ensures no_fault { (IsErrOf result LogFault.DiskFault → ⊥) → (D.view disk.new).faults ≡ (D.view disk.old).faults }
+        ensures work { IsDeviceWork (D.view disk.old) (D.view disk.new) (IsErrOf result LogFault.DiskFault) }
         // After a fault it leaves the disk alone until the log is opened again.
         ensures broken { log_opened self.old < (D.view disk.old).faults → (result ≡ Err (LogFault.Broken (log_opened self.old) (D.view disk.old).faults)) × (disk.new ≡ disk.old) }
         ensures unbroken { (D.view disk.old).faults ≤ log_opened self.old → IfErr result (λ e. ((e ≡ LogFault.DiskFault) × (((D.view disk.old).faults < (D.view disk.new).faults) ⊎ IsAtEnd (D.view disk.new))) ⊎ ((e ≡ LogFault.NoMemory) × (disk.new ≡ disk.old))) }

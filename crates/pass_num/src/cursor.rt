@@ -30,6 +30,13 @@ impl<'a> Cursor<'a> {
         Cursor { left: bytes }
     }
 
+    /// The bytes that are left.
+    pub fn left(&self) -> &'a [u8]
+        ensures { result.now ≡ self.now }
+    {
+        self.left
+    }
+
     /// Takes a number of one byte.
     pub fn take_u8(&mut self) -> Result<u8, Short>
         ensures taken { IfOk result (λ value. self.old ≡ value ∷ self.new) }

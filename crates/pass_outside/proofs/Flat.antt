@@ -102,6 +102,13 @@ padded_grown size old new le is =
     let none : size - length new ≡ 0 = omega (arith, long) in
     ap (λ (k : ℕ). new ++ replicate k 0) none ∙ append-nil new ∙ is
 
+-- the front of bytes with zeros behind them
+take_zeros : (n rest left : ℕ) (bytes front : List ℕ) → n - length bytes ≤ rest → n - length bytes ≡ left → take n bytes ≡ front → take n (bytes ++ replicate rest 0) ≡ front ++ replicate left 0
+take_zeros n rest left bytes front few same is =
+    take_append n bytes (replicate rest 0)
+    ∙ ap (λ (l : List ℕ). take n bytes ++ l) (take-replicate (n - length bytes) rest 0 few ∙ ap (λ (k : ℕ). replicate k 0) same)
+    ∙ ap (λ (l : List ℕ). l ++ replicate left 0) is
+
 -- a read of a block: what is there, then zeros
 pub read_padded : (size : ℕ) (bytes : List ℕ) (from n start count : ℕ) → length bytes ≤ size → from + n ≤ size → start ≡ min from (length bytes) → count ≡ min (length bytes - start) n
     → take n (drop from (padded size bytes)) ≡ take count (drop start bytes) ++ replicate (n - count) 0
@@ -112,15 +119,12 @@ read_padded size bytes from n start count le within start_is count_is =
     let long : length (drop from bytes) ≡ length bytes - from = length-drop from bytes in
     let drops : drop from (bytes ++ zeros) ≡ drop from bytes ++ replicate rest 0 =
     drop_append from bytes zeros ∙ ap (λ (l : List ℕ). drop from bytes ++ l) (drop-replicate (from - length bytes) (size - length bytes) 0) in
-    let left = n - length (drop from bytes) in
-    let same : left ≡ n - count = omega (arith, long, start_is, count_is) in
-    let few : left ≤ rest = omega (arith, long, within, le) in
+    let few : n - length (drop from bytes) ≤ rest = omega (arith, long, within, le) in
+    let same : n - length (drop from bytes) ≡ n - count = omega (arith, long, start_is, count_is) in
     let counts : min n (length (drop from bytes)) ≡ count = omega (arith, long, start_is, count_is) in
     let front : take n (drop from bytes) ≡ take count (drop start bytes) =
     sym (take_min n (drop from bytes)) ∙ ap (λ (k : ℕ). take k (drop from bytes)) counts ∙ ap (take count) (sym (drop_min from bytes) ∙ ap (λ (k : ℕ). drop k bytes) (sym start_is)) in
-    ap (take n) drops ∙ take_append n (drop from bytes) (replicate rest 0)
-    ∙ ap (λ (l : List ℕ). take n (drop from bytes) ++ l) (take-replicate left rest 0 few ∙ ap (λ (k : ℕ). replicate k 0) same)
-    ∙ ap (λ (l : List ℕ). l ++ replicate (n - count) 0) front
+    ap (take n) drops ∙ take_zeros n rest (n - count) (drop from bytes) (take count (drop start bytes)) few same front
 
 -- a block cut short
 cut_padded : (size : ℕ) (bytes : List ℕ) (o : ℕ) → length bytes ≤ size → o ≤ size → padded size (take o bytes) ≡ take o (padded size bytes) ++ replicate (size - o) 0

@@ -22,7 +22,7 @@ returns-in_err-append_frame-clause-err g c =
     let healthy : mid.faults ≤ log.opened = omega (arith, inv.healthy, inv.opened, c.requires.healthy) in
     let whole = partly_failed frames old mid (view disk) c.args.log.now log c.append_frame.new.self i frame c.loop-frame-test.true inv.partly
     (λ x may. g.met.D.Disk.counts_now c.loop-frame.disk mid.calls x (omega arith) may) (λ t u x le left. g.met.D.Disk.counts_more disk t u x le left)
-    e.tells e.store_then e.settled (λ batch is told. e.any_moment batch (subst (IsFrameOf batch) same is) told)
+    e.work.tells e.store.moments e.settled (λ batch is told. e.any_moment batch (subst (IsFrameOf batch) same is) told)
     c.in_err-append_frame.ensures.err healthy (λ ended. ap view (e.stands ended)) (c.in_err-append_frame.ensures.unbroken healthy).1 in
     on_err (KeepsStill frames old c.args.log.now (view disk) c.append_frame.new.self) c.from_residual.result whole
 
@@ -43,9 +43,9 @@ loop-frame-preserved g c =
     record {
       partly = partly_more frames old mid (view disk) c.args.log.now log c.append_frame.new.self i frame c.loop-frame-test.true inv.partly
           (λ x may. g.met.D.Disk.counts_now c.loop-frame.disk mid.calls x (omega arith) may) (λ t u x le left. g.met.D.Disk.counts_more disk t u x le left)
-          e.tells e.store_then e.settled (λ batch is told. e.any_moment batch (subst (IsFrameOf batch) same is) told)
+          e.work.tells e.store.moments e.settled (λ batch is told. e.any_moment batch (subst (IsFrameOf batch) same is) told)
           done.healthy.0 done.healthy.2 (λ batch is told. done.reads batch (subst (IsFrameOf batch) same is) told)
-          (λ batch is told x may. done.acknowledged batch (subst (IsFrameOf batch) same is) told x may) e.store_now c.calls-calls.ensures.now;
+          (λ batch is told x may. done.acknowledged batch (subst (IsFrameOf batch) same is) told x may) e.store.at_once c.calls-calls.ensures.now;
       settled = e.settled;
       opened = e.opened ∙ inv.opened;
       healthy = let one = done.healthy in omega (arith, one.0, one.1, inv.healthy);
@@ -53,7 +53,7 @@ loop-frame-preserved g c =
           (done.end ∙ ap (λ l. log.end + length l) (sym same));
       calls = omega (arith, done.calls, inv.calls);
       stands = λ ended. absurd (done.healthy.2 (subst (λ d. IsAtEnd (view d)) (sym (inv.stands ended).0) ended));
-      tells = e.tells ∙ inv.tells;
+      tells = e.work.tells ∙ inv.tells;
     }
 
 pub returns-clause-kept : goal.returns-clause-kept

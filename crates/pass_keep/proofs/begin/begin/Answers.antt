@@ -14,7 +14,7 @@ returns-in_err-log-clause-begun g c =
     let old = g.D.Disk.view c.args.disk.now in
     begun_open s old (g.D.Disk.view c.open.new.disk) c.requires.1.1.1.1.1.0 (has_before s old c.args.image.now c.requires.1.1.1.1.0 c.requires.1.0) c.requires.1.1.1.1.1.1.0
     (λ i may. g.met.D.Disk.counts_now c.args.disk.now s.start i c.requires.1.1.1.1.1.0 may)
-    c.open.ensures.tells c.open.ensures.any_moment c.open.ensures.store_then c.open.ensures.store_now
+    c.open.ensures.work.tells c.open.ensures.any_moment c.open.ensures.store.moments c.open.ensures.store.at_once
 
 pub returns-in_err-append-clause-begun : goal.returns-in_err-append-clause-begun
 returns-in_err-append-clause-begun g c =
@@ -25,9 +25,9 @@ returns-in_err-append-clause-begun g c =
     let new = view c.append.new.disk in
     begun_append s old mid c.requires.1.1.1.1.1.0 (has_before s old c.args.image.now c.requires.1.1.1.1.0 c.requires.1.0) c.requires.1.1.1.1.1.1.0
     (λ i may. g.met.D.Disk.counts_now c.args.disk.now s.start i c.requires.1.1.1.1.1.0 may)
-    c.open.ensures.tells c.open.ensures.any_moment c.open.ensures.store_then c.open.ensures.store_now c.in_ok-log.ensures.same new c.append.ensures.tells
+    c.open.ensures.work.tells c.open.ensures.any_moment c.open.ensures.store.moments c.open.ensures.store.at_once c.in_ok-log.ensures.same new c.append.ensures.work.tells
     (λ told. subst (λ (n : ℕ). Adds mid new (λ i. IsOldOrBoth (log.Ceiling n ∷ []) (image_of mid.seen.log) (image_of i.log))) (sym c.requires.1.1.0) (c.append.ensures.any_moment told))
-    c.append.ensures.store_then c.append.ensures.store_now
+    c.append.ensures.store.moments c.append.ensures.store.at_once
 
 pub returns-clause-begun : goal.returns-clause-begun
 returns-clause-begun g c =
@@ -38,9 +38,9 @@ returns-clause-begun g c =
     let new = view c.append.new.disk in
     begun_append s old mid c.requires.1.1.1.1.1.0 (has_before s old c.args.image.now c.requires.1.1.1.1.0 c.requires.1.0) c.requires.1.1.1.1.1.1.0
     (λ i may. g.met.D.Disk.counts_now c.args.disk.now s.start i c.requires.1.1.1.1.1.0 may)
-    c.open.ensures.tells c.open.ensures.any_moment c.open.ensures.store_then c.open.ensures.store_now c.in_ok-log.ensures.same new c.append.ensures.tells
+    c.open.ensures.work.tells c.open.ensures.any_moment c.open.ensures.store.moments c.open.ensures.store.at_once c.in_ok-log.ensures.same new c.append.ensures.work.tells
     (λ told. subst (λ (n : ℕ). Adds mid new (λ i. IsOldOrBoth (log.Ceiling n ∷ []) (image_of mid.seen.log) (image_of i.log))) (sym c.requires.1.1.0) (c.append.ensures.any_moment told))
-    c.append.ensures.store_then c.append.ensures.store_now
+    c.append.ensures.store.moments c.append.ensures.store.at_once
 
 pub returns-clause-kept : goal.returns-clause-kept
 returns-clause-kept g c =
@@ -52,9 +52,9 @@ returns-clause-kept g c =
     let ceiling = sym c.requires.1.1.0 in
     kept_begun s old mid c.requires.1.1.1.1.1.0 (has_before s old c.args.image.now c.requires.1.1.1.1.0 c.requires.1.0) c.requires.1.1.1.1.1.1.0
     (λ i may. g.met.D.Disk.counts_now c.args.disk.now s.start i c.requires.1.1.1.1.1.0 may)
-    c.open.ensures.tells c.open.ensures.any_moment c.open.ensures.store_then c.open.ensures.store_now c.in_ok-log.ensures.same new c.append.ensures.tells
+    c.open.ensures.work.tells c.open.ensures.any_moment c.open.ensures.store.moments c.open.ensures.store.at_once c.in_ok-log.ensures.same new c.append.ensures.work.tells
     (λ told. subst (λ (n : ℕ). Adds mid new (λ i. IsOldOrBoth (log.Ceiling n ∷ []) (image_of mid.seen.log) (image_of i.log))) ceiling (c.append.ensures.any_moment told))
-    c.append.ensures.store_then c.append.ensures.store_now
+    c.append.ensures.store.moments c.append.ensures.store.at_once
     c.append.new.self c.append.ensures.settled
     (λ told. subst (λ (n : ℕ). image_of new.seen.log ≡ with_batch (log.Ceiling n ∷ []) (image_of mid.seen.log)) ceiling (c.in_ok-append.ensures.reads (omega arith) told))
     (λ told i may. subst (λ (n : ℕ). image_of i.log ≡ with_batch (log.Ceiling n ∷ []) (image_of mid.seen.log)) ceiling (c.in_ok-append.ensures.acknowledged (omega arith) told i may))

@@ -30,7 +30,7 @@ returns-clause-bytes g c = λ told.
     let read =
     subst (λ (i : Image). AreRead list table.rows.items i.store start.files.items) (c.read_image.ensures.content ∙ c.in_ok-settle.ensures.content)
     (subst (λ (l : List Record). AreRead l table.rows.items (g.D.Disk.view c.read_image.new.disk).seen.store start.files.items) c.deref-3.ensures.value
-    (c.in_ok-files.ensures.bytes (subst IsTrue (sym (c.read_image.ensures.tells ∙ c.settle.ensures.run.tells)) told))) in
+    (c.in_ok-files.ensures.bytes (subst IsTrue (sym (c.read_image.ensures.work.tells ∙ c.settle.ensures.run.tells)) told))) in
     bytes_of list table is start.files.items filled (g.D.Disk.view c.args.disk.now).seen.store read start refl
 
 pub returns-clause-unmatched : goal.returns-clause-unmatched
@@ -43,7 +43,7 @@ returns-clause-unmatched g c = λ told.
     let read =
     subst (λ (i : Image). AreRead list table.rows.items i.store files) (c.read_image.ensures.content ∙ c.in_ok-settle.ensures.content)
     (subst (λ (l : List Record). AreRead l table.rows.items (g.D.Disk.view c.read_image.new.disk).seen.store files) c.deref-3.ensures.value
-    (c.in_ok-files.ensures.bytes (subst IsTrue (sym (c.read_image.ensures.tells ∙ c.settle.ensures.run.tells)) told))) in
+    (c.in_ok-files.ensures.bytes (subst IsTrue (sym (c.read_image.ensures.work.tells ∙ c.settle.ensures.run.tells)) told))) in
     unmatched_of list table is files filled (g.D.Disk.view c.args.disk.now).seen.store read c.in_ok-files.field-0.unmatched.items c.in_ok-files.ensures.unmatched
 
 pub returns-clause-tells_files : goal.returns-clause-tells_files

@@ -1,9 +1,8 @@
 use Rattle.std.proofs.Common.{◌≡◌, ◌≤◌, IsTrue, IsOk, IsErr, inl, refl, sym, ◌∙◌, ap, subst, arith}
-use Rattle.pass_outside.specs.Moments.{AfterStep}
 use Rattle.pass_outside.specs.Runs.{adds_weaker}
 use Rattle.pass_log.specs.Frames.{frames_of}
-use Rattle.pass_log.specs.Log.{batch_of, IsBeforeOrAfter, SameStore}
-use Rattle.pass_log.proofs.Append.{staged_moments, both_moments, settled_failed, stands_again, new_image, new_reads, both_stores, both_now}
+use Rattle.pass_log.specs.Log.{batch_of, IsBeforeOrAfter}
+use Rattle.pass_log.proofs.Append.{staged_moments, both_moments, settled_failed, stands_again, new_image, new_reads, store_one, store_both}
 use Rattle.pass_log.proofs.log.Log.write_frame.Goals as goal
 
 pub returns-in_err-write_synced-clause-any_moment : goal.returns-in_err-write_synced-clause-any_moment
@@ -92,26 +91,19 @@ returns-clause-reads g c = λ tells.
     new_reads c.args.self.now old s c.args.frame.now c.requires.room mid c.requires.staged (c.in_ok-write_synced.ensures.written tells) c.in_ok-write_synced.ensures.durable
     new (c.in_ok-write_synced-2.ensures.written mid_tells) c.in_ok-write_synced-2.ensures.durable
 
-pub returns-in_err-write_synced-clause-store_then : goal.returns-in_err-write_synced-clause-store_then
-returns-in_err-write_synced-clause-store_then g c =
-    let old = g.D.Disk.view c.args.disk.now in
-    adds_weaker (AfterStep SameStore old) old (g.D.Disk.view c.write_synced.new.disk) c.write_synced.ensures.run.adds (λ i x. (x.0, x.1, x.2.elsewhere))
+pub returns-in_err-write_synced-clause-store : goal.returns-in_err-write_synced-clause-store
+returns-in_err-write_synced-clause-store g c =
+    let e = c.write_synced.ensures in
+    store_one (g.D.Disk.view c.args.disk.now) (g.D.Disk.view c.write_synced.new.disk) _ e.elsewhere e.crash e.run.adds
 
-pub returns-in_err-write_synced-clause-store_now : goal.returns-in_err-write_synced-clause-store_now
-returns-in_err-write_synced-clause-store_now g c = λ i may. let x = c.write_synced.ensures.crash i may in (x.0, x.1, x.2.elsewhere)
+pub returns-in_err-write_synced-2-clause-store : goal.returns-in_err-write_synced-2-clause-store
+returns-in_err-write_synced-2-clause-store g c =
+    let one = c.write_synced.ensures in
+    let two = c.write_synced-2.ensures in
+    store_both (g.D.Disk.view c.args.disk.now) (g.D.Disk.view c.write_synced.new.disk) (g.D.Disk.view c.write_synced-2.new.disk) _ _ one.run.tells one.elsewhere two.elsewhere one.crash two.crash one.run.adds two.run.adds
 
-pub returns-in_err-write_synced-2-clause-store_then : goal.returns-in_err-write_synced-2-clause-store_then
-returns-in_err-write_synced-2-clause-store_then g c =
-    both_stores (g.D.Disk.view c.args.disk.now) (g.D.Disk.view c.write_synced.new.disk) (g.D.Disk.view c.write_synced-2.new.disk) _ _ c.write_synced.ensures.crash c.write_synced.ensures.run.adds c.write_synced-2.ensures.run.adds
-
-pub returns-in_err-write_synced-2-clause-store_now : goal.returns-in_err-write_synced-2-clause-store_now
-returns-in_err-write_synced-2-clause-store_now g c =
-    both_now (g.D.Disk.view c.args.disk.now) (g.D.Disk.view c.write_synced.new.disk) (g.D.Disk.view c.write_synced-2.new.disk) _ _ c.write_synced.ensures.crash c.write_synced-2.ensures.crash
-
-pub returns-clause-store_then : goal.returns-clause-store_then
-returns-clause-store_then g c =
-    both_stores (g.D.Disk.view c.args.disk.now) (g.D.Disk.view c.write_synced.new.disk) (g.D.Disk.view c.write_synced-2.new.disk) _ _ c.write_synced.ensures.crash c.write_synced.ensures.run.adds c.write_synced-2.ensures.run.adds
-
-pub returns-clause-store_now : goal.returns-clause-store_now
-returns-clause-store_now g c =
-    both_now (g.D.Disk.view c.args.disk.now) (g.D.Disk.view c.write_synced.new.disk) (g.D.Disk.view c.write_synced-2.new.disk) _ _ c.write_synced.ensures.crash c.write_synced-2.ensures.crash
+pub returns-clause-store : goal.returns-clause-store
+returns-clause-store g c =
+    let one = c.write_synced.ensures in
+    let two = c.write_synced-2.ensures in
+    store_both (g.D.Disk.view c.args.disk.now) (g.D.Disk.view c.write_synced.new.disk) (g.D.Disk.view c.write_synced-2.new.disk) _ _ one.run.tells one.elsewhere two.elsewhere one.crash two.crash one.run.adds two.run.adds

@@ -68,23 +68,3 @@ module _ {X : Type 0} where
   pub filter_all : (xs : List X) → filter (λ x. true) xs ≡ xs
   filter_all [] = refl
   filter_all (x ∷ xs) = ap (λ l. x ∷ l) (filter_all xs)
-
-  -- the second of two parts comes to the front
-  pub parts_front : (all first second others : List X) → all ≡ first ++ second → IsPermutation (all ++ others) (second ++ (first ++ others))
-  parts_front all first second others is =
-      subst (λ (y : List X × List X). IsPermutation (y.0 ++ others) y.1) (λ i. (sym is i, append_assoc second first others i))
-      (IsPermutation-append_left others (first ++ second) (second ++ first) (IsPermutation-append_comm first second))
-
-  first_part : (P : X → Type 0) (first second : List X) → All P (first ++ second) → All P first
-  first_part P [] second h = All-nil P
-  first_part P (x ∷ xs) second h = All-cons P x xs (All-head P x (xs ++ second) h) (first_part P xs second (All-tail P x (xs ++ second) h))
-
-  second_part : (P : X → Type 0) (first second : List X) → All P (first ++ second) → All P second
-  second_part P [] second h = h
-  second_part P (x ∷ xs) second h = second_part P xs second (All-tail P x (xs ++ second) h)
-
-  pub all_first : (P : X → Type 0) (all first second : List X) → all ≡ first ++ second → All P all → All P first
-  all_first P all first second is h = first_part P first second (subst (All P) is h)
-
-  pub all_second : (P : X → Type 0) (all first second : List X) → all ≡ first ++ second → All P all → All P second
-  all_second P all first second is h = second_part P first second (subst (All P) is h)

@@ -37,7 +37,7 @@ pub fn lay<T: Task>(alloc: Global, room: usize) -> Result<Bench<T>, AllocError>
     })
 }
 
-/// Lets one more task wait, for which there is room.
+// Lets one more task wait, for which there is room.
 fn seat<T: Task>(task: T, pending: &mut BinaryHeap<Ranked<T>>)
     requires { heap_len pending.old < heap_capacity pending.old }
     ensures tasks { IsPermutation (task ∷ tasks_of pending.old) (tasks_of pending.new) }
@@ -47,7 +47,7 @@ fn seat<T: Task>(task: T, pending: &mut BinaryHeap<Ranked<T>>)
     let _ = pending.push(Ranked { task });
 }
 
-/// Puts the children of a parent of this order where they belong: those above it wait for their part, the others are through.
+// Puts the children of a parent of this order where they belong: those above it wait for their part, the others are through.
 fn sort_out<T: Task>(
     above: u64,
     born: &mut Vec<T>,
@@ -70,7 +70,7 @@ fn sort_out<T: Task>(
     }
 }
 
-/// Lets a living task take its turns, and sorts out what it bears.
+// Lets a living task take its turns, and sorts out what it bears.
 fn take_turns<T: Task>(mut task: T, bench: &mut Bench<T>, outcome: &mut Outcome)
     requires living { 0 < T.left task }
     requires empty { vec_len bench.old.born ≡ 0 }
@@ -93,7 +93,7 @@ fn take_turns<T: Task>(mut task: T, bench: &mut Bench<T>, outcome: &mut Outcome)
     bench.done.push_reserved(task);
 }
 
-/// Lets a task take its part in the pass. One that had ended is through as it is.
+// Lets a task take its part in the pass. One that had ended is through as it is.
 fn take_part<T: Task>(task: T, bench: &mut Bench<T>, outcome: &mut Outcome)
     requires empty { vec_len bench.old.born ≡ 0 }
     requires born { room_of T.Task task ≤ vec_capacity bench.old.born }
@@ -114,7 +114,7 @@ fn take_part<T: Task>(task: T, bench: &mut Bench<T>, outcome: &mut Outcome)
     }
 }
 
-/// Lets all tasks that wait take their part, the least order first.
+// Lets all tasks that wait take their part, the least order first.
 fn play_all<T: Task>(bench: &mut Bench<T>, outcome: &mut Outcome)
     requires empty { vec_len bench.old.born ≡ 0 }
     requires born { sum_by (room_of T.Task) (tasks_of bench.old.pending) ≤ vec_capacity bench.old.born }
@@ -127,7 +127,7 @@ fn play_all<T: Task>(bench: &mut Bench<T>, outcome: &mut Outcome)
     }
 }
 
-/// Lets each of these tasks wait for its part.
+// Lets each of these tasks wait for its part.
 fn seat_all<T: Task>(tasks: Vec<T>, pending: &mut BinaryHeap<Ranked<T>>)
     requires empty { tasks_of pending.old ≡ [] }
     requires room { vec_len tasks ≤ heap_capacity pending.old }

@@ -13,13 +13,13 @@ use std::alloc::{AllocError, Global};
 use std::snapshot::Snapshot;
 use std::thread::{Threads, for_each_mut};
 
-/// What a pass of several workers works with: the living tasks, and those that are through.
+// What a pass of several workers works with: the living tasks, and those that are through.
 struct Hall<T: Task> {
     jobs: Vec<Job<T>>,
     through: Vec<T>,
 }
 
-/// Takes the room for so many tasks of which so many can come.
+// Takes the room for so many tasks of which so many can come.
 fn open<T: Task>(alloc: Global, count: usize, room: usize) -> Result<Hall<T>, AllocError>
     ensures empty { IfOk result (λ hall. (hall.jobs.items ≡ []) × (hall.through.items ≡ [])) }
     ensures room { IfOk result (λ hall. (count ≤ vec_capacity hall.jobs) × (room ≤ vec_capacity hall.through)) }
@@ -29,7 +29,7 @@ fn open<T: Task>(alloc: Global, count: usize, room: usize) -> Result<Hall<T>, Al
     Ok(Hall { jobs, through })
 }
 
-/// A living task with room for its children, and whether there was memory for it.
+// A living task with room for its children, and whether there was memory for it.
 fn job_for<T: Task>(alloc: Global, task: T) -> (Job<T>, bool)
     requires { 0 < T.left task }
     ensures task { result.0.task ≡ task }
@@ -50,8 +50,8 @@ fn job_for<T: Task>(alloc: Global, task: T) -> (Job<T>, bool)
     (job, fits)
 }
 
-/// Makes a job of each living task, the last task first; the others are through as they are. Answers whether there was memory
-/// for all.
+// Makes a job of each living task, the last task first; the others are through as they are. Answers whether there was memory
+// for all.
 fn make_jobs<T: Task>(
     alloc: Global,
     mut tasks: Vec<T>,
@@ -78,7 +78,7 @@ fn make_jobs<T: Task>(
     all
 }
 
-/// Gives the tasks back as they were.
+// Gives the tasks back as they were.
 fn give_back<T: Task>(mut jobs: Vec<Job<T>>, into: &mut Vec<T>)
     requires { vec_len into.old + vec_len jobs ≤ vec_capacity into.old }
     ensures { IsPermutation (into.old.items ++ tasks_in jobs.items) into.new.items }
@@ -88,7 +88,7 @@ fn give_back<T: Task>(mut jobs: Vec<Job<T>>, into: &mut Vec<T>)
     }
 }
 
-/// Each job's task takes its turns, on so many threads at most.
+// Each job's task takes its turns, on so many threads at most.
 fn play_jobs<T: Task + Send, R: Threads + Sync>(rt: &R, jobs: &mut [Job<T>], workers: usize)
     requires workers { 0 < workers }
     requires fit { All (IsFit T.Task) jobs.old }
@@ -103,7 +103,7 @@ fn play_jobs<T: Task + Send, R: Threads + Sync>(rt: &R, jobs: &mut [Job<T>], wor
     for_each_mut(rt, jobs, workers, &play);
 }
 
-/// Notes what a task has done: it and its children are through.
+// Notes what a task has done: it and its children are through.
 fn gather<T: Task>(job: Job<T>, through: &mut Vec<T>, outcome: &mut Outcome)
     requires done { IsDone T.Task job }
     requires room { vec_len through.old + size_of job ≤ vec_capacity through.old }
@@ -121,7 +121,7 @@ fn gather<T: Task>(job: Job<T>, through: &mut Vec<T>, outcome: &mut Outcome)
     let _ = through.append(&mut born);
 }
 
-/// Notes what all have done.
+// Notes what all have done.
 fn gather_all<T: Task>(mut jobs: Vec<Job<T>>, through: &mut Vec<T>, outcome: &mut Outcome)
     requires done { All (IsDone T.Task) jobs.items }
     requires room { vec_len through.old + sum_by size_of jobs.items ≤ vec_capacity through.old }

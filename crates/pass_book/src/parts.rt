@@ -11,7 +11,7 @@ use std::alloc::{AllocError, Global};
 use std::marker::Model;
 use std::mem;
 
-/// The greatest number of bytes of a part.
+// The greatest number of bytes of a part.
 const PART_BYTES: u64 = 1 << 30;
 
 /// The number of bytes of a record in the log.
@@ -47,7 +47,7 @@ pub(crate) fn slip_bytes(slip: &Slip) -> u64
     bytes
 }
 
-/// Puts an entry's records behind others.
+// Puts an entry's records behind others.
 fn append(part: &mut Vec<Record>, slip: &Slip) -> Result<(), AllocError>
     ensures { OnOk result (part.new.items ≡ part.old.items ++ slip.now) }
 {

@@ -93,6 +93,9 @@ pub fn recover<D: Disk>(alloc: Global, disk: &mut D) -> Result<Opening, OpenFaul
     ensures fault { IfErr result (IsCauseOf (D.view disk.old) (D.view disk.new)) }
     ensures no_fault { (IsErrOf result OpenFault.DiskFault → ⊥) → (D.view disk.new).faults ≡ (D.view disk.old).faults }
 
+    // Unless a device call failed the disk reads as before.
+    ensures stays { (IsErrOf result OpenFault.DiskFault → ⊥) → (D.view disk.new).seen ≡ (D.view disk.old).seen }
+
     // The log can be opened next; and a crash at a moment since the two syncs leaves what was read.
     ensures open_next { IfOk result (λ o. IsRead (D.view disk.new) o.image) }
     ensures synced { OnOk result ((c : Image) → (D.view disk.new).may_leave c → c ≡ (D.view disk.new).seen) }

@@ -1,3 +1,6 @@
 //! Tests of stops, faults and images of disks: log, ranges, recovery, keeper, vault and the run over a disk, each through public
 //! calls.
 #![tactic(auto)]
+
+#[cfg(test)]
+mod run;

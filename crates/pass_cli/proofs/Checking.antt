@@ -25,7 +25,7 @@ words_judged words m bytes bad = record {
   unhidden = λ check rose. absurd (bad check);
   bad_store = λ fault. (λ is. absurd (cc), λ is. absurd (bad is.0));
   done = (λ is. absurd (cc), λ is. absurd (bad is.0));
-  unwritten = λ is. refl;
+  reads = λ quiet. refl;
 }
 
 -- a device call failed
@@ -44,7 +44,7 @@ disk_judged words old new bytes check failed = record {
   unhidden = λ words rose. refl;
   bad_store = λ fault. (λ is. absurd (cc), λ is. absurd (is.1 old.faults new.faults refl));
   done = (λ is. absurd (cc), λ is. absurd (is.1 old.faults new.faults refl));
-  unwritten = λ is. absurd (cc);
+  reads = λ quiet. absurd (quiet old.faults new.faults refl);
 }
   where
     opened_is : (opened now : ℕ) → ◌≡◌ {A = Status} (status.DiskFault old.faults new.faults) (status.DiskFault opened now) → opened ≡ old.faults
@@ -59,14 +59,14 @@ disk_judged words old new bytes check failed = record {
 
 -- the log has a fault
 pub store_judged : (words : List (List ℕ)) (old new : Moment) (bytes : List ℕ) (fault : OpenFault) → IsCheckWord words → new.faults ≡ old.faults
-    → store_fault bytes ≡ Some fault → IsCheckJudged words old new bytes (status.BadStore fault)
-store_judged words old new bytes fault check still has = record {
+    → new.seen ≡ old.seen → store_fault bytes ≡ Some fault → IsCheckJudged words old new bytes (status.BadStore fault)
+store_judged words old new bytes fault check still same_seen has = record {
   bad_words = (λ is. absurd (cc), λ bad. absurd (bad check));
   disk_fault = λ opened now is. absurd (cc);
   unhidden = λ words rose. absurd (omega (arith, still, rose));
   bad_store = λ other. (λ is. (check, λ opened now fails. absurd (cc), has ∙ ap Some (same other is)), λ is. only other (sym has ∙ is.2));
   done = (λ is. absurd (cc), λ is. absurd (none (sym has ∙ is.2)));
-  unwritten = λ is. absurd (cc);
+  reads = λ quiet. same_seen;
 }
   where
     same : (other : OpenFault) → ◌≡◌ {A = Status} (status.BadStore fault) (status.BadStore other) → fault ≡ other
@@ -87,7 +87,7 @@ done_judged words old new bytes held check still same holds sound = record {
   unhidden = λ words rose. absurd (omega (arith, still, rose));
   bad_store = λ fault. (λ is. absurd (cc), λ is. absurd (some fault (sym none ∙ is.2)));
   done = (λ is. (check, λ opened now fails. absurd (cc), none), λ is. refl);
-  unwritten = λ is. same;
+  reads = λ quiet. same;
 }
   where
     none : store_fault bytes ≡ None
@@ -117,23 +117,24 @@ opened_judges old new image unmatched judged text read sound tells still same kn
 
 -- a store that didn't open
 pub fault_judges : (old new : Moment) (fault : OpenFault) (judged : Status) (text : List ℕ) → judged ≡ status_of_opening old.faults new.faults fault → judged ≢ status.NoMemory
-    → IsCauseOf old new fault → ((fault ≡ DiskFault → ⊥) → new.faults ≡ old.faults) → Judges old new judged text
-fault_judges old new fault judged text is known cause still = subst (λ (s : Status). Judges old new s text) (sym is) (by fault (λ starved. known (is ∙ starved)) cause still)
+    → IsCauseOf old new fault → ((fault ≡ DiskFault → ⊥) → new.faults ≡ old.faults) → ((fault ≡ DiskFault → ⊥) → new.seen ≡ old.seen) → Judges old new judged text
+fault_judges old new fault judged text is known cause still reads =
+    subst (λ (s : Status). Judges old new s text) (sym is) (by fault (λ starved. known (is ∙ starved)) cause still reads)
   where
     by : (f : OpenFault) → status_of_opening old.faults new.faults f ≢ status.NoMemory → IsCauseOf old new f → ((f ≡ DiskFault → ⊥) → new.faults ≡ old.faults)
-        → Judges old new (status_of_opening old.faults new.faults f) text
-    by DiskFault known cause still = (old.seen.log, λ tells. refl, (λ words check. disk_judged words old new old.seen.log check cause, λ done. absurd (cc)))
-    by (BadFrame at) known (bytes, told, has) still =
-        (bytes, told, (λ words check. store_judged words old new bytes (BadFrame at) check (still (λ other. absurd (cc))) (ap image_fault has), λ done. absurd (cc)))
-    by (BadRecord place why) known (bytes, told, has) still =
-        (bytes, told, (λ words check. store_judged words old new bytes (BadRecord place why) check (still (λ other. absurd (cc))) (ap image_fault has), λ done. absurd (cc)))
-    by (Flaw place reason) known (bytes, told, (held, has, flaw)) still = (
+        → ((f ≡ DiskFault → ⊥) → new.seen ≡ old.seen) → Judges old new (status_of_opening old.faults new.faults f) text
+    by DiskFault known cause still reads = (old.seen.log, λ tells. refl, (λ words check. disk_judged words old new old.seen.log check cause, λ done. absurd (cc)))
+    by (BadFrame at) known (bytes, told, has) still reads =
+        (bytes, told, (λ words check. store_judged words old new bytes (BadFrame at) check (still (λ other. absurd (cc))) (reads (λ other. absurd (cc))) (ap image_fault has), λ done. absurd (cc)))
+    by (BadRecord place why) known (bytes, told, has) still reads =
+        (bytes, told, (λ words check. store_judged words old new bytes (BadRecord place why) check (still (λ other. absurd (cc))) (reads (λ other. absurd (cc))) (ap image_fault has), λ done. absurd (cc)))
+    by (Flaw place reason) known (bytes, told, (held, has, flaw)) still reads = (
       bytes,
       told,
       (
-        λ words check. store_judged words old new bytes (Flaw place reason) check (still (λ other. absurd (cc)))
+        λ words check. store_judged words old new bytes (Flaw place reason) check (still (λ other. absurd (cc))) (reads (λ other. absurd (cc)))
             (ap image_fault has ∙ ap (option_map (λ one. Flaw one.0 one.1)) flaw),
         λ done. absurd (cc),
       ),
     )
-    by NoMemory known cause still = absurd (known refl)
+    by NoMemory known cause still reads = absurd (known refl)

@@ -17,9 +17,9 @@ use Rattle.pass_run.specs.declared.status.Status.{Status}
 use Rattle.pass_run.specs.declared.status.Status.TheVariants as status
 use Rattle.pass_run.specs.Ends.{unbuilt_line}
 use Rattle.pass_run.specs.Reading.{is_too_long}
-use Rattle.pass_run.specs.Stored.{session_fault, IsEnd, IsOfDisk, IsOverStore, HasEnded}
-use Rattle.pass_run.specs.Stored as stored
-use Rattle.pass_cli.specs.Answers.{OfBytes, IsTraced, IsRunnable, IsRefusal, IsRead, HasFailed, IsJudged, Outcome, IsNothing, IsUntouched, HasRun, is_reported, comes_before, ends_run}
+use Rattle.pass_run.specs.Stored.{session_fault, IsStoreJudged, IsEnd, IsOfDisk, IsOverStore, HasEnded}
+use Rattle.pass_cli.specs.Answers.{OfBytes, IsTraced, IsRunnable, IsRefusal, IsTraceRead, HasFailed, IsRunJudged, Outcome, IsNothing, IsRefused, HasRun, is_reported, comes_before, ends_run}
+use Rattle.pass_run.proofs.Moved.{refused_untouched}
 use Rattle.pass_cli.proofs.StoppedTexts.{too_long_is_none, too_long_stays}
 
 -- what was read of a source
@@ -27,7 +27,7 @@ use Rattle.pass_cli.proofs.StoppedTexts.{too_long_is_none, too_long_stays}
 -- a text that is a trace was read to its end
 pub trace_read : (tells : Bool) (text left rest : List ℕ) (before after : ℕ) (trace : Trace) → ¬ HasRisen before after
     → (IsTrue tells → left ≡ text ++ rest) → (IsTrue tells → is_too_long text ≡ false → rest ≡ []) → IsTraceText text → trace.lines.items ≡ trace_of text
-    → OfBytes tells left (λ bytes. IsRead bytes before after (Ok trace))
+    → OfBytes tells left (λ bytes. IsTraceRead bytes before after (Ok trace))
 trace_read tells text left rest before after trace unfailed front whole is same =
     (text, λ t. sym (front t ∙ ap (λ (r : List ℕ). text ++ r) (whole t (short (is_too_long text) refl)) ∙ append-nil text), (record { unfailed = unfailed; text = is }, same))
   where
@@ -44,7 +44,7 @@ fault_goes text rest line why false short none first =
 
 pub fault_read : (tells : Bool) (text left rest : List ℕ) (before after line : ℕ) (why : TraceReason) → ¬ HasRisen before after
     → (IsTrue tells → left ≡ text ++ rest) → (IsTrue tells → is_too_long text ≡ false → rest ≡ []) → IsFirstFault text line why
-    → OfBytes tells left (λ bytes. IsRead bytes before after (Err (status.BadTrace line why)))
+    → OfBytes tells left (λ bytes. IsTraceRead bytes before after (Err (status.BadTrace line why)))
 fault_read false text left rest before after line why unfailed front whole first = (text, λ t. absurd (cc), (unfailed, first))
 fault_read true text left rest before after line why unfailed front whole first =
     (text ++ rest, λ t. sym (front t), (unfailed, fault_goes text rest line why (is_too_long text) refl (whole refl) first))
@@ -79,7 +79,7 @@ now_is a b opened now same = cc
 
 module _ (bytes : List ℕ) (before after : ℕ) (log : List ℕ) (m : Moment) where
   abbrev Refused : Status → Type 0
-  Refused judged = IsJudged bytes before after log m m judged
+  Refused judged = IsRunJudged bytes before after log m m judged
 
   pub refusal_judged : (judged : Status) → judged ≢ status.NoMemory → IsRefusal bytes before after judged → Refused judged
   refusal_judged status.ReadFault known rose = record {
@@ -116,19 +116,16 @@ module _ (bytes : List ℕ) (before after : ℕ) (log : List ℕ) (m : Moment) w
   refusal_judged status.NoMemory known is = absurd (known refl)
   refusal_judged _ known is = absurd is
 
-untouched_same : (m : Moment) → IsUntouched m m
-untouched_same m = record { calls = refl; faults = refl; seen = refl }
-
 -- a refused run
-pub refusal_run : (bytes : List ℕ) (before after : ℕ) (m : Moment) (out : Outcome) (judged : Status) (report : List ℕ) → judged ≢ status.NoMemory
-    → IsRefusal bytes before after judged → IsNothing out → HasRun bytes before after m m out judged report
-refusal_run bytes before after m out judged report known refusal nothing = record {
-  log = m.seen.log;
+pub refusal_run : {D : Type 0} (view : D → Moment) (bytes : List ℕ) (before after : ℕ) (disk : D) (out : Outcome) (judged : Status) (report : List ℕ) → judged ≢ status.NoMemory
+    → IsRefusal bytes before after judged → IsNothing out → HasRun view bytes before after disk disk out judged report
+refusal_run view bytes before after disk out judged report known refusal nothing = record {
+  log = (view disk).seen.log;
   logged = λ tells. refl;
-  by = refusal_judged bytes before after m.seen.log m judged known refusal;
-  untouched = λ stays. untouched_same m;
-  refused = λ comes. nothing;
-  recorded = inl nothing;
+  by = refusal_judged bytes before after (view disk).seen.log (view disk) judged known refusal;
+  untouched = λ stays. refl;
+  refused = λ comes. alone;
+  recorded = inl alone;
   whole = λ ends. absurd (no_end judged refusal ends);
 }
   where
@@ -137,11 +134,14 @@ refusal_run bytes before after m out judged report known refusal nothing = recor
     no_end status.Stuck is ends = is
     no_end _ is ends = ends
 
+    alone : IsRefused (view disk) (view disk) judged out
+    alone = refused_untouched (view disk) judged out.list out.start out.history out.syncs (no_end judged refusal) nothing
+
 -- what is judged by a run
 
 module _ (bytes : List ℕ) (before after : ℕ) (old new : Moment) (traced : IsTraced bytes before after) where
   abbrev Judged : List ℕ → Status → Type 0
-  Judged log judged = IsJudged bytes before after log old new judged
+  Judged log judged = IsRunJudged bytes before after log old new judged
 
   no_fault : (line : ℕ) (why : TraceReason) → IsFirstFault bytes line why → ⊥
   no_fault line why first = not_text-from_fault bytes line why first traced.text
@@ -223,74 +223,77 @@ module _ (bytes : List ℕ) (before after : ℕ) (old new : Moment) (traced : Is
 
 -- what the run of a trace has answered
 
-pub record Ran (old new : Moment) (lines : List TraceLine) (out : Outcome) (judged : Status) (report : List ℕ) : Type 0 where
+pub record Ran {D : Type 0} (view : D → Moment) (old new : D) (lines : List TraceLine) (out : Outcome) (judged : Status) (report : List ℕ) : Type 0 where
   pub not_built : (line : ℕ) → judged ≡ status.NotBuilt line ↔ (unbuilt_line lines ≡ Some line)
-  pub disk_fault : (opened now : ℕ) → judged ≡ status.DiskFault opened now → HasFailed old new opened now
-  pub no_fault : (IsOfDisk judged → ⊥) → new.faults ≡ old.faults
-  pub by_log : unbuilt_line lines ≡ None → (IsOfDisk judged → ⊥) → LogHas old (λ log. stored.IsJudged (session_fault log) judged)
-  pub not_begun : IsSome (unbuilt_line lines) → IsUntouched old new × IsNothing out
-  pub bad_store : (fault : OpenFault) → judged ≡ status.BadStore fault → IsNothing out
-  pub recorded : IsNothing out ⊎ IsOverStore old.calls old new lines out.list out.start out.history out.syncs
-  pub ended : IsEnd judged → HasEnded old.calls old new lines out.list out.start out.history out.syncs judged report
+  pub disk_fault : (opened now : ℕ) → judged ≡ status.DiskFault opened now → HasFailed (view old) (view new) opened now
+  pub no_fault : (IsOfDisk judged → ⊥) → (view new).faults ≡ (view old).faults
+  pub by_log : unbuilt_line lines ≡ None → (IsOfDisk judged → ⊥) → LogHas (view old) (λ log. IsStoreJudged (session_fault log) judged)
+  pub not_begun : IsSome (unbuilt_line lines) → (new ≡ old) × IsNothing out
+  pub bad_store : (fault : OpenFault) → judged ≡ status.BadStore fault → IsRefused (view old) (view new) judged out
+  pub recorded : IsRefused (view old) (view new) judged out ⊎ IsOverStore (view old).calls (view old) (view new) lines out.list out.start out.history out.syncs
+  pub ended : IsEnd judged → HasEnded (view old).calls (view old) (view new) lines out.list out.start out.history out.syncs judged report
 
 -- and what is judged by it
-module _ (bytes : List ℕ) (before after : ℕ) (old new : Moment) (out : Outcome) (judged : Status) (report : List ℕ) (traced : IsTraced bytes before after)
-    (r : Ran old new (trace_of bytes) out judged report) where
+module _ {D : Type 0} (view : D → Moment) (bytes : List ℕ) (before after : ℕ) (old new : D) (out : Outcome) (judged : Status) (report : List ℕ) (traced : IsTraced bytes before after)
+    (r : Ran view old new (trace_of bytes) out judged report) where
   abbrev Goal : Type 0
-  Goal = HasRun bytes before after old new out judged report
+  Goal = HasRun view bytes before after old new out judged report
 
   unbuilt_run : (line : ℕ) → unbuilt_line (trace_of bytes) ≡ Some line → Goal
   unbuilt_run line at =
       let is : judged ≡ status.NotBuilt line = (r.not_built line).1 at in
       let stays = r.not_begun (subst IsSome (sym at) refl) in
+      let refused : IsRefused (view old) (view new) judged out = subst (λ (d : D). IsRefused (view old) (view d) judged out) (sym stays.0)
+      (refused_untouched (view old) judged out.list out.start out.history out.syncs (λ ends. subst IsEnd is ends) stays.1) in
       record {
-        log = old.seen.log;
+        log = (view old).seen.log;
         logged = λ tells. refl;
-        by = subst (λ (s : Status). IsJudged bytes before after old.seen.log old new s) (sym is) (unbuilt_judged bytes before after old new traced old.seen.log line at);
+        by = subst (λ (s : Status). IsRunJudged bytes before after (view old).seen.log (view old) (view new) s) (sym is)
+            (unbuilt_judged bytes before after (view old) (view new) traced (view old).seen.log line at);
         untouched = λ stops. stays.0;
-        refused = λ comes. stays.1;
-        recorded = inl stays.1;
+        refused = λ comes. refused;
+        recorded = inl refused;
         whole = λ ends. absurd (subst IsEnd is ends);
       }
 
   module _ (built : unbuilt_line (trace_of bytes) ≡ None) where
-    with_log : (log : List ℕ) → (IsTrue old.tells → log ≡ old.seen.log) → (s : Status) → judged ≡ s → IsJudged bytes before after log old new s
-        → (comes_before s ≡ true → IsNothing out) → Goal
+    with_log : (log : List ℕ) → (IsTrue (view old).tells → log ≡ (view old).seen.log) → (s : Status) → judged ≡ s → IsRunJudged bytes before after log (view old) (view new) s
+        → (comes_before s ≡ true → IsRefused (view old) (view new) judged out) → Goal
     with_log log logged s is by refused = record {
       log = log;
       logged = logged;
-      by = subst (λ (t : Status). IsJudged bytes before after log old new t) (sym is) by;
+      by = subst (λ (t : Status). IsRunJudged bytes before after log (view old) (view new) t) (sym is) by;
       untouched = λ stops. absurd (stops (record { traced = traced; built = built }));
       refused = λ comes. refused (sym (ap comes_before is) ∙ comes);
       recorded = r.recorded;
       whole = r.ended;
     }
 
-    of_store : (log : List ℕ) → (IsTrue old.tells → log ≡ old.seen.log) → new.faults ≡ old.faults → (found : Option OpenFault) → session_fault log ≡ found
-        → stored.IsJudged found judged → Goal
+    of_store : (log : List ℕ) → (IsTrue (view old).tells → log ≡ (view old).seen.log) → (view new).faults ≡ (view old).faults → (found : Option OpenFault) → session_fault log ≡ found
+        → IsStoreJudged found judged → Goal
     of_store log logged still (Some fault) has is =
-        with_log log logged (status.BadStore fault) is (store_judged bytes before after old new traced built log fault still has) (λ comes. r.bad_store fault is)
+        with_log log logged (status.BadStore fault) is (store_judged bytes before after (view old) (view new) traced built log fault still has) (λ comes. r.bad_store fault is)
     of_store log logged still None has (inl is) =
-        with_log log logged status.Done is (end_judged bytes before after old new traced built log status.Done tt still has) (λ comes. absurd (cc))
+        with_log log logged status.Done is (end_judged bytes before after (view old) (view new) traced built log status.Done tt still has) (λ comes. absurd (cc))
     of_store log logged still None has (inr is) =
-        with_log log logged status.Stuck is (end_judged bytes before after old new traced built log status.Stuck tt still has) (λ comes. absurd (cc))
+        with_log log logged status.Stuck is (end_judged bytes before after (view old) (view new) traced built log status.Stuck tt still has) (λ comes. absurd (cc))
 
     of_log : (IsOfDisk judged → ⊥) → Goal
     of_log not_disk = let (log, logged, is) = r.by_log built not_disk in of_store log logged (r.no_fault not_disk) (session_fault log) refl is
 
     by_status : (s : Status) → judged ≡ s → Goal
     by_status (status.DiskFault a b) is =
-        with_log old.seen.log (λ tells. refl) (status.DiskFault a b) is (disk_judged bytes before after old new traced built old.seen.log a b (r.disk_fault a b is)) (λ comes. absurd (cc))
+        with_log (view old).seen.log (λ tells. refl) (status.DiskFault a b) is (disk_judged bytes before after (view old) (view new) traced built (view old).seen.log a b (r.disk_fault a b is)) (λ comes. absurd (cc))
     by_status _ is = of_log (λ disk. subst IsOfDisk is disk)
 
   by_line : (found : Option ℕ) → unbuilt_line (trace_of bytes) ≡ found → Goal
   by_line (Some line) at = unbuilt_run line at
   by_line None built = by_status built judged refl
 
-pub ran_run : (bytes : List ℕ) (before after : ℕ) (old new : Moment) (lines : List TraceLine) (out : Outcome) (judged : Status) (report : List ℕ)
-    → IsTraced bytes before after → lines ≡ trace_of bytes → Ran old new lines out judged report → HasRun bytes before after old new out judged report
-ran_run bytes before after old new lines out judged report traced same ran =
-    by_line bytes before after old new out judged report traced (subst (λ (ls : List TraceLine). Ran old new ls out judged report) same ran) (unbuilt_line (trace_of bytes)) refl
+pub ran_run : {D : Type 0} (view : D → Moment) (bytes : List ℕ) (before after : ℕ) (old new : D) (lines : List TraceLine) (out : Outcome) (judged : Status) (report : List ℕ)
+    → IsTraced bytes before after → lines ≡ trace_of bytes → Ran view old new lines out judged report → HasRun view bytes before after old new out judged report
+ran_run view bytes before after old new lines out judged report traced same ran =
+    by_line view bytes before after old new out judged report traced (subst (λ (ls : List TraceLine). Ran view old new ls out judged report) same ran) (unbuilt_line (trace_of bytes)) refl
 
 -- a status that a run may end with isn't one of the sink
 pub no_write : (s : Status) → ends_run s ≡ true → s ≢ status.WriteFault

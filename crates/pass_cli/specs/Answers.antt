@@ -16,8 +16,8 @@ use Rattle.pass_run.specs.declared.status.Status.TheVariants as status
 use Rattle.pass_run.specs.Statuses.{status_text}
 use Rattle.pass_run.specs.Ends.{unbuilt_line}
 use Rattle.pass_run.specs.Reading.{is_too_long, StopsInTime}
-use Rattle.pass_run.specs.Stored.{session_fault, IsEnd, IsUnopened, IsOverStore, HasEnded}
-use Rattle.pass_run.specs.Writing.{IsPart}
+use Rattle.pass_run.specs.Stored.{session_fault, IsEnd, IsUnopened, IsRefusedOpening, IsOverStore, HasEnded}
+use Rattle.pass_run.specs.Writing.{IsPartOfText}
 use Rattle.pass_cli.specs.declared.main_call.Ended.{Ended}
 
 -- the words are the one word `run`
@@ -54,9 +54,9 @@ IsRefusal bytes before after status.NoMemory = Unit {0}
 IsRefusal bytes before after _ = ⊥
 
 -- what is read: the trace of the bytes, or a status that refuses them
-abbrev pub IsRead : List ℕ → ℕ → ℕ → Result Trace Status → Type 0
-IsRead bytes before after (Ok trace) = IsTraced bytes before after × (trace.lines.items ≡ trace_of bytes)
-IsRead bytes before after (Err refusal) = IsRefusal bytes before after refusal
+abbrev pub IsTraceRead : List ℕ → ℕ → ℕ → Result Trace Status → Type 0
+IsTraceRead bytes before after (Ok trace) = IsTraced bytes before after × (trace.lines.items ≡ trace_of bytes)
+IsTraceRead bytes before after (Err refusal) = IsRefusal bytes before after refusal
 
 -- the statuses with which a run may end
 abbrev pub ends_run : Status → Bool
@@ -82,7 +82,7 @@ pub record HasFailed (old new : Moment) (opened now : ℕ) : Type 0 where
 -- What a run is judged by: the bytes of the source, its count of faults before and after, the bytes of the log area, and the
 -- disk before and after. The source's faults come first, then the trace's, then its calls, the device's faults, and what the
 -- log has; and then the trace is run.
-pub record IsJudged (bytes : List ℕ) (before after : ℕ) (log : List ℕ) (old new : Moment) (judged : Status) : Type 0 where
+pub record IsRunJudged (bytes : List ℕ) (before after : ℕ) (log : List ℕ) (old new : Moment) (judged : Status) : Type 0 where
   pub read_fault : judged ≡ status.ReadFault ↔ HasRisen before after
   pub bad_trace : (line : ℕ) (reason : TraceReason) → judged ≡ status.BadTrace line reason ↔ ((¬ HasRisen before after) × IsFirstFault bytes line reason)
   pub not_built : (line : ℕ) → judged ≡ status.NotBuilt line ↔ (IsTraced bytes before after × (unbuilt_line (trace_of bytes) ≡ Some line))
@@ -111,6 +111,10 @@ outcome_of_run e = record { list = e.list.items; start = e.start; history = e.hi
 abbrev pub IsNothing : Outcome → Type 0
 IsNothing out = IsUnopened out.list out.start out.history out.syncs
 
+-- the store was refused with this status, and not written to
+abbrev pub IsRefused : Moment → Moment → Status → Outcome → Type 0
+IsRefused old new judged out = IsRefusedOpening old new judged out.list out.start out.history out.syncs
+
 -- the store was opened, and the history, if any, is a run of the trace of the bytes, of which a crash leaves a beginning
 abbrev pub IsRecorded : Moment → Moment → List ℕ → Outcome → Type 0
 IsRecorded old new bytes out = IsOverStore old.calls old new (trace_of bytes) out.list out.start out.history out.syncs
@@ -126,22 +130,17 @@ comes_before status.Stuck = false
 comes_before (status.DiskFault opened now) = false
 comes_before _ = true
 
--- no device call was made
-pub record IsUntouched (old new : Moment) : Type 0 where
-  pub calls : new.calls ≡ old.calls
-  pub faults : new.faults ≡ old.faults
-  pub seen : new.seen ≡ old.seen
-
--- how a run is judged, and what was recorded, with the report of Done and Stuck
-pub record HasRun (bytes : List ℕ) (before after : ℕ) (old new : Moment) (out : Outcome) (judged : Status) (report : List ℕ) : Type 0 where
+-- How a run is judged, and what was recorded, with the report of Done and Stuck. A run that is refused before its store is
+-- opened leaves the disk untouched.
+pub record HasRun {D : Type 0} (view : D → Moment) (bytes : List ℕ) (before after : ℕ) (old new : D) (out : Outcome) (judged : Status) (report : List ℕ) : Type 0 where
   -- the bytes of the log area, where the disk tells them
   pub log : List ℕ
-  pub logged : IsTrue old.tells → log ≡ old.seen.log
-  pub by : IsJudged bytes before after log old new judged
-  pub untouched : ¬ IsRunnable bytes before after → IsUntouched old new
-  pub refused : comes_before judged ≡ true → IsNothing out
-  pub recorded : IsNothing out ⊎ IsRecorded old new bytes out
-  pub whole : IsEnd judged → IsWhole old new bytes out judged report
+  pub logged : IsTrue (view old).tells → log ≡ (view old).seen.log
+  pub by : IsRunJudged bytes before after log (view old) (view new) judged
+  pub untouched : ¬ IsRunnable bytes before after → new ≡ old
+  pub refused : comes_before judged ≡ true → IsRefused (view old) (view new) judged out
+  pub recorded : IsRefused (view old) (view new) judged out ⊎ IsRecorded (view old) (view new) bytes out
+  pub whole : IsEnd judged → IsWhole (view old) (view new) bytes out judged report
 
 -- the trace was run, so that there is a report
 abbrev pub is_reported : Status → Bool
@@ -168,12 +167,12 @@ pub record SinkSeen : Type 0 where
 
 -- What stands behind the answer of a run, other than want of memory: the bytes that the source had left, where it tells
 -- them; the status that was judged by them, which is the answer unless the sink failed; and its text, which the sink took
-pub record IsAnswer (source : SourceSeen) (sink : SinkSeen) (old new : Moment) (out : Outcome) (answered : Status) : Type 0 where
+pub record IsAnswer {D : Type 0} (view : D → Moment) (source : SourceSeen) (sink : SinkSeen) (old new : D) (out : Outcome) (answered : Status) : Type 0 where
   pub bytes : List ℕ
   pub told : IsTrue source.tells → bytes ≡ source.left
   pub judged : Status
   pub report : List ℕ
-  pub by : HasRun bytes source.before source.after old new out judged report
+  pub by : HasRun view bytes source.before source.after old new out judged report
   pub stands : (answered ≡ judged) ⊎ (answered ≡ status.WriteFault)
   pub whole : answered ≢ status.WriteFault → IsTrue sink.tells → sink.after ≡ sink.before ++ text_with judged report
-  pub part : answered ≡ status.WriteFault → IsTrue sink.tells → IsPart (text_with judged report) sink.before sink.after
+  pub part : answered ≡ status.WriteFault → IsTrue sink.tells → IsPartOfText (text_with judged report) sink.before sink.after

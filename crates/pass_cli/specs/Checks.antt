@@ -13,7 +13,7 @@ use Rattle.pass_run.specs.declared.status.Status.{Status}
 use Rattle.pass_run.specs.declared.status.Status.TheVariants as status
 use Rattle.pass_run.specs.Statuses.{status_text}
 use Rattle.pass_run.specs.Stores.{store_fault}
-use Rattle.pass_run.specs.Writing.{IsPart}
+use Rattle.pass_run.specs.Writing.{IsPartOfText}
 use Rattle.pass_cli.specs.Answers.{SinkSeen, IsNoDiskFault, HasFailed}
 
 -- the words are the one word `check`
@@ -54,7 +54,7 @@ pub record IsCheckJudged (words : List (List ℕ)) (old new : Moment) (bytes : L
   pub unhidden : IsCheckWord words → old.faults < new.faults → judged ≡ status.DiskFault old.faults new.faults
   pub bad_store : (fault : OpenFault) → judged ≡ status.BadStore fault ↔ (IsCheckWord words × IsNoDiskFault judged × (store_fault bytes ≡ Some fault))
   pub done : judged ≡ status.Done ↔ (IsCheckWord words × IsNoDiskFault judged × (store_fault bytes ≡ None))
-  pub unwritten : judged ≡ status.Done → new.seen ≡ old.seen
+  pub reads : IsNoDiskFault judged → new.seen ≡ old.seen
 
 -- What stands behind an answer other than want of memory: the bytes of the log area, where the disk tells them; the status
 -- that was judged by them, which is the answer unless the sink failed; and its text, which the sink took
@@ -68,4 +68,4 @@ pub record IsAsked (words : List (List ℕ)) (old new : Moment) (sink : SinkSeen
   pub refusal : judged ≢ status.Done → text ≡ status_text judged
   pub stands : (answered ≡ judged) ⊎ (answered ≡ status.WriteFault)
   pub whole : answered ≢ status.WriteFault → IsTrue sink.tells → sink.after ≡ sink.before ++ text
-  pub part : answered ≡ status.WriteFault → IsTrue sink.tells → IsPart text sink.before sink.after
+  pub part : answered ≡ status.WriteFault → IsTrue sink.tells → IsPartOfText text sink.before sink.after

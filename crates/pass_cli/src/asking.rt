@@ -1,9 +1,8 @@
 //! The commands that run no trace.
 ghost use Rattle.std.specs.Prelude.{◌≡◌, ◌≢◌, ◌↔◌, ◌⊎◌, ◌<◌, ℕ, List, IsTrue, length, map, string_bytes};
-ghost use Rattle.pass_outside.specs.Areas.{Image};
 ghost use Rattle.pass_outside.specs.Faults.{HasRisen};
-ghost use Rattle.pass_outside.specs.Moments.{Adds};
 ghost use Rattle.pass_recover.specs.Faults.{LogHas};
+ghost use Rattle.pass_run.specs.Stored.{IsLater, IsLeftAlone};
 ghost use Rattle.pass_cli.specs.Answers.{is_reported};
 ghost use Rattle.pass_cli.specs.Checks.{IsCheckWord, IsCheckJudged, IsCheckText, IsAsked, check_text};
 
@@ -33,9 +32,9 @@ pub fn ask<K: Sink, D: Disk>(alloc: Global, words: &[String], sink: &mut K, disk
         ↔ HasRisen (K.fault_count sink.old) (K.fault_count sink.new)) }
     ensures unwritten { result.status ≡ Status.NoMemory → sink.new ≡ sink.old }
     ensures unopened { ¬ IsCheckWord (map string_bytes words.now) → result.disk ≡ disk }
-    // A crash leaves what it might have left before: nothing was written to the disk.
-    ensures crash { (c : Image) → (D.view result.disk).may_leave c → (D.view disk).may_leave c }
-    ensures adds { Adds (D.view disk) (D.view result.disk) (D.view disk).may_leave }
+    // Nothing is written to the disk.
+    ensures alone { IsLeftAlone (D.view disk) (D.view result.disk) }
+    ensures later { IsLater (D.view disk) (D.view result.disk) }
 {
     let mut disk = disk;
     let judged = judge_words(alloc, words, &mut disk);
@@ -60,8 +59,8 @@ fn judge_words<D: Disk>(alloc: Global, words: &[String], disk: &mut D) -> Judged
     ensures reported { IsTrue (is_reported result.status) → (result.status ≡ Status.Done) × (0 < length result.text.items) }
     ensures unwritten { result.status ≢ Status.WriteFault }
     ensures unopened { ¬ IsCheckWord (map string_bytes words.now) → disk.new ≡ disk.old }
-    ensures crash { (c : Image) → (D.view disk.new).may_leave c → (D.view disk.old).may_leave c }
-    ensures adds { Adds (D.view disk.old) (D.view disk.new) (D.view disk.old).may_leave }
+    ensures alone { IsLeftAlone (D.view disk.old) (D.view disk.new) }
+    ensures later { IsLater (D.view disk.old) (D.view disk.new) }
 {
     if is_check(words) {
         return judge_store(alloc, disk);
@@ -79,8 +78,8 @@ fn judge_store<D: Disk>(alloc: Global, disk: &mut D) -> Judged
         × (result.status ≡ Status.Done → IsCheckText (D.view disk.old) bytes result.text.items)) }
     ensures reported { IsTrue (is_reported result.status) → (result.status ≡ Status.Done) × (0 < length result.text.items) }
     ensures unwritten { result.status ≢ Status.WriteFault }
-    ensures crash { (c : Image) → (D.view disk.new).may_leave c → (D.view disk.old).may_leave c }
-    ensures adds { Adds (D.view disk.old) (D.view disk.new) (D.view disk.old).may_leave }
+    ensures alone { IsLeftAlone (D.view disk.old) (D.view disk.new) }
+    ensures later { IsLater (D.view disk.old) (D.view disk.new) }
 {
     let opened = disk.faults();
     match recover(alloc, disk) {

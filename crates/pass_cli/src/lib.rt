@@ -6,8 +6,6 @@ mod counting;
 mod listing;
 mod main_call;
 mod reading;
-#[cfg(test)]
-mod tests;
 mod verdict;
 mod words;
 mod writing;

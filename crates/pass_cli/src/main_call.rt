@@ -1,7 +1,7 @@
 //! The call that the program makes.
 ghost use Rattle.std.specs.Prelude.{◌≡◌, ◌≢◌, ◌↔◌, ◌⊎◌, IsTrue, map, string_bytes};
-ghost use Rattle.pass_outside.specs.Areas.{Image};
 ghost use Rattle.pass_outside.specs.Faults.{HasRisen};
+ghost use Rattle.pass_run.specs.Stored.{IsLater, IsLeftAlone};
 ghost use Rattle.pass_cli.specs.Answers.{IsRunWord, OfBytes, IsReadInTime, IsAnswer, IsNothing, IsRecorded, outcome_of};
 ghost use Rattle.pass_cli.specs.Checks.{IsCheckWord, IsAsked};
 
@@ -41,18 +41,20 @@ pub fn pass_main<R: Threads + Wait + Sync, S: Source, K: Sink, D: Disk + Send, G
     disk: D,
     gate: &G,
 ) -> Ended<D>
-    ensures run { IsRunWord (map string_bytes words.now) → result.status ≢ Status.NoMemory → IsAnswer
+    ensures run { IsRunWord (map string_bytes words.now) → result.status ≢ Status.NoMemory → IsAnswer D.view
         (record { tells = S.tells; left = S.left source.old; before = S.fault_count source.old; after = S.fault_count source.new })
-        (record { tells = K.tells; before = K.taken sink.old; after = K.taken sink.new }) (D.view disk) (D.view result.disk) (outcome_of result) result.status }
+        (record { tells = K.tells; before = K.taken sink.old; after = K.taken sink.new }) disk result.disk (outcome_of result) result.status }
     // What a run hands out, also where memory was refused.
     ensures recorded { IsRunWord (map string_bytes words.now) → OfBytes S.tells (S.left source.old)
-        (λ bytes. IsNothing (outcome_of result) ⊎ IsRecorded (D.view disk) (D.view result.disk) bytes (outcome_of result)) }
+        (λ bytes. (IsNothing (outcome_of result) × IsLeftAlone (D.view disk) (D.view result.disk)) ⊎ IsRecorded (D.view disk) (D.view result.disk) bytes (outcome_of result)) }
     // Every other command is answered by `ask`, and records nothing.
     ensures asked { ¬ IsRunWord (map string_bytes words.now) → result.status ≢ Status.NoMemory → IsAsked (map string_bytes words.now) (D.view disk) (D.view result.disk)
         (record { tells = K.tells; before = K.taken sink.old; after = K.taken sink.new }) result.status }
     ensures unrecorded { ¬ IsRunWord (map string_bytes words.now) → IsNothing (outcome_of result) }
-    ensures unwritten { ¬ IsRunWord (map string_bytes words.now) → (c : Image) → (D.view result.disk).may_leave c → (D.view disk).may_leave c }
+    ensures alone { ¬ IsRunWord (map string_bytes words.now) → IsLeftAlone (D.view disk) (D.view result.disk) }
     ensures unopened { ¬ IsRunWord (map string_bytes words.now) → ¬ IsCheckWord (map string_bytes words.now) → result.disk ≡ disk }
+    // What the disk tells stays, and its counts never fall.
+    ensures later { IsLater (D.view disk) (D.view result.disk) }
     ensures write_fault { result.status ≢ Status.NoMemory → (result.status ≡ Status.WriteFault
         ↔ HasRisen (K.fault_count sink.old) (K.fault_count sink.new)) }
     ensures untaken { result.status ≡ Status.NoMemory → sink.new ≡ sink.old }
@@ -77,11 +79,12 @@ fn run_words<S: Source, K: Sink, D: Disk + Send, G: Gate + Sync>(
     disk: D,
     gate: &G,
 ) -> Ended<D>
-    ensures run { result.status ≢ Status.NoMemory → IsAnswer
+    ensures run { result.status ≢ Status.NoMemory → IsAnswer D.view
         (record { tells = S.tells; left = S.left source.old; before = S.fault_count source.old; after = S.fault_count source.new })
-        (record { tells = K.tells; before = K.taken sink.old; after = K.taken sink.new }) (D.view disk) (D.view result.disk) (outcome_of result) result.status }
+        (record { tells = K.tells; before = K.taken sink.old; after = K.taken sink.new }) disk result.disk (outcome_of result) result.status }
     ensures recorded { OfBytes S.tells (S.left source.old)
-        (λ bytes. IsNothing (outcome_of result) ⊎ IsRecorded (D.view disk) (D.view result.disk) bytes (outcome_of result)) }
+        (λ bytes. (IsNothing (outcome_of result) × IsLeftAlone (D.view disk) (D.view result.disk)) ⊎ IsRecorded (D.view disk) (D.view result.disk) bytes (outcome_of result)) }
+    ensures later { IsLater (D.view disk) (D.view result.disk) }
     ensures write_fault { result.status ≢ Status.NoMemory → (result.status ≡ Status.WriteFault
         ↔ HasRisen (K.fault_count sink.old) (K.fault_count sink.new)) }
     ensures untaken { result.status ≡ Status.NoMemory → sink.new ≡ sink.old }

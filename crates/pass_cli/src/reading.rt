@@ -1,7 +1,7 @@
 //! Reads the trace of a source.
 ghost use Rattle.std.specs.Prelude.{◌≢◌, Err, IsTrue};
 ghost use Rattle.pass_outside.specs.Faults.{HasRisen};
-ghost use Rattle.pass_cli.specs.Answers.{OfBytes, IsRead, IsReadInTime};
+ghost use Rattle.pass_cli.specs.Answers.{OfBytes, IsTraceRead, IsReadInTime};
 
 use pass_outside::Source;
 use pass_run::{ReadEnd, Status, read_source};
@@ -11,7 +11,7 @@ use std::alloc::Global;
 /// The trace of a source, or the first status that refuses it: by the source, then by its bytes.
 pub fn read_trace<S: Source>(alloc: Global, source: &mut S) -> Result<Trace, Status>
     ensures read { OfBytes S.tells (S.left source.old)
-        (λ bytes. IsRead bytes (S.fault_count source.old) (S.fault_count source.new) result) }
+        (λ bytes. IsTraceRead bytes (S.fault_count source.old) (S.fault_count source.new) result) }
     ensures stops { IsTrue S.tells → result ≢ Err Status.NoMemory → ¬ HasRisen (S.fault_count source.old) (S.fault_count source.new)
         → IsReadInTime (S.left source.old) (S.left source.new) }
 {

@@ -1,11 +1,12 @@
 //! Judges what is to be answered of a run, before any of it is written.
 ghost use Rattle.std.specs.Prelude.{◌≡◌, ◌≢◌, ◌⊎◌, ◌<◌, IsTrue, length};
 ghost use Rattle.pass_outside.specs.Faults.{HasRisen};
+ghost use Rattle.pass_run.specs.Stored.{IsLater, IsLeftAlone};
 ghost use Rattle.pass_cli.specs.Answers.{OfBytes, HasRun, IsNothing, IsRecorded, IsReadInTime, is_reported, outcome_of_run};
 
 use crate::reading::read_trace;
 use pass_outside::{Disk, Gate, Source};
-use pass_run::{RunEnd, Status, empty_start, run_trace};
+use pass_run::{RunEnd, Status, run_trace, unopened};
 use std::alloc::Global;
 
 /// How many workers take the turns.
@@ -19,10 +20,11 @@ pub fn judge<S: Source, D: Disk + Send, G: Gate + Sync>(
     gate: &G,
 ) -> RunEnd<D>
     ensures judged { result.status ≢ Status.NoMemory → OfBytes S.tells (S.left source.old)
-        (λ bytes. HasRun bytes (S.fault_count source.old) (S.fault_count source.new) (D.view disk) (D.view result.disk) (outcome_of_run result) result.status result.report.items) }
+        (λ bytes. HasRun D.view bytes (S.fault_count source.old) (S.fault_count source.new) disk result.disk (outcome_of_run result) result.status result.report.items) }
     // Also where memory was refused.
     ensures recorded { OfBytes S.tells (S.left source.old)
-        (λ bytes. IsNothing (outcome_of_run result) ⊎ IsRecorded (D.view disk) (D.view result.disk) bytes (outcome_of_run result)) }
+        (λ bytes. (IsNothing (outcome_of_run result) × IsLeftAlone (D.view disk) (D.view result.disk)) ⊎ IsRecorded (D.view disk) (D.view result.disk) bytes (outcome_of_run result)) }
+    ensures later { IsLater (D.view disk) (D.view result.disk) }
     ensures some { IsTrue (is_reported result.status) → 0 < length result.report.items }
     ensures no_write { result.status ≢ Status.WriteFault }
     ensures stops { IsTrue S.tells → result.status ≢ Status.NoMemory → ¬ HasRisen (S.fault_count source.old) (S.fault_count source.new)
@@ -30,23 +32,6 @@ pub fn judge<S: Source, D: Disk + Send, G: Gate + Sync>(
 {
     match read_trace(alloc, source) {
         Ok(trace) => run_trace(alloc, &trace, WORKERS, disk, gate),
-        Err(status) => refused(alloc, status, disk),
-    }
-}
-
-// The end of a run that hasn't begun.
-fn refused<D>(alloc: Global, status: Status, disk: D) -> RunEnd<D>
-    ensures status { result.status ≡ status }
-    ensures nothing { IsNothing (outcome_of_run result) }
-    ensures disk { result.disk ≡ disk }
-{
-    RunEnd {
-        status,
-        history: Vec::new(alloc),
-        syncs: Vec::new(alloc),
-        list: Vec::new(alloc),
-        start: empty_start(alloc),
-        report: Vec::new(alloc),
-        disk,
+        Err(status) => unopened(alloc, status, disk),
     }
 }

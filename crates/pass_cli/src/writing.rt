@@ -1,7 +1,7 @@
 //! Writes the text of what was judged.
 ghost use Rattle.std.specs.Prelude.{◌≡◌, ◌≢◌, ◌↔◌, ◌⊎◌, ◌<◌, ◌++◌, IsTrue, length};
 ghost use Rattle.pass_outside.specs.Faults.{HasRisen};
-ghost use Rattle.pass_run.specs.Writing.{IsPart};
+ghost use Rattle.pass_run.specs.Writing.{IsPartOfText};
 ghost use Rattle.pass_cli.specs.Answers.{is_reported, text_with};
 
 use pass_outside::{Failed, Sink};
@@ -14,7 +14,7 @@ pub fn write_answer<K: Sink>(alloc: Global, sink: &mut K, status: Status, report
     requires some { IsTrue (is_reported status) → 0 < length report.now }
     ensures stands { (result ≡ status) ⊎ ((result ≡ Status.WriteFault) ⊎ (result ≡ Status.NoMemory)) }
     ensures whole { result ≢ Status.WriteFault → result ≢ Status.NoMemory → IsTrue K.tells → K.taken sink.new ≡ K.taken sink.old ++ text_with status report.now }
-    ensures part { result ≡ Status.WriteFault → IsTrue K.tells → IsPart (text_with status report.now) (K.taken sink.old) (K.taken sink.new) }
+    ensures part { result ≡ Status.WriteFault → IsTrue K.tells → IsPartOfText (text_with status report.now) (K.taken sink.old) (K.taken sink.new) }
     ensures fault { result ≢ Status.NoMemory → (result ≡ Status.WriteFault ↔ HasRisen (K.fault_count sink.old) (K.fault_count sink.new)) }
     ensures starved { status ≡ Status.NoMemory → result ≡ Status.NoMemory }
     ensures refused { result ≡ Status.NoMemory → ¬ IsTrue (is_reported status) }
@@ -36,7 +36,7 @@ fn written<K: Sink>(sink: &mut K, text: &[u8], status: Status) -> Status
     requires unwritten { status ≢ Status.WriteFault }
     ensures stands { (result ≡ status) ⊎ (result ≡ Status.WriteFault) }
     ensures whole { result ≢ Status.WriteFault → IsTrue K.tells → K.taken sink.new ≡ K.taken sink.old ++ text.now }
-    ensures part { result ≡ Status.WriteFault → IsTrue K.tells → IsPart text.now (K.taken sink.old) (K.taken sink.new) }
+    ensures part { result ≡ Status.WriteFault → IsTrue K.tells → IsPartOfText text.now (K.taken sink.old) (K.taken sink.new) }
     ensures fault { result ≡ Status.WriteFault ↔ HasRisen (K.fault_count sink.old) (K.fault_count sink.new) }
 {
     match write_text(sink, text) {

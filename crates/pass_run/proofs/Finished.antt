@@ -42,6 +42,7 @@ stuck_is run going still process some =
     let (call, stands) = call_at trace process row.done row.line lives.line in
     let living = exit_not_over run.plain.session trace going.ordered run.plain.history going.so_far process row.pnode row.done call lives.begun stands lives.next in
     record {
+      begun = going.so_far.some;
       process = process;
       of_trace = elim (begun_or_forked run.plain.session trace run.plain.history process row.pnode lives.begun) [
         | inl one ↦ subst (λ p. IsOfTrace trace p) (sym one) first

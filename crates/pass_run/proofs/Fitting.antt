@@ -13,16 +13,16 @@ use Rattle.pass_report.specs.TraceLines.{objects_of, plain_line, plain_trace, se
 use Rattle.pass_trace.specs.declared.trace.TraceLine.{TraceLine}
 use Rattle.pass_trace.specs.Rules.{count_created}
 use Rattle.pass_bounds.specs.Lawful.{OpenedLaw, FrameLaw, ObjectsLaw}
-use Rattle.pass_run.specs.declared.storing.Ground.{Ground}
+use Rattle.pass_run.specs.declared.storing.OpenedRun.{OpenedRun}
 use Rattle.pass_run.specs.Ends.{IsTrace}
-use Rattle.pass_run.specs.Grounds.{IsGround}
+use Rattle.pass_run.specs.OpenedRuns.{IsOpenedRun}
 use Rattle.pass_run.proofs.Ruled.{few_lines}
 
 -- the trace makes no more objects than one session may
 pub few_objects : ObjectsLaw → (lines : List TraceLine) → IsTrace lines → objects_of lines ≤ 8192
 few_objects law lines (bytes, text, is) = let few = law bytes text in let same = ap count_created is in omega (arith, few, same)
 
-module _ (m : Moment) (g : Ground) (fact : IsGround m g) (short : g.image.end ≤ 2 ^ 38) where
+module _ (m : Moment) (g : OpenedRun) (fact : IsOpenedRun m g) (short : g.image.end ≤ 2 ^ 38) where
   pub session_room : OpenedLaw → g.start.ceiling + 8192 < 2 ^ 48
   session_room law =
       let (bytes, told, image) = fact.read in

@@ -11,12 +11,12 @@ use Rattle.pass_plain.specs.Legal.{MayFollow, before_call, is_over, last_number}
 use Rattle.pass_plain.specs.Traces.{Line, LineCall, calls_of}
 use Rattle.pass_plain.specs.Runs.{pnode_of_process, next_number, request_at}
 use Rattle.pass_run.specs.Lines.{AreLinesBehind}
-use Rattle.pass_run.specs.Making.{IsRunSoFar, IsNextEntry, IsCall, GoesOn}
+use Rattle.pass_run.specs.Making.{IsRunSoFar, IsNextEntry, IsCallUnderWay, GoesOn}
 use Rattle.pass_run.proofs.Positions.{unequal}
 use Rattle.pass_run.proofs.NextCalls.{is_call}
 use Rattle.pass_run.proofs.Entries.{own_state, own_entries, other_over, last_none}
 use Rattle.pass_run.proofs.Births.{own, over_after, New, mono, back, child_now, not_begun, silent}
-use Rattle.pass_run.proofs.OneMore.{last_after, last_other, request_stays, named_after, run_after}
+use Rattle.pass_run.proofs.OneMore.{last_after, last_other, request_stays, run_after}
 use Rattle.pass_run.proofs.Lives.{begun_after, ended_after, unborn_after, single_after, apart_if}
 use Rattle.pass_run.proofs.Spent.{one_less, room_after}
 
@@ -60,7 +60,6 @@ module _ (session : Session) (trace : List Line) (behind : AreLinesBehind [] tra
   pub so_far_after : IsRunSoFar session trace longer
   so_far_after = record {
     run = run_after session trace behind history so_far process who done call begun stands next e follows is;
-    named = named_after session trace behind history so_far process who done call begun stands next e follows is;
     some = omega (arith, one_longer);
     begun = begun_after session trace behind history so_far process who done call begun stands next e follows is;
     ended = ended_after session trace behind history so_far process who done call begun stands next e follows is;
@@ -120,12 +119,12 @@ module _ (session : Session) (trace : List Line) (behind : AreLinesBehind [] tra
       ap (λ last. cond (last == 0) 1 (cond (is_over longer w last) (last + 1) last)) (last_none longer w (silent session trace behind history so_far process who done call begun stands next e follows is q w new))
 
   -- the call goes on
-  pub call_after : is_last state e ≡ false → IsCall longer who (done + 1) (request_at session trace history who (done + 1) call) state (call_entries history who (done + 1) ++ (length history, e) ∷ [])
+  pub call_after : is_last state e ≡ false → IsCallUnderWay longer who (done + 1) (request_at session trace history who (done + 1) call) state (call_entries history who (done + 1) ++ (length history, e) ∷ [])
   call_after goes =
       let mine = own session trace behind history so_far process who done call begun stands next e follows is in
       let there = mono session trace behind history so_far process who done call begun stands next e follows is process who begun in
       let later = is_call session trace behind longer so_far_after process who done call there stands (next_stays goes) in
-      subst (λ (m : Made). IsCall longer who (done + 1) (request_at session trace history who (done + 1) call) state m) (own_entries history e who (done + 1) mine)
-      (subst (λ (p : Process). IsCall longer who (done + 1) (request_at session trace history who (done + 1) call) p (call_entries longer who (done + 1))) (own_state history e who (done + 1) mine)
-      (subst (λ (r : Request). IsCall longer who (done + 1) r (before_call longer who (done + 1)) (call_entries longer who (done + 1)))
+      subst (λ (m : Made). IsCallUnderWay longer who (done + 1) (request_at session trace history who (done + 1) call) state m) (own_entries history e who (done + 1) mine)
+      (subst (λ (p : Process). IsCallUnderWay longer who (done + 1) (request_at session trace history who (done + 1) call) p (call_entries longer who (done + 1))) (own_state history e who (done + 1) mine)
+      (subst (λ (r : Request). IsCallUnderWay longer who (done + 1) r (before_call longer who (done + 1)) (call_entries longer who (done + 1)))
       (request_stays session trace behind history so_far process who done call begun stands next e follows is) later))

@@ -19,10 +19,10 @@ use Rattle.pass_run.specs.declared.ending.RunEnd.{RunEnd}
 use Rattle.pass_run.specs.declared.performing.Performed.{Performed}
 use Rattle.pass_run.specs.declared.status.Status.{Status}
 use Rattle.pass_run.specs.declared.status.Status.TheVariants as status
-use Rattle.pass_run.specs.declared.storing.Ground.{Ground}
+use Rattle.pass_run.specs.declared.storing.OpenedRun.{OpenedRun}
 use Rattle.pass_run.specs.Ends.{EndsAs}
-use Rattle.pass_run.specs.Grounds.{IsGround, story_over, HasPerformed, IsAllKept, IsSomeKept, IsRunOver, both_syncs}
-use Rattle.pass_run.specs.Stored.{IsBare, IsEnd, HasRecorded, HasReported, IsStored, IsSettled, IsOverStore, HasEnded, story_of}
+use Rattle.pass_run.specs.OpenedRuns.{IsOpenedRun, story_over, HasPerformed, IsAllKept, IsSomeKept, IsRunOver, both_syncs}
+use Rattle.pass_run.specs.Stored.{IsBare, IsEnd, HasRecorded, HasReported, IsStored, IsSettledRun, IsLater, IsOverStore, HasEnded, story_of}
 use Rattle.pass_run.proofs.Numbered.{numbered}
 use Rattle.pass_run.proofs.Overs.{is_opening, judged_end, has_recorded, at_its_end, is_stored, is_settled, over_end}
 
@@ -33,10 +33,14 @@ number_is n low high = both_true (nat_le 1 n) (nat_lt n (2 ^ 48)) (grind (arith,
 begun_alone : (s : Story) (m : Moment) (syncs : List Synced) → syncs ≡ [] → IsBegun s m → IsStored s m syncs
 begun_alone s m syncs none begun = record {
   begun = begun;
-  since = λ told i x at. absurd (let z : slice_get [] i ≡ Some x = ap (λ (l : List Synced). slice_get l i) (sym none) ∙ at in cc);
+  timed = record { earlier = λ i x at. absurd (nothing i x at); within = λ i x at. absurd (nothing i x at); rising = λ i j x y low at other. absurd (nothing i x at) };
+  since = λ told i x at. absurd (nothing i x at);
 }
+  where
+    nothing : (i : ℕ) (x : Synced) → slice_get syncs i ≡ Some x → ⊥
+    nothing i x at = let z : slice_get [] i ≡ Some x = ap (λ (l : List Synced). slice_get l i) (sym none) ∙ at in cc
 
-module _ {D : Type 0} (view : D → Moment) (m : Moment) (g : Ground) (ground : IsGround m g) (short : g.image.end ≤ 274877906944) (e : RunEnd D)
+module _ {D : Type 0} (view : D → Moment) (m : Moment) (g : OpenedRun) (run : IsOpenedRun m g) (short : g.image.end ≤ 274877906944) (e : RunEnd D)
     (list_is : e.list.items ≡ g.image.list.items) (same : SameButBytes e.start g.start) (bare : IsBare e.start) where
   abbrev lines : List TraceLine
   lines = g.trace.now.lines.items
@@ -44,48 +48,48 @@ module _ {D : Type 0} (view : D → Moment) (m : Moment) (g : Ground) (ground : 
   abbrev list : List Record
   list = g.image.list.items
 
-  over_store : (e.history.items ≡ []) ⊎ HasRecorded list g.start lines e.history.items → IsStored (story_of g.calls list g.start lines e.history.items) (view e.disk) e.syncs.items
+  over_store : (e.history.items ≡ []) ⊎ HasRecorded list g.start lines e.history.items → IsStored (story_of g.calls m.seen.store list g.start lines e.history.items) (view e.disk) e.syncs.items
       → IsOverStore g.calls m (view e.disk) lines e.list.items e.start e.history.items e.syncs.items
   over_store recorded stored =
       let over : IsOverStore g.calls m (view e.disk) lines list e.start e.history.items e.syncs.items = record {
         opened = g.start;
-        opening = is_opening m g ground short e.start same bare;
+        opening = is_opening m g run short e.start same bare;
         recorded = recorded;
         stored = stored;
       } in
       subst (λ (l : List Record). IsOverStore g.calls m (view e.disk) lines l e.start e.history.items e.syncs.items) (sym list_is) over
 
   -- a fault before the first sync
-  pub at_opening : (s : Story) → s ≡ story_over g [] → e.history.items ≡ [] → e.syncs.items ≡ [] → IsBegun s (view e.disk)
+  pub at_opening : (s : Story) → s ≡ story_over m.seen.store g [] → e.history.items ≡ [] → e.syncs.items ≡ [] → IsBegun s (view e.disk)
       → IsOverStore g.calls m (view e.disk) lines e.list.items e.start e.history.items e.syncs.items
   at_opening s is none no_syncs begun =
       over_store (inl none)
-      (begun_alone (story_of g.calls list g.start lines e.history.items) (view e.disk) e.syncs.items no_syncs
-      (subst (λ (h : List Entry). IsBegun (story_of g.calls list g.start lines h) (view e.disk)) (sym none) (subst (λ (s : Story). IsBegun s (view e.disk)) is begun)))
+      (begun_alone (story_of g.calls m.seen.store list g.start lines e.history.items) (view e.disk) e.syncs.items no_syncs
+      (subst (λ (h : List Entry). IsBegun (story_of g.calls m.seen.store list g.start lines h) (view e.disk)) (sym none) (subst (λ (s : Story). IsBegun s (view e.disk)) is begun)))
 
   -- what is performed, with a number for each object
   module _ (few : objects_of lines ≤ 8192) (low : g.start.ceiling + objects_of lines < 2 ^ 48) (law : GraphLaw × VersionRecordLaw × InputRecordLaw) (p : Performed) (performed : HasPerformed g.start lines p)
       (history : e.history.items ≡ p.history.items) (k : Keeper D) (disk : e.disk ≡ k.disk) (syncs : e.syncs.items ≡ k.syncs.items) where
     recorded : HasRecorded list g.start lines e.history.items
-    recorded = subst (λ (h : List Entry). HasRecorded list g.start lines h) (sym history) (has_recorded m g ground short few low law p performed)
+    recorded = subst (λ (h : List Entry). HasRecorded list g.start lines h) (sym history) (has_recorded m g run short few low law p performed)
 
-    stored_by : IsStored (story_over g p.history.items) (view e.disk) e.syncs.items → IsStored (story_of g.calls list g.start lines e.history.items) (view e.disk) e.syncs.items
-    stored_by stored = subst (λ (h : List Entry). IsStored (story_of g.calls list g.start lines h) (view e.disk) e.syncs.items) (sym history) stored
+    stored_by : IsStored (story_over m.seen.store g p.history.items) (view e.disk) e.syncs.items → IsStored (story_of g.calls m.seen.store list g.start lines e.history.items) (view e.disk) e.syncs.items
+    stored_by stored = subst (λ (h : List Entry). IsStored (story_of g.calls m.seen.store list g.start lines h) (view e.disk) e.syncs.items) (sym history) stored
 
     -- a fault behind the run
-    pub behind_run : IsSomeKept view (story_over g p.history.items) k → IsOverStore g.calls m (view e.disk) lines e.list.items e.start e.history.items e.syncs.items
-    behind_run some = over_store (inr recorded) (stored_by (is_stored view (story_over g p.history.items) some.noted k some.keeper e.disk e.syncs.items disk syncs))
+    pub behind_run : IsSomeKept view (story_over m.seen.store g p.history.items) k → IsOverStore g.calls m (view e.disk) lines e.list.items e.start e.history.items e.syncs.items
+    behind_run some = over_store (inr recorded) (stored_by (is_stored view (story_over m.seen.store g p.history.items) some.noted k some.keeper e.disk e.syncs.items disk syncs))
 
     -- the whole run
-    module _ (all : IsAllKept view (story_over g p.history.items) k) (less : (t u : ℕ) (c : Image) → t ≤ u → (view k.disk).left_since u c → (view k.disk).left_since t c)
-        (ended : e.status ≡ p.status) (report : e.report.items ≡ p.report.items) where
-      stored : IsStored (story_of g.calls list g.start lines e.history.items) (view e.disk) e.syncs.items
-      stored = stored_by (is_stored view (story_over g p.history.items) (both_syncs (story_over g p.history.items) all.first all.second) k all.keeper e.disk e.syncs.items disk syncs)
+    module _ (all : IsAllKept view (story_over m.seen.store g p.history.items) k) (less : (t u : ℕ) (c : Image) → t ≤ u → (view k.disk).left_since u c → (view k.disk).left_since t c)
+        (later : IsLater m (view e.disk)) (ended : e.status ≡ p.status) (report : e.report.items ≡ p.report.items) where
+      stored : IsStored (story_of g.calls m.seen.store list g.start lines e.history.items) (view e.disk) e.syncs.items
+      stored = stored_by (is_stored view (story_over m.seen.store g p.history.items) (both_syncs (story_over m.seen.store g p.history.items) all.first all.second) k all.keeper e.disk e.syncs.items disk syncs)
 
-      settled : IsSettled (story_of g.calls list g.start lines e.history.items) (view e.disk) e.syncs.items
+      settled : IsSettledRun (story_of g.calls m.seen.store list g.start lines e.history.items) (view e.disk) e.syncs.items
       settled =
-          subst (λ (h : List Entry). IsSettled (story_of g.calls list g.start lines h) (view e.disk) e.syncs.items) (sym history)
-          (is_settled view (story_over g p.history.items) k all less e.disk e.syncs.items disk syncs)
+          subst (λ (h : List Entry). IsSettledRun (story_of g.calls m.seen.store list g.start lines h) (view e.disk) e.syncs.items) (sym history)
+          (is_settled view (story_over m.seen.store g p.history.items) k all less e.disk e.syncs.items disk syncs)
 
       reported : HasReported g.start lines e.history.items e.status e.report.items
       reported = record {
@@ -98,7 +102,7 @@ module _ {D : Type 0} (view : D → Moment) (m : Moment) (g : Ground) (ground : 
       has_ended =
           let over : HasEnded g.calls m (view e.disk) lines list e.start e.history.items e.syncs.items e.status e.report.items = record {
             opened = g.start;
-            opening = is_opening m g ground short e.start same bare;
+            opening = is_opening m g run short e.start same bare;
             recorded = recorded;
             reported = reported;
             stored = stored;
@@ -115,4 +119,4 @@ module _ {D : Type 0} (view : D → Moment) (m : Moment) (g : Ground) (ground : 
 
       pub whole_run : (view e.disk).faults ≡ m.faults → IsRunOver view m g.calls lines e
       whole_run healthy =
-          over_end view m g.calls lines e not_ended at_end healthy (judged_end m g ground short e.status at_end) (over_store (inr recorded) stored) has_ended
+          over_end view m g.calls lines e not_ended later at_end healthy (judged_end m g run short e.status at_end) (over_store (inr recorded) stored) has_ended

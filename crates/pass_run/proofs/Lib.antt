@@ -30,5 +30,6 @@ mod OneFrame
 mod Numbered
 mod Overs
 mod Handed
-mod Moved
+pub mod Moved
 mod Fitting
+mod Following

@@ -15,7 +15,7 @@ use Rattle.pass_plain.specs.Sessions.{Session}
 use Rattle.pass_plain.specs.Processes.{Process, has_begun, has_ended}
 use Rattle.pass_plain.specs.Calls.{Made, Step, name_of, is_within, is_fd, call_steps, is_last, is_last_act}
 use Rattle.pass_plain.specs.Legal.{IsLegal, before_call, is_over, ends_call, last_number, is_start, step_of}
-use Rattle.pass_plain.specs.Traces.{Line, LineCall, given, write_last, fork_as, wait_for, lines_of, calls_of, request_of}
+use Rattle.pass_plain.specs.Traces.{Line, LineCall, given, write_last, fork_as, wait_for, name_of_call, lines_of, calls_of, request_of}
 use Rattle.pass_plain.specs.Runs.{pnode_of_process, next_number, request_at}
 use Rattle.pass_plain.proofs.Lists.{some_is, same_numbers, both_true, is_place}
 use Rattle.pass_plain.specs.CallLaws.{IsBegun}
@@ -26,9 +26,8 @@ use Rattle.pass_plain.proofs.Calling.{legal_take, numbered}
 use Rattle.pass_plain.proofs.Counts.{read_law}
 use Rattle.pass_plain.proofs.Ending.{step_end_law}
 use Rattle.pass_plain.proofs.Playing.{no_calls}
-use Rattle.pass_run.specs.Ends.{name_of_call}
 use Rattle.pass_run.specs.Lines.{is_given, IsLineCall, IsLineBehind, AreLinesBehind}
-use Rattle.pass_run.specs.Making.{IsRunSoFar, IsCall}
+use Rattle.pass_run.specs.Making.{IsRunSoFar, IsCallUnderWay}
 use Rattle.pass_run.proofs.Positions.{equal, StandsAt, stands_at}
 use Rattle.pass_run.proofs.StepKinds.{some_step}
 
@@ -214,7 +213,7 @@ module _ (session : Session) (trace : List Line) (behind : AreLinesBehind [] tra
   is_within_limits = within_call _ the_state.last_read call is_any (last_read_short session history who (done + 1) legal)
 
   pub are_called : AreOfCall the_made (name_of the_request)
-  are_called j s at = so_far.named process who done call begun stands j s at ∙ sym named
+  are_called j s at = so_far.run.named process who done call begun stands j s at ∙ sym named
 
   pub is_begun : IsBegun who the_state the_made the_request
   is_begun = so_far.run.lines process who done call begun stands
@@ -246,7 +245,7 @@ module _ (session : Session) (trace : List Line) (behind : AreLinesBehind [] tra
   pub lives : has_ended history who ≡ false
   lives = so_far.ended process who begun ∙ exit_not_over
 
-  pub is_call : IsCall history who (done + 1) the_request the_state the_made
+  pub is_call : IsCallUnderWay history who (done + 1) the_request the_state the_made
   is_call = record {
     begun = has;
     living = lives;

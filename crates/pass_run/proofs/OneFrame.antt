@@ -1,6 +1,5 @@
 -- The records of a whole history as one part.
 use Rattle.std.proofs.Common.{◌≡◌, ◌≤◌, ◌+◌, ◌++◌, ◌∷◌, [], ℕ, List, length, take, refl, ap, sym, ◌∙◌, subst, arith, Vec, Global}
-use Rattle.std.specs.Prelude.{Result, Ok, Err, OnOk, OnErr}
 use Rattle.std.specs.List.{All}
 use Rattle.std.proofs.lemmas.List.{take_all}
 use Rattle.std.proofs.lemmas.List.Elements.{All-push}
@@ -10,10 +9,10 @@ use Rattle.pass_keep.specs.Kept.{Story, records_to, AreParts}
 use Rattle.pass_dirty.specs.Gathering.{every_file}
 use Rattle.pass_keep.specs.declared.keeper.Keeper.{Keeper}
 use Rattle.pass_keep.specs.Kept.{Noted}
-use Rattle.pass_keep.specs.Keepers.{Past, with_sync, no_file, IsKeeper}
+use Rattle.pass_keep.specs.Keepers.{Past, with_sync, no_file, IsKeeper, KeptFlushed, KeptUnflushed}
 use Rattle.pass_outside.specs.Moments.{Moment}
-use Rattle.pass_run.specs.Grounds.{IsAllKept, IsSomeKept}
-use Rattle.pass_keep.specs.Parts.{frames_length}
+use Rattle.pass_run.specs.OpenedRuns.{IsAllKept, IsSomeKept}
+use Rattle.pass_keep.specs.Parts.{frames_length, AreFrames}
 use Rattle.pass_log.specs.Records.{spellings}
 use Rattle.pass_plain.specs.Records.{records_of}
 
@@ -38,17 +37,20 @@ one_length part parts is = ap (λ (ps : List (Vec Record Global)). frames_length
 
 -- A keeper behind the frame, and behind the blocks
 
-pub on_ok : {T E A B : Type 0} (r : Result T E) → OnOk r A → (A → B) → OnOk r B
-on_ok (Ok x) a f = f a
-on_ok (Err e) a f = tt
-
-pub on_err : {T E A B : Type 0} (r : Result T E) → OnErr r A → (A → B) → OnErr r B
-on_err (Ok x) a f = tt
-on_err (Err e) a f = f a
-
 -- every entry is durable
 abbrev pub flushed : Story → ℕ → Past
 flushed s first = record { story = s; noted = record { calls = first; entries = length s.history; files = no_file } ∷ [] }
+
+module _ {D : Type 0} (view : D → Moment) (s : Story) (k new : Keeper D) (list : List Record) (frames : List (Vec ℕ Global)) (upto : ℕ)
+    (keeper : IsKeeper view (record { story = s; noted = [] }) k) (first : k.durable ≡ 0) (count : upto ≡ length s.history) (records : list ≡ records_of s.session s.history)
+    (are : AreFrames (list ∷ []) frames) where
+  pub frame_kept : KeptFlushed view frames upto k new → IsKeeper view (flushed s (view new.disk).calls) new
+  frame_kept kept =
+      subst (λ n. IsKeeper view (record { story = s; noted = record { calls = (view new.disk).calls; entries = n; files = no_file } ∷ [] }) new) count
+      (kept (record { story = s; noted = [] }) (list ∷ []) keeper (omega (arith, count)) (one_part s upto k.durable list first count records) are)
+
+  pub frame_lost : KeptUnflushed view frames upto k new → IsSomeKept view s new
+  frame_lost kept = record { noted = []; keeper = kept (record { story = s; noted = [] }) (list ∷ []) keeper (omega (arith, count)) (one_part s upto k.durable list first count records) are }
 
 pub all_kept : {D : Type 0} (view : D → Moment) (s : Story) (mid new : Keeper D) → (view mid.disk).calls ≤ (view new.disk).calls → mid.durable ≡ length s.history
     → IsKeeper view (with_sync (flushed s (view mid.disk).calls) (view new.disk).calls mid.durable every_file) new → IsAllKept view s new

@@ -13,7 +13,7 @@ use Rattle.pass_plain.specs.Sessions.{Session}
 use Rattle.pass_plain.specs.Processes.{Process, has_begun, begins}
 use Rattle.pass_plain.specs.Calls.{Made, name_of, call_steps, is_last, is_last_act}
 use Rattle.pass_plain.specs.Legal.{MayFollow, before_call, is_over, last_number, step_of, is_start}
-use Rattle.pass_plain.specs.Traces.{Line, LineCall, given, write_last, fork_as, wait_for, lines_of, calls_of}
+use Rattle.pass_plain.specs.Traces.{Line, LineCall, given, write_last, fork_as, wait_for, name_of_call, lines_of, calls_of}
 use Rattle.pass_plain.specs.Runs.{pnode_of_process, next_number, request_at, steps_at, IsRun}
 use Rattle.pass_plain.proofs.Lists.{some_is, same_numbers}
 use Rattle.pass_plain.proofs.Appends.{place_of, slice_get-append}
@@ -22,7 +22,6 @@ use Rattle.pass_plain.proofs.Calling.{numbered, of_call, last_number-append}
 use Rattle.pass_plain.proofs.Going.{begun_law}
 use Rattle.pass_plain.proofs.LastCalls.{begun_next}
 use Rattle.pass_plain.proofs.Playing.{zero_not}
-use Rattle.pass_run.specs.Ends.{name_of_call, AreNamed}
 use Rattle.pass_run.specs.Lines.{AreLinesBehind}
 use Rattle.pass_run.specs.Making.{IsRunSoFar, IsNextEntry}
 use Rattle.pass_run.proofs.Positions.{unequal, equal, lines-append}
@@ -163,7 +162,8 @@ module _ (session : Session) (trace : List Line) (behind : AreLinesBehind [] tra
           subst (λ w. AreSteps w n c) (sym same) (subst (λ n. AreSteps who n c) (sym number) (subst (λ c. AreSteps who done c) one own_steps))
       at_test old false t = other_steps p w n c old st t
 
-  pub named_after : AreNamed session trace longer
+  pub named_after : (p w n : ℕ) (c : LineCall) → pnode_of_process session trace longer p ≡ Some w → slice_get (calls_of trace p) n ≡ Some c → (j : ℕ) (s : ℕ × Entry)
+      → slice_get (call_entries longer w (n + 1)) j ≡ Some s → s.1.call ≡ name_of_call c
   named_after p w n c at st j s there = elim (goes_to p w at) [
     | inr new ↦ absurd (let z : slice_get [] j ≡ Some s = ap (λ (m : Made). slice_get m j) (sym (none_of p w (n + 1) new)) ∙ there in cc)
     | inl old ↦ at_test old (is_of_call w (n + 1) e) refl
@@ -173,10 +173,10 @@ module _ (session : Session) (trace : List Line) (behind : AreLinesBehind [] tra
       at_test old true t =
           let (same, number, one) = own_place p w n c old st t in
           elim (place_of (call_entries history w (n + 1)) (length history, e) j s (ap (λ (m : Made). slice_get m j) (sym (own_entries history e w (n + 1) t)) ∙ there)) [
-            | inl l ↦ so_far.named p w n c old st j s l.0
+            | inl l ↦ so_far.run.named p w n c old st j s l.0
             | inr r ↦ ap (λ (s : ℕ × Entry). s.1.call) (sym r.1) ∙ is.call ∙ named session trace behind history so_far process who done call begun stands next ∙ ap name_of_call one
           ]
-      at_test old false t = so_far.named p w n c old st j s (ap (λ (m : Made). slice_get m j) (sym (other_entries history e w (n + 1) t)) ∙ there)
+      at_test old false t = so_far.run.named p w n c old st j s (ap (λ (m : Made). slice_get m j) (sym (other_entries history e w (n + 1) t)) ∙ there)
 
   -- who has begun in the history is a process of the trace
   traced_after : (w : ℕ) → has_begun longer w ≡ true → (p : ℕ) × (pnode_of_process session trace longer p ≡ Some w)
@@ -245,6 +245,7 @@ module _ (session : Session) (trace : List Line) (behind : AreLinesBehind [] tra
     legal = longer_legal session trace behind history so_far process who done call begun stands next e follows is;
     traced = traced_after;
     lines = lines_after;
+    named = named_after;
     whole = whole_after;
     last = few_after;
   }

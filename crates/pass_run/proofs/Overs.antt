@@ -8,9 +8,9 @@ use Rattle.pass_entry.specs.declared.record.FlawReason.{FlawReason}
 use Rattle.pass_graph.specs.Lawful.{GraphLaw, VersionRecordLaw, InputRecordLaw}
 use Rattle.pass_graph.specs.Openings.{Continues}
 use Rattle.pass_keep.specs.declared.keeper.Keeper.{Keeper}
-use Rattle.pass_keep.specs.Kept.{Story, IsStory, Noted, synced_of, covered, bound_of, list_to, source_to, HasRecords, IsLeft}
-use Rattle.pass_keep.specs.Keepers.{IsKeeper, Past, no_file}
-use Rattle.pass_keep.proofs.Shown.{since_shown, settled_shown}
+use Rattle.pass_keep.specs.Kept.{Story, IsStory, Noted, synced_of, covered, bound_of, list_to, source_to, HasRecords, AreOlder, IsLeft, AreTimed}
+use Rattle.pass_keep.specs.Keepers.{IsKeeper, GoesOn, Past, no_file}
+use Rattle.pass_keep.proofs.Shown.{since_shown, settled_shown, timed_shown}
 use Rattle.pass_keep.proofs.Stories.{source_below}
 use Rattle.pass_log.specs.LogImage.{held_in}
 use Rattle.pass_log.specs.declared.fault.LogFault.{LogFault}
@@ -34,10 +34,10 @@ use Rattle.pass_run.specs.declared.ending.RunEnd.{RunEnd}
 use Rattle.pass_run.specs.declared.performing.Performed.{Performed}
 use Rattle.pass_run.specs.declared.status.Status.{Status}
 use Rattle.pass_run.specs.declared.status.Status.TheVariants as status
-use Rattle.pass_run.specs.declared.storing.Ground.{Ground}
+use Rattle.pass_run.specs.declared.storing.OpenedRun.{OpenedRun}
 use Rattle.pass_run.specs.Ends.{EndsAs}
-use Rattle.pass_run.specs.Grounds.{IsGround, story_over, HasPerformed, both_syncs, IsAllKept, IsRunOver}
-use Rattle.pass_run.specs.Stored.{last_end, end_fault, fault_or, session_fault, IsJudged, IsEnd, IsOfDisk, IsBare, IsOpening, IsUnopened, HasRecorded, HasFirst, IsStored, IsSettled, IsOverStore, HasEnded}
+use Rattle.pass_run.specs.OpenedRuns.{IsOpenedRun, story_over, HasPerformed, both_syncs, IsAllKept, IsRunOver}
+use Rattle.pass_run.specs.Stored.{last_end, end_fault, fault_or, session_fault, IsStoreJudged, IsEnd, IsOfDisk, IsBare, IsOpening, IsUnopened, HasRecorded, HasFirst, IsStored, IsSettledRun, IsLater, IsOverStore, HasEnded}
 use Rattle.pass_run.specs.Stores.{image_fault}
 use Rattle.pass_run.proofs.Numbered.{numbered}
 
@@ -53,37 +53,36 @@ unfaulted bytes held image logged short =
     ∙ ap (λ (o : Option (ℕ × FlawReason)). fault_or (option_map (λ flaw. store.Flaw flaw.0 flaw.1) o) (end_fault (Ok held))) logged
     ∙ ap (λ (b : Bool). if b then Some (store.BadFrame held.end) else None) (within_end held.end short)
 
-module _ (m : Moment) (g : Ground) (ground : IsGround m g) (short : g.image.end ≤ 274877906944) where
+module _ (m : Moment) (g : OpenedRun) (run : IsOpenedRun m g) (short : g.image.end ≤ 274877906944) where
   pub is_opening : (start : Start) → SameButBytes start g.start → IsBare start → IsOpening m g.image.list.items start g.start
   is_opening start same none =
-      let (bytes, read, image) = ground.read in
+      let (bytes, read, image) = run.read in
       record {
-        logged = (bytes, read, record { held = held_in g.image; image = image.holds; list_is = refl; unfaulted = unfaulted bytes (held_in g.image) image.holds ground.logged short });
-        told = ground.told;
-        bytes = ground.bytes;
+        logged = (bytes, read, record { held = held_in g.image; image = image.holds; list_is = refl; unfaulted = unfaulted bytes (held_in g.image) image.holds run.logged short });
+        told = run.told;
+        bytes = run.bytes;
         outline = same;
         bare = none;
       }
 
-  pub judged_end : (ended : Status) → (ended ≡ status.Done) ⊎ (ended ≡ status.Stuck) → LogHas m (λ bytes. IsJudged (session_fault bytes) ended)
+  pub judged_end : (ended : Status) → (ended ≡ status.Done) ⊎ (ended ≡ status.Stuck) → LogHas m (λ bytes. IsStoreJudged (session_fault bytes) ended)
   judged_end ended is =
-      let (bytes, read, image) = ground.read in
-      (bytes, read, subst (λ (o : Option OpenFault). IsJudged o ended) (sym (unfaulted bytes (held_in g.image) image.holds ground.logged short)) is)
+      let (bytes, read, image) = run.read in
+      (bytes, read, subst (λ (o : Option OpenFault). IsStoreJudged o ended) (sym (unfaulted bytes (held_in g.image) image.holds run.logged short)) is)
 
   abbrev lines : List TraceLine
   lines = g.trace.now.lines.items
 
   module _ (few : objects_of lines ≤ 8192) (low : g.start.ceiling + objects_of lines < 2 ^ 48) where
     pub continues : Continues g.image.list.items (session_of_trace g.start lines)
-    continues = ground.continues (objects_of lines) (omega arith) few low
+    continues = run.continues (objects_of lines) (omega arith) few low
 
-    pub is_story : (history : List Entry) → IsLegal (session_of_trace g.start lines) history → IsStory (story_over g history)
-    is_story history legal = record { sound = ground.sound (objects_of lines) (omega arith) low; tells = ground.files; legal = legal }
+    pub is_story : (history : List Entry) → IsLegal (session_of_trace g.start lines) history → IsStory (story_over m.seen.store g history)
+    is_story history legal = record { sound = run.sound (objects_of lines) (omega arith) low; tells = run.files; legal = legal }
 
     pub has_recorded : GraphLaw × VersionRecordLaw × InputRecordLaw → (p : Performed) → HasPerformed g.start lines p → HasRecorded g.image.list.items g.start lines p.history.items
     has_recorded (law, versions, inputs) p performed = record {
       run = performed.run;
-      named = performed.named;
       graph = law g.image.list.items (session_of_trace g.start lines) p.history.items continues.opens performed.run.legal;
       exact = record {
         frozen = versions (session_of_trace g.start lines) p.history.items performed.run.legal;
@@ -112,12 +111,13 @@ module _ {D : Type 0} (view : D → Moment) (s : Story) (noted : List Noted) (k 
   past = record { story = s; noted = noted }
 
   first_of : (x : Noted) (c : Image) → IsLeft s x.entries (bound_of x) c → HasFirst s x.entries c
-  first_of x c left = record { count = left.count; enough = left.enough; within = left.within; records = left.records }
+  first_of x c left = record { count = left.count; enough = left.enough; within = left.within; records = left.records; older = left.older }
 
   pub is_stored : (disk : D) (syncs : List Synced) → disk ≡ k.disk → syncs ≡ k.syncs.items → IsStored s (view disk) syncs
   is_stored disk syncs same are =
       let kept : IsStored s (view k.disk) syncs = record {
         begun = keeper.kept.begun;
+        timed = subst (AreTimed (view k.disk) (length s.history)) (sym are) (timed_shown view past k keeper);
         since = λ told i y at c left.
             let (x, there, is) = mapped_at synced_of noted i y (ap (λ (l : List Synced). slice_get l i) (sym (are ∙ keeper.syncs)) ∙ at) in
             subst (λ (z : Synced). HasFirst s z.entries c) is
@@ -149,33 +149,47 @@ module _ {D : Type 0} (view : D → Moment) (s : Story) (k : Keeper D) (all : Is
   shown told c left =
       settled_shown view (record { story = s; noted = both_syncs s all.first all.second }) k all.keeper less told (first ∷ []) second refl refl ordered clean c left
 
-  pub is_settled : (disk : D) (syncs : List Synced) → disk ≡ k.disk → syncs ≡ k.syncs.items → IsSettled s (view disk) syncs
+  older : IsTrue (view k.disk).tells → (c : Image) → (view k.disk).left_since all.second c → AreOlder s (length s.history) c.store
+  older told c left =
+      let whole = since_shown view (record { story = s; noted = both_syncs s all.first all.second }) k all.keeper told 1 second refl c left in
+      let count : whole.count ≡ length s.history = omega (arith, whole.enough, whole.within) in
+      subst (λ n. AreOlder s n c.store) count whole.older
+
+  pub is_settled : (disk : D) (syncs : List Synced) → disk ≡ k.disk → syncs ≡ k.syncs.items → IsSettledRun s (view disk) syncs
   is_settled disk syncs same are =
-      let settled : IsSettled s (view k.disk) syncs = record {
+      let settled : IsSettledRun s (view k.disk) syncs = record {
         front = synced_of first ∷ [];
         last = synced_of second;
         are = are ∙ all.keeper.syncs;
         all = refl;
         records = λ told c left. (shown told c left).0;
         matched = λ told c left. (shown told c left).1;
+        older = older;
       } in
-      subst (λ (d : D). IsSettled s (view d) syncs) (sym same) settled
+      subst (λ (d : D). IsSettledRun s (view d) syncs) (sym same) settled
 
 -- The ends
 
-module _ {D : Type 0} (view : D → Moment) (old : Moment) (calls : ℕ) (lines : List TraceLine) (e : RunEnd D) (no_report : (IsEnd e.status → ⊥) → e.report.items ≡ []) where
+pub goes_on_later : (old new : Moment) → GoesOn old new → IsLater old new
+goes_on_later old new goes = record { tells = goes.0; faults = goes.1; calls = goes.2 }
+
+pub later_both : (old mid new : Moment) → IsLater old mid → IsLater mid new → IsLater old new
+later_both old mid new first next = record { tells = next.tells ∙ first.tells; faults = omega (arith, first.faults, next.faults); calls = omega (arith, first.calls, next.calls) }
+
+module _ {D : Type 0} (view : D → Moment) (old : Moment) (calls : ℕ) (lines : List TraceLine) (e : RunEnd D) (no_report : (IsEnd e.status → ⊥) → e.report.items ≡ [])
+    (later : IsLater old (view e.disk)) where
   -- want of memory
-  pub over_memory : e.status ≡ status.NoMemory → IsUnopened e.list.items e.start e.history.items e.syncs.items → IsRunOver view old calls lines e
-  over_memory is nothing = record {
+  pub over_memory : e.status ≡ status.NoMemory → IsOverStore calls old (view e.disk) lines e.list.items e.start e.history.items e.syncs.items → IsRunOver view old calls lines e
+  over_memory is over = record {
     built = λ line also. absurd (let z : status.NoMemory ≡ status.NotBuilt line = sym is ∙ also in cc);
     disk_fault = λ opened now also. absurd (let z : status.NoMemory ≡ status.DiskFault opened now = sym is ∙ also in cc);
     no_fault = λ other. absurd (other is);
     judged = λ other. absurd (other is);
-    no_memory = λ _. nothing;
-    bad_store = λ fault _. nothing;
-    recorded = inl nothing;
+    bad_store = λ fault also. absurd (let z : status.NoMemory ≡ status.BadStore fault = sym is ∙ also in cc);
+    recorded = inr over;
     ended = λ end. absurd (subst IsEnd is end);
     no_report = no_report;
+    later = later;
   }
 
   -- a fault of the disk
@@ -190,15 +204,15 @@ module _ {D : Type 0} (view : D → Moment) (old : Moment) (calls : ℕ) (lines 
         (sym a ∙ entry, sym b ∙ return, ⊎_elim (λ (lt : opened < now). inl (omega (arith, lt, a, b))) (λ end. inr end) rose);
     no_fault = λ other quiet. absurd (quiet (subst IsOfDisk (sym is) tt));
     judged = λ other quiet. absurd (quiet (subst IsOfDisk (sym is) tt));
-    no_memory = λ also. absurd (let z : status.DiskFault opened now ≡ status.NoMemory = sym is ∙ also in cc);
     bad_store = λ fault also. absurd (let z : status.DiskFault opened now ≡ status.BadStore fault = sym is ∙ also in cc);
     recorded = inr over;
     ended = λ end. absurd (subst IsEnd is end);
     no_report = no_report;
+    later = later;
   }
 
   -- the whole run
-  pub over_end : (e.status ≡ status.Done) ⊎ (e.status ≡ status.Stuck) → (view e.disk).faults ≡ old.faults → LogHas old (λ bytes. IsJudged (session_fault bytes) e.status)
+  pub over_end : (e.status ≡ status.Done) ⊎ (e.status ≡ status.Stuck) → (view e.disk).faults ≡ old.faults → LogHas old (λ bytes. IsStoreJudged (session_fault bytes) e.status)
       → IsOverStore calls old (view e.disk) lines e.list.items e.start e.history.items e.syncs.items
       → HasEnded calls old (view e.disk) lines e.list.items e.start e.history.items e.syncs.items e.status e.report.items → IsRunOver view old calls lines e
   over_end at healthy judged over ended =
@@ -208,9 +222,9 @@ module _ {D : Type 0} (view : D → Moment) (old : Moment) (calls : ℕ) (lines 
         disk_fault = λ opened now also. absurd (subst IsEnd also is_end);
         no_fault = λ _ _. healthy;
         judged = λ _ _. judged;
-        no_memory = λ also. absurd (subst IsEnd also is_end);
         bad_store = λ fault also. absurd (subst IsEnd also is_end);
         recorded = inr over;
         ended = λ _. ended;
         no_report = no_report;
+        later = later;
       }

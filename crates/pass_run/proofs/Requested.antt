@@ -18,7 +18,7 @@ use Rattle.pass_plain.proofs.Lists.{some_is, is_place}
 use Rattle.pass_report.specs.TraceLines.{call_of, plain_line, plain_trace}
 use Rattle.pass_trace.specs.declared.trace.TraceLine.{TraceLine}
 use Rattle.pass_run.specs.Lines.{AreLinesBehind, IsLineAt}
-use Rattle.pass_run.specs.Making.{IsRunSoFar, IsCall}
+use Rattle.pass_run.specs.Making.{IsRunSoFar, IsCallUnderWay}
 use Rattle.pass_run.proofs.NextCalls.{is_call}
 use Rattle.pass_run.specs.Tables.{IsLivingAs, AreTabled, IsRequestOf}
 use Rattle.pass_run.specs.declared.run.Living.{Living}
@@ -74,11 +74,11 @@ requested_call run process row lives tabled call stands last request read (Some 
 pub call_is : (session : Session) (trace : List Line) (behind : AreLinesBehind [] trace) (history : List Entry) (so_far : IsRunSoFar session trace history) (process : ℕ) (row : Living)
     → IsLivingAs session trace history process row → (call : LineCall) → slice_get (calls_of trace process) row.done ≡ Some call → (request : Request) (before : Process) (made : Made)
     → request ≡ request_at session trace history row.pnode (row.done + 1) call → before ≡ before_call history row.pnode (row.done + 1) → made ≡ call_entries history row.pnode (row.done + 1)
-    → IsCall history row.pnode (row.done + 1) request before made
+    → IsCallUnderWay history row.pnode (row.done + 1) request before made
 call_is session trace behind history so_far process row lives call stands request before made requested state entries =
     let is = is_call session trace behind history so_far process row.pnode row.done call lives.begun stands lives.next in
     let who = row.pnode in
     let number : ℕ = row.done + 1 in
-    subst (λ (m : Made). IsCall history who number request before m) (sym entries)
-    (subst (λ (p : Process). IsCall history who number request p (call_entries history who number)) (sym state)
-    (subst (λ (r : Request). IsCall history who number r (before_call history who number) (call_entries history who number)) (sym requested) is))
+    subst (λ (m : Made). IsCallUnderWay history who number request before m) (sym entries)
+    (subst (λ (p : Process). IsCallUnderWay history who number request p (call_entries history who number)) (sym state)
+    (subst (λ (r : Request). IsCallUnderWay history who number r (before_call history who number) (call_entries history who number)) (sym requested) is))

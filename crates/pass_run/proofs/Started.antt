@@ -130,10 +130,10 @@ has_started session lines objects =
         lines = λ process who number call at stands.
             subst (λ (m : Made). map step_of m ≡ take (length m) (call_steps who (before_call (first_entry session ∷ []) who (number + 1)) m (request_at session trace (first_entry session ∷ []) who (number + 1) call)))
             (sym (no_calls_yet session who number)) refl;
+        named = λ process who number call at stands j s there. absurd (let z : slice_get [] j ≡ Some s = ap (λ (m : Made). slice_get m j) (sym (no_calls_yet session who number)) ∙ there in cc);
         whole = λ who number begun low below. let z = no_number_yet session who in absurd (omega (arith, z, below));
         last = λ process who at. let z = no_number_yet session who in omega (arith, z);
       };
-      named = λ process who number call at stands j s there. absurd (let z : slice_get [] j ≡ Some s = ap (λ (m : Made). slice_get m j) (sym (no_calls_yet session who number)) ∙ there in cc);
       some = omega arith;
       begun = λ process who at. ap (λ w. has_begun (first_entry session ∷ []) w) (sym (only_first session trace process who at).1) ∙ begun_now;
       ended = λ process who at. alive who

@@ -14,7 +14,7 @@ use Rattle.pass_plain.specs.Traces.{Line, fork_as, calls_of}
 use Rattle.pass_plain.specs.Runs.{pnode_of_process, next_number, request_at}
 use Rattle.pass_plain.proofs.Lists.{some_is, same_numbers}
 use Rattle.pass_run.specs.Lines.{AreLinesBehind}
-use Rattle.pass_run.specs.Making.{IsRunSoFar, IsNextEntry, IsCall, GoesOn, TakesStep}
+use Rattle.pass_run.specs.Making.{IsRunSoFar, IsNextEntry, IsCallUnderWay, GoesOn, TakesStep}
 use Rattle.pass_run.specs.Tables.{IsLivingAs, AreTabled, IsCallOf}
 use Rattle.pass_run.specs.declared.calling.Call.{Call}
 use Rattle.pass_run.specs.declared.run.Living.{Living}
@@ -94,13 +94,13 @@ module _ (session : Session) (trace : List Line) (behind : AreLinesBehind [] tra
     request = of.request ∙ sym (ap (λ (h : List Entry). request_at session trace h row.pnode (row.done + 1) of.line) takes.history
         ∙ request_stays session trace behind history so_far process row.pnode row.done of.line lives.begun of.stands lives.next takes.entry takes.follows is);
     is =
-        subst (λ (h : List Entry). IsCall h c.who c.number c.request c.before grown) (sym takes.history)
-        (subst (λ (m : Made). IsCall longer c.who c.number c.request c.before m) (sym takes.made_now)
-        (subst (λ (m : Made). IsCall longer c.who c.number c.request c.before (m ++ (length history, takes.entry) ∷ [])) made_is
-        (subst (λ (p : Process). IsCall longer c.who c.number c.request p (call_entries history row.pnode (row.done + 1) ++ (length history, takes.entry) ∷ [])) state_is
-        (subst (λ (r : Request). IsCall longer c.who c.number r (before_call history row.pnode (row.done + 1)) (call_entries history row.pnode (row.done + 1) ++ (length history, takes.entry) ∷ [])) (sym of.request)
-        (subst (λ n. IsCall longer c.who n (request_at session trace history row.pnode (row.done + 1) of.line) (before_call history row.pnode (row.done + 1)) (call_entries history row.pnode (row.done + 1) ++ (length history, takes.entry) ∷ [])) (sym of.number)
-        (subst (λ w. IsCall longer w (row.done + 1) (request_at session trace history row.pnode (row.done + 1) of.line) (before_call history row.pnode (row.done + 1)) (call_entries history row.pnode (row.done + 1) ++ (length history, takes.entry) ∷ [])) (sym of.who)
+        subst (λ (h : List Entry). IsCallUnderWay h c.who c.number c.request c.before grown) (sym takes.history)
+        (subst (λ (m : Made). IsCallUnderWay longer c.who c.number c.request c.before m) (sym takes.made_now)
+        (subst (λ (m : Made). IsCallUnderWay longer c.who c.number c.request c.before (m ++ (length history, takes.entry) ∷ [])) made_is
+        (subst (λ (p : Process). IsCallUnderWay longer c.who c.number c.request p (call_entries history row.pnode (row.done + 1) ++ (length history, takes.entry) ∷ [])) state_is
+        (subst (λ (r : Request). IsCallUnderWay longer c.who c.number r (before_call history row.pnode (row.done + 1)) (call_entries history row.pnode (row.done + 1) ++ (length history, takes.entry) ∷ [])) (sym of.request)
+        (subst (λ n. IsCallUnderWay longer c.who n (request_at session trace history row.pnode (row.done + 1) of.line) (before_call history row.pnode (row.done + 1)) (call_entries history row.pnode (row.done + 1) ++ (length history, takes.entry) ∷ [])) (sym of.number)
+        (subst (λ w. IsCallUnderWay longer w (row.done + 1) (request_at session trace history row.pnode (row.done + 1) of.line) (before_call history row.pnode (row.done + 1)) (call_entries history row.pnode (row.done + 1) ++ (length history, takes.entry) ∷ [])) (sym of.who)
         (call_after session trace behind history so_far process row.pnode row.done of.line lives.begun of.stands lives.next takes.entry takes.follows is (ends ∙ on))))))));
   }
 

@@ -12,7 +12,7 @@ use Rattle.pass_plain.specs.Legal.{MayFollow, IsNextStep, is_over, may_be_left, 
 use Rattle.pass_plain.specs.Runs.{next_number}
 use Rattle.pass_plain.proofs.Lists.{both_true, some_is, same_numbers}
 use Rattle.pass_plain.proofs.Going.{next_step_law}
-use Rattle.pass_run.specs.Making.{IsCall, IsNextEntry}
+use Rattle.pass_run.specs.Making.{IsCallUnderWay, IsNextEntry}
 use Rattle.pass_run.proofs.Positions.{unequal, equal}
 
 over_or : (a left : Bool) → a || true || left ≡ true
@@ -49,7 +49,7 @@ goes history who number left next = goes_if history who number left (last_number
 abbrev pub entry_of : ℕ → ℕ → Request → Step → Reply → Entry
 entry_of who number request step reply = record { who = who; number = number; call = name_of request; what = step.0; act = step.1; reply = reply }
 
-module _ (session : Session) (history : List Entry) (who number : ℕ) (request : Request) (before : Process) (made : Made) (is : IsCall history who number request before made) where
+module _ (session : Session) (history : List Entry) (who number : ℕ) (request : Request) (before : Process) (made : Made) (is : IsCallUnderWay history who number request before made) where
   acts : (e : Entry) → e.who ≡ who → e.number ≡ number → e.call ≡ name_of request → may_act history e ≡ true
   acts e by its named =
       ap (λ b. cond b (is_empty history && e.who == 0 && e.number == 0) (has_begun history e.who && not (has_ended history e.who) && is_next_number history e)) (ap (λ c. is_start c) named ∙ is.ordinary)

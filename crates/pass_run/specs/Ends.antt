@@ -1,14 +1,10 @@
 -- How the run of a trace ends. This project's own rule.
-use Rattle.std.specs.Prelude.{ℕ, ◌+◌, ◌≡◌, Bool, true, false, not, List, [], Option, Some, find, option_map, slice_get}
+use Rattle.std.specs.Prelude.{ℕ, ◌≡◌, ◌<◌, Bool, true, false, not, List, [], Option, Some, find, length, option_map}
 use Rattle.pass_entry.specs.declared.entry.Entry.{Entry}
-use Rattle.pass_entry.specs.declared.entry.CallName.{CallName}
-use Rattle.pass_entry.specs.declared.entry.CallName.TheVariants as call
 use Rattle.pass_plain.specs.declared.start.Start.{Start}
-use Rattle.pass_plain.specs.Histories.{call_entries}
 use Rattle.pass_plain.specs.Sessions.{Session}
-use Rattle.pass_plain.specs.Calls.{name_of}
-use Rattle.pass_plain.specs.Traces.{Line, LineCall, given, write_last, fork_as, wait_for, calls_of}
-use Rattle.pass_plain.specs.Runs.{IsOfTrace, CanMove, is_open, pnode_of_process}
+use Rattle.pass_plain.specs.Traces.{Line}
+use Rattle.pass_plain.specs.Runs.{IsOfTrace, CanMove, is_open}
 use Rattle.pass_trace.specs.declared.trace.Command.{Command}
 use Rattle.pass_trace.specs.declared.trace.Command.TheVariants as command
 use Rattle.pass_trace.specs.declared.trace.TraceLine.{TraceLine}
@@ -35,19 +31,6 @@ is_built _ = true
 abbrev pub unbuilt_line : List TraceLine → Option ℕ
 unbuilt_line lines = option_map (λ l. l.number) (find (λ l. not (is_built l.command)) lines)
 
--- the name of a line's call
-abbrev pub name_of_call : LineCall → CallName
-name_of_call (given request) = name_of request
-name_of_call (write_last fd) = call.Write
-name_of_call (fork_as child) = call.Fork
-name_of_call (wait_for child) = call.WaitChild
-
--- each entry of a process's call carries the name of that call
-abbrev pub AreNamed : Session → List Line → List Entry → Type 0
-AreNamed session trace history = (process who number : ℕ) (call : LineCall) → pnode_of_process session trace history process ≡ Some who
-    → slice_get (calls_of trace process) number ≡ Some call
-    → (j : ℕ) (s : ℕ × Entry) → slice_get (call_entries history who (number + 1)) j ≡ Some s → s.1.call ≡ name_of_call call
-
 -- no process of the trace is open
 abbrev pub NoneOpen : Session → List Line → List Entry → Type 0
 NoneOpen session trace history = (process : ℕ) → IsOfTrace trace process → is_open session trace history process ≡ false
@@ -56,8 +39,9 @@ NoneOpen session trace history = (process : ℕ) → IsOfTrace trace process →
 abbrev pub NoneCanMove : Session → List Line → List Entry → Type 0
 NoneCanMove session trace history = (process : ℕ) → CanMove session trace history process → ⊥
 
--- some process of the trace is open, and none can move
+-- the session has begun, some process of the trace is open, and none can move
 pub record IsStuck (session : Session) (trace : List Line) (history : List Entry) : Type 0 where
+  pub begun : 0 < length history
   pub process : ℕ
   pub of_trace : IsOfTrace trace process
   pub waits : is_open session trace history process ≡ true

@@ -8,4 +8,5 @@ pub mod Tables
 pub mod Reading
 pub mod Writing
 pub mod Stored
-pub mod Grounds
+pub mod OpenedRuns
+pub mod Successive

@@ -20,7 +20,6 @@ use Rattle.pass_plain.specs.NextSteps.{AreOfCall}
 use Rattle.pass_plain.specs.Traces.{Line, LineCall, given, fork_as, lines_of, calls_of}
 use Rattle.pass_plain.specs.Runs.{IsRun, pnode_of_process, next_number}
 use Rattle.pass_report.specs.Reports.{trace_processes}
-use Rattle.pass_run.specs.Ends.{AreNamed}
 
 -- the sum of what each line counts, which is told its process, the number of its call and its call
 abbrev pub sum_lines : (ℕ → ℕ → LineCall → ℕ) → List Line → List Line → ℕ
@@ -60,7 +59,6 @@ steps_left session trace history =
 -- and there is room for what the lines may still make
 pub record IsRunSoFar (session : Session) (trace : List Line) (history : List Entry) : Type 0 where
   pub run : IsRun session trace history
-  pub named : AreNamed session trace history
   pub some : 0 < length history
   pub begun : (process who : ℕ) → pnode_of_process session trace history process ≡ Some who → has_begun history who ≡ true
   pub ended : (process who : ℕ) → pnode_of_process session trace history process ≡ Some who
@@ -81,7 +79,7 @@ pub record GoesOn (session : Session) (trace : List Line) (old new : List Entry)
 
 -- A process is in the call of this number, or goes on to it: `request` is the call, `before` the state of the process
 -- before it, and `made` its entries so far; a step of it is left
-pub record IsCall (history : List Entry) (who number : ℕ) (request : Request) (before : Process) (made : Made) : Type 0 where
+pub record IsCallUnderWay (history : List Entry) (who number : ℕ) (request : Request) (before : Process) (made : Made) : Type 0 where
   pub begun : has_begun history who ≡ true
   pub living : has_ended history who ≡ false
   pub next : next_number history who ≡ number

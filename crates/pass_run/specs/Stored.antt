@@ -8,11 +8,11 @@ use Rattle.pass_entry.specs.declared.record.Record.TheVariants as log
 use Rattle.pass_graph.specs.Lawful.{IsFaithful}
 use Rattle.pass_graph.specs.Openings.{session_list}
 use Rattle.pass_graph.specs.Places.{node_at, source_at, is_fresh_at, is_freeze_at}
-use Rattle.pass_keep.specs.Kept.{Story, list_to, source_to, HasRecords, IsBegun}
+use Rattle.pass_keep.specs.Kept.{Story, list_to, source_to, HasRecords, AreOlder, IsBegun, AreTimed}
 use Rattle.pass_log.specs.declared.fault.LogFault.{LogFault}
 use Rattle.pass_log.specs.Records.{Held, image_of}
 use Rattle.pass_outside.specs.Areas.{Image}
-use Rattle.pass_outside.specs.Moments.{Moment}
+use Rattle.pass_outside.specs.Moments.{Moment, Adds}
 use Rattle.pass_plain.specs.declared.start.Start.{Start}
 use Rattle.pass_plain.specs.declared.start.StartFile.{StartFile}
 use Rattle.pass_plain.specs.Histories.{made_object}
@@ -29,7 +29,7 @@ use Rattle.pass_report.specs.TraceLines.{objects_of, plain_trace, session_of_tra
 use Rattle.pass_trace.specs.declared.trace.TraceLine.{TraceLine}
 use Rattle.pass_run.specs.declared.status.Status.{Status}
 use Rattle.pass_run.specs.declared.status.Status.TheVariants as status
-use Rattle.pass_run.specs.Ends.{AreNamed, EndsAs, IsEmptyStart}
+use Rattle.pass_run.specs.Ends.{EndsAs, IsEmptyStart}
 use Rattle.pass_run.specs.Stores.{store_fault}
 
 -- How the store is judged
@@ -51,9 +51,9 @@ abbrev pub session_fault : List ℕ → Option OpenFault
 session_fault bytes = fault_or (store_fault bytes) (end_fault (image_of bytes))
 
 -- a store with a fault is refused with it, and any other is run
-abbrev pub IsJudged : Option OpenFault → Status → Type 0
-IsJudged (Some fault) ended = ended ≡ status.BadStore fault
-IsJudged None ended = (ended ≡ status.Done) ⊎ (ended ≡ status.Stuck)
+abbrev pub IsStoreJudged : Option OpenFault → Status → Type 0
+IsStoreJudged (Some fault) ended = ended ≡ status.BadStore fault
+IsStoreJudged None ended = (ended ≡ status.Done) ⊎ (ended ≡ status.Stuck)
 
 -- the status of a run that came to its end, with the whole report
 abbrev pub IsEnd : Status → Type 0
@@ -94,6 +94,24 @@ pub record IsUnopened (list : List Record) (start : Start) (history : List Entry
   pub no_history : history ≡ []
   pub no_syncs : syncs ≡ []
 
+-- a later moment of a disk: what it tells stays, and its counts never fall
+pub record IsLater (old new : Moment) : Type 0 where
+  pub tells : new.tells ≡ old.tells
+  pub faults : old.faults ≤ new.faults
+  pub calls : old.calls ≤ new.calls
+
+-- nothing was written to a disk: a crash leaves what it might have left before
+pub record IsLeftAlone (old new : Moment) : Type 0 where
+  pub crash : (c : Image) → new.may_leave c → old.may_leave c
+  pub adds : Adds old new old.may_leave
+
+-- The opening was refused: nothing is handed out, and nothing was written. Unless a device call failed the disk reads as before.
+pub record IsRefusedOpening (old new : Moment) (ended : Status) (list : List Record) (start : Start) (history : List Entry) (syncs : List Synced) : Type 0 where
+  pub unended : IsEnd ended → ⊥
+  pub nothing : IsUnopened list start history syncs
+  pub alone : IsLeftAlone old new
+  pub reads : (IsOfDisk ended → ⊥) → new.seen ≡ old.seen
+
 -- What was recorded
 
 -- its records have a new version exactly where an entry freezes its object, and an edge from a target to a source exactly
@@ -106,7 +124,6 @@ pub record AreExact (session : Session) (history : List Entry) : Type 0 where
 -- a run of the trace from that start, whose graph joins what its flows and the records before it join
 pub record HasRecorded (list : List Record) (opened : Start) (lines : List TraceLine) (history : List Entry) : Type 0 where
   pub run : IsRun (session_of_trace opened lines) (plain_trace lines) history
-  pub named : AreNamed (session_of_trace opened lines) (plain_trace lines) history
   pub graph : IsFaithful (session_list list (session_of_trace opened lines) history) list (session_of_trace opened lines) history
   pub exact : AreExact (session_of_trace opened lines) history
 
@@ -117,32 +134,36 @@ pub record HasReported (opened : Start) (lines : List TraceLine) (history : List
 
 -- What crashes leave
 
--- the session of a run: its records are kept since the two syncs with which the store opened, behind so many device calls
-abbrev pub story_of : ℕ → List Record → Start → List TraceLine → List Entry → Story
-story_of calls list opened lines history = record {
+-- The session of a run: its records are kept since the two syncs with which the store opened, behind so many device calls,
+-- and `area` is what the store area read then.
+abbrev pub story_of : ℕ → List ℕ → List Record → Start → List TraceLine → List Entry → Story
+story_of calls area list opened lines history = record {
   before = list;
   ceiling = opened.ceiling + objects_of lines;
   session = session_of_trace opened lines;
   history = history;
   start = calls + 2;
+  store = area;
 }
 
--- a crash left the records of the session's first entries, at least so many
+-- a crash left the records of the session's first entries, at least so many, and the data from before of what none of them wrote
 pub record HasFirst (s : Story) (least : ℕ) (c : Image) : Type 0 where
   pub count : ℕ
   pub enough : least ≤ count
   pub within : count ≤ length s.history
   pub records : HasRecords (list_to s count) c.log
+  pub older : AreOlder s count c.store
 
--- since the opening a crash leaves the records before the session, or the session's with those of its first entries; and since
--- each sync at least as many as were durable then
+-- Since the opening a crash leaves what was there before the session, or the records of its first entries; and since each sync
+-- at least as many as were durable then. The syncs are of their moment.
 pub record IsStored (s : Story) (m : Moment) (syncs : List Synced) : Type 0 where
   pub begun : IsBegun s m
+  pub timed : AreTimed m (length s.history) syncs
   pub since : IsTrue m.tells → (i : ℕ) (x : Synced) → slice_get syncs i ≡ Some x → (c : Image) → m.left_since x.calls c → HasFirst s x.entries c
 
--- the last sync has all entries, and since then a crash leaves all their records, and matches each range whose row comes from
--- one of them
-pub record IsSettled (s : Story) (m : Moment) (syncs : List Synced) : Type 0 where
+-- The last sync has all entries. Since then a crash leaves all their records, matches each range whose row comes from one of
+-- them, and leaves the data from before of every other.
+pub record IsSettledRun (s : Story) (m : Moment) (syncs : List Synced) : Type 0 where
   pub front : List Synced
   pub last : Synced
   pub are : syncs ≡ front ++ last ∷ []
@@ -150,6 +171,7 @@ pub record IsSettled (s : Story) (m : Moment) (syncs : List Synced) : Type 0 whe
   pub records : IsTrue m.tells → (c : Image) → m.left_since last.calls c → HasRecords (list_to s (length s.history)) c.log
   pub matched : IsTrue m.tells → (c : Image) → m.left_since last.calls c → (pnode block at : ℕ)
       → source_to s (length s.history) pnode block ≡ Some at → IsUnmatched (list_to s (length s.history)) c.store pnode block → ⊥
+  pub older : IsTrue m.tells → (c : Image) → m.left_since last.calls c → AreOlder s (length s.history) c.store
 
 -- each object that the history makes has a number above the start's ceiling and up to the session's, above which the next
 -- session's numbers begin
@@ -164,7 +186,7 @@ pub record IsOverStore (calls : ℕ) (old new : Moment) (lines : List TraceLine)
   pub opened : Start
   pub opening : IsOpening old list start opened
   pub recorded : (history ≡ []) ⊎ HasRecorded list opened lines history
-  pub stored : IsStored (story_of calls list opened lines history) new syncs
+  pub stored : IsStored (story_of calls old.seen.store list opened lines history) new syncs
 
 -- such a run that came to its end
 pub record HasEnded (calls : ℕ) (old new : Moment) (lines : List TraceLine) (list : List Record) (start : Start) (history : List Entry) (syncs : List Synced) (ended : Status) (text : List ℕ) : Type 0 where
@@ -172,6 +194,6 @@ pub record HasEnded (calls : ℕ) (old new : Moment) (lines : List TraceLine) (l
   pub opening : IsOpening old list start opened
   pub recorded : HasRecorded list opened lines history
   pub reported : HasReported opened lines history ended text
-  pub stored : IsStored (story_of calls list opened lines history) new syncs
-  pub settled : IsSettled (story_of calls list opened lines history) new syncs
-  pub numbered : AreNumbered (story_of calls list opened lines history)
+  pub stored : IsStored (story_of calls old.seen.store list opened lines history) new syncs
+  pub settled : IsSettledRun (story_of calls old.seen.store list opened lines history) new syncs
+  pub numbered : AreNumbered (story_of calls old.seen.store list opened lines history)

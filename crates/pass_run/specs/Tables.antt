@@ -17,7 +17,7 @@ use Rattle.pass_trace.specs.declared.trace.Command.{Command}
 use Rattle.pass_trace.specs.declared.trace.Command.TheVariants as command
 use Rattle.pass_trace.specs.declared.trace.TraceLine.{TraceLine}
 use Rattle.pass_run.specs.Lines.{AreLinesBehind, IsNextLine, IsLineAt}
-use Rattle.pass_run.specs.Making.{IsRunSoFar, GoesOn, IsCall}
+use Rattle.pass_run.specs.Making.{IsRunSoFar, GoesOn, IsCallUnderWay}
 use Rattle.pass_run.specs.declared.calling.Call.{Call}
 use Rattle.pass_run.specs.declared.places.Places.{Places}
 use Rattle.pass_run.specs.declared.run.Living.{Living}
@@ -67,7 +67,7 @@ pub record IsCallOf (session : Session) (trace : List Line) (history : List Entr
   pub who : call.who ≡ row.pnode
   pub number : call.number ≡ row.done + 1
   pub request : call.request ≡ request_at session trace history row.pnode (row.done + 1) line
-  pub is : IsCall history call.who call.number call.request call.before made
+  pub is : IsCallUnderWay history call.who call.number call.request call.before made
 
 -- the request of the line at a place, or exit where there is none; `last` is what the caller read last
 abbrev pub IsRequestOf : Run → List ℕ → Option ℕ → Request → Type 0

@@ -2,7 +2,7 @@
 use Rattle.std.specs.Prelude.{ℕ, ◌≡◌, List, ◌++◌}
 
 -- a sink that had taken `old` took a beginning of the text
-pub record IsPart (text old new : List ℕ) : Type 0 where
+pub record IsPartOfText (text old new : List ℕ) : Type 0 where
   pub wrote : List ℕ
   pub rest : List ℕ
   pub parts : text ≡ wrote ++ rest

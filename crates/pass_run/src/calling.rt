@@ -3,7 +3,7 @@ ghost use Rattle.std.specs.Prelude.{◌≡◌, ◌++◌, ◌∷◌, ◌<◌, [],
 ghost use Rattle.pass_entry.specs.declared.entry.Reply.{Reply as AnyReply};
 ghost use Rattle.pass_plain.specs.Calls.{call_steps as steps_of_call, is_last as is_last_of};
 ghost use Rattle.pass_plain.specs.Legal.{MayFollow};
-ghost use Rattle.pass_run.specs.Making.{IsCall, IsNextEntry};
+ghost use Rattle.pass_run.specs.Making.{IsCallUnderWay, IsNextEntry};
 
 use pass_entry::{Entry, Pnode, Reply};
 use pass_plain::steps::{Step, call_steps, is_last};
@@ -40,7 +40,7 @@ impl Call {
         plain: &mut Plain,
         made: &mut Vec<(u64, Entry)>,
     ) -> Result<Went, AllocError>
-        requires { IsCall plain.old.history self.now.who self.now.number self.now.request self.now.before made.old.items }
+        requires { IsCallUnderWay plain.old.history self.now.who self.now.number self.now.request self.now.before made.old.items }
         ensures session { plain.new.session ≡ plain.old.session }
         ensures goes { IfOk result (λ went. GoesBy plain.old.session plain.old.history plain.new.history self.now made.old.items made.new.items went) }
     {

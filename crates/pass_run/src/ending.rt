@@ -36,7 +36,7 @@ pub fn empty_start(alloc: Global) -> Start
 }
 
 /// The end of a run for which nothing was opened.
-pub(crate) fn unopened<D>(alloc: Global, status: Status, disk: D) -> RunEnd<D>
+pub fn unopened<D>(alloc: Global, status: Status, disk: D) -> RunEnd<D>
     ensures status { result.status ≡ status }
     ensures history { result.history.items ≡ [] }
     ensures syncs { result.syncs.items ≡ [] }

@@ -1,10 +1,9 @@
-//! Runs the trace of a text over the plain history, and tells how the run ended.
+//! Runs a trace over the store of a disk: its processes take their turns, what they did is kept, and the end is told.
 #![tactic(auto)]
 
 mod calling;
-#[cfg(test)]
-mod disk_tests;
 mod ending;
+pub mod laws;
 mod performing;
 mod places;
 mod reading;
@@ -12,11 +11,9 @@ mod requests;
 mod run;
 mod status;
 mod storing;
-#[cfg(test)]
-mod tests;
 mod writing;
 
-pub use ending::{RunEnd, empty_start};
+pub use ending::{RunEnd, empty_start, unopened};
 pub use reading::{ReadEnd, read_source};
 pub use status::{Status, opening_status};
 pub use storing::run_trace;

@@ -22,7 +22,7 @@ pub(crate) struct Performed {
 }
 
 impl Performed {
-    ghost use Rattle.pass_run.specs.Grounds.{HasPerformed};
+    ghost use Rattle.pass_run.specs.OpenedRuns.{HasPerformed};
 
     /// Runs a trace from a start, and makes its report and its records.
     pub(crate) fn run(alloc: Global, trace: &Trace, start: &Start) -> Result<Performed, AllocError>

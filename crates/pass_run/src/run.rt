@@ -10,7 +10,7 @@ ghost use Rattle.pass_plain.specs.Legal.{IsLegal, before_call};
 ghost use Rattle.pass_plain.specs.Runs.{IsRun, CanMove, next_number};
 ghost use Rattle.pass_report.specs.TraceLines.{plain_trace, session_of_trace};
 ghost use Rattle.pass_trace.specs.declared.trace.TraceLine.{TraceLine as TracedLine};
-ghost use Rattle.pass_run.specs.Ends.{IsTrace, AreNamed, NoneCanMove, EndsAs};
+ghost use Rattle.pass_run.specs.Ends.{IsTrace, NoneCanMove, EndsAs};
 ghost use Rattle.pass_run.specs.Making.{first_entry};
 
 use crate::calling::{Call, Went};
@@ -61,7 +61,6 @@ pub(crate) fn run_calls(alloc: Global, trace: &Trace, start: &Start) -> Result<R
     requires sound { IsSound (session_of_trace start.now trace.now.lines.items) }
     requires trace { IsTrace trace.now.lines.items }
     ensures run { IfOk result (λ ran. IsRun (session_of_trace start.now trace.now.lines.items) (plain_trace trace.now.lines.items) ran.history.items) }
-    ensures named { IfOk result (λ ran. AreNamed (session_of_trace start.now trace.now.lines.items) (plain_trace trace.now.lines.items) ran.history.items) }
     // No process can move: Done where none is open, else Stuck.
     ensures ends { IfOk result (λ ran. EndsAs (session_of_trace start.now trace.now.lines.items) (plain_trace trace.now.lines.items) ran.history.items ran.status) }
 {

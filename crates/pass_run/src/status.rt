@@ -8,7 +8,7 @@ use pass_recover::OpenFault;
 use pass_trace::TraceReason;
 use std::alloc::{AllocError, Global};
 
-/// How a run of the program ended. Each has a text, which was written to the sink.
+/// How a run of the program ended.
 #[derive(Clone, Copy, Debug, PartialEq, Eq)]
 pub enum Status {
     /// The trace was run to its end, and the whole report was written.

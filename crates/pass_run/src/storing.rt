@@ -4,7 +4,7 @@ ghost use Rattle.std.specs.List.{All};
 ghost use Rattle.pass_entry.specs.Ranges.{IsInRange};
 ghost use Rattle.pass_graph.specs.Openings.{Continues};
 ghost use Rattle.pass_keep.specs.Kept.{Story};
-ghost use Rattle.pass_keep.specs.Keepers.{disk_of, log_of, durable_of, IsKeeper};
+ghost use Rattle.pass_keep.specs.Keepers.{disk_of, log_of, durable_of, IsKeeper, GoesOn, Failed};
 ghost use Rattle.pass_log.specs.Log.{log_end, log_opened};
 ghost use Rattle.pass_log.specs.Records.{spellings};
 ghost use Rattle.pass_outside.specs.Moments.{IsAtEnd};
@@ -14,8 +14,8 @@ ghost use Rattle.pass_report.specs.TraceLines.{objects_of as objects_of_lines};
 ghost use Rattle.pass_recover.specs.declared.fault.OpenFault.{OpenFault as AnyFault};
 ghost use Rattle.pass_recover.specs.Faults.{LogHas};
 ghost use Rattle.pass_run.specs.Ends.{IsTrace, unbuilt_line};
-ghost use Rattle.pass_run.specs.Grounds.{IsGround, story_over, IsAllKept, IsSomeKept, IsRunOver};
-ghost use Rattle.pass_run.specs.Stored.{session_fault, IsJudged, IsBare, IsEnd, IsOfDisk, IsUnopened, IsOverStore, HasEnded};
+ghost use Rattle.pass_run.specs.OpenedRuns.{IsOpenedRun, story_over, IsAllKept, IsSomeKept, IsRunOver};
+ghost use Rattle.pass_run.specs.Stored.{session_fault, IsStoreJudged, IsBare, IsEnd, IsOfDisk, IsUnopened, IsLater, IsRefusedOpening, IsOverStore, HasEnded};
 
 use crate::ending::{RunEnd, bare, first_unbuilt, unopened};
 use crate::performing::Performed;
@@ -24,7 +24,7 @@ use pass_bounds::laws::{logs, runs, traces};
 use pass_dirty::dirty_blocks;
 use pass_entry::{Entry, Pnode, Synced};
 use pass_graph::laws::{edges, graph};
-use pass_keep::{KeepFault, Keeper};
+use pass_keep::{KeepFault, Keeper, stage_all};
 use pass_log::LogImage;
 use pass_outside::{Disk, Gate};
 use pass_plain::Start;
@@ -40,7 +40,7 @@ const LAST_END: u64 = 1 << 38;
 /// What a run goes over: the log image and the start of the store, the trace, and the disk's count of device calls as the
 /// run began.
 #[derive(Drop)]
-struct Ground<'a> {
+struct OpenedRun<'a> {
     image: LogImage,
     start: Start,
     trace: &'a Trace,
@@ -50,7 +50,8 @@ struct Ground<'a> {
 /// Runs a trace over the store of a disk, and keeps what it records there. A trace with a call that the program doesn't make
 /// isn't begun. Else the store is opened, its ceiling raised by what the trace may make, and the trace run until no process
 /// can move; then the history's records are appended to the log as one frame, each changed block is written, by file number
-/// and block, and the store area is synced once. After the frame and after that sync a sync is noted. The turns are taken on
+/// and block, and the store area is synced once. After the frame and after that sync a sync is noted; the memory for both is
+/// taken before the frame. The turns are taken on
 /// the caller's thread, in ascending order of the processes.
 pub fn run_trace<D: Disk + Send, G: Gate + Sync>(
     alloc: Global,
@@ -63,22 +64,25 @@ pub fn run_trace<D: Disk + Send, G: Gate + Sync>(
     requires workers { (1 ≤ workers) × (workers ≤ 64) }
 
     // The statuses, in the order in which they are judged. Want of memory alone is free.
-    ensures no_memory { result.status ≡ Status.NoMemory → IsUnopened result.list.items result.start result.history.items result.syncs.items }
     ensures not_built { result.status ≢ Status.NoMemory → (line : ℕ) → result.status ≡ Status.NotBuilt line ↔ (unbuilt_line trace.now.lines.items ≡ Some line) }
     ensures disk_fault { (opened now : ℕ) → result.status ≡ Status.DiskFault opened now
         → (opened ≡ (D.view disk).faults) × (now ≡ (D.view result.disk).faults) × ((opened < now) ⊎ IsAtEnd (D.view result.disk)) }
     ensures no_fault { result.status ≢ Status.NoMemory → (IsOfDisk result.status → ⊥) → (D.view result.disk).faults ≡ (D.view disk).faults }
     ensures judged { result.status ≢ Status.NoMemory → unbuilt_line trace.now.lines.items ≡ None → (IsOfDisk result.status → ⊥)
-        → LogHas (D.view disk) (λ bytes. IsJudged (session_fault bytes) result.status) }
+        → LogHas (D.view disk) (λ bytes. IsStoreJudged (session_fault bytes) result.status) }
 
-    // What stands after each. A trace that isn't begun leaves the disk untouched.
+    // What stands after each. A trace that isn't begun leaves the disk untouched, and a store that is refused isn't written to.
     ensures not_begun { IsSome (unbuilt_line trace.now.lines.items) → (result.disk ≡ disk) × IsUnopened result.list.items result.start result.history.items result.syncs.items }
-    ensures bad_store { (fault : AnyFault) → result.status ≡ Status.BadStore fault → IsUnopened result.list.items result.start result.history.items result.syncs.items }
-    ensures recorded { IsUnopened result.list.items result.start result.history.items result.syncs.items
+    ensures bad_store { (fault : AnyFault) → result.status ≡ Status.BadStore fault
+        → IsRefusedOpening (D.view disk) (D.view result.disk) result.status result.list.items result.start result.history.items result.syncs.items }
+    // Whatever the status, also where memory was refused: the opening was refused, or this is what it opened and recorded.
+    ensures recorded { IsRefusedOpening (D.view disk) (D.view result.disk) result.status result.list.items result.start result.history.items result.syncs.items
         ⊎ IsOverStore (D.view disk).calls (D.view disk) (D.view result.disk) trace.now.lines.items result.list.items result.start result.history.items result.syncs.items }
     ensures ended { IsEnd result.status
         → HasEnded (D.view disk).calls (D.view disk) (D.view result.disk) trace.now.lines.items result.list.items result.start result.history.items result.syncs.items result.status result.report.items }
     ensures no_report { (IsEnd result.status → ⊥) → result.report.items ≡ [] }
+    // What the disk tells stays, and its counts never fall.
+    ensures later { IsLater (D.view disk) (D.view result.disk) }
 {
     if let Some(line) = first_unbuilt(&trace.lines) {
         return unopened(alloc, Status::NotBuilt { line }, disk);
@@ -88,13 +92,13 @@ pub fn run_trace<D: Disk + Send, G: Gate + Sync>(
     let opened = disk.faults();
     match recover(alloc, &mut disk) {
         Ok(Opening { image, start, .. }) => {
-            let ground = Ground {
+            let run = OpenedRun {
                 image,
                 start,
                 trace,
                 calls,
             };
-            run_opened(alloc, ground, disk)
+            run_opened(alloc, run, disk)
         }
         Err(fault) => {
             let now = disk.faults();
@@ -104,58 +108,53 @@ pub fn run_trace<D: Disk + Send, G: Gate + Sync>(
 }
 
 // Runs a trace over an opened store, unless the image of its log ends too late.
-fn run_opened<D: Disk>(alloc: Global, ground: Ground<'_>, disk: D) -> RunEnd<D>
-    requires trace { IsTrace ground.trace.now.lines.items }
-    requires ground { IsGround (D.view disk) ground }
-    ensures { IsRunOver D.view (D.view disk) ground.entry.calls ground.entry.trace.now.lines.items result }
+fn run_opened<D: Disk>(alloc: Global, run: OpenedRun<'_>, disk: D) -> RunEnd<D>
+    requires trace { IsTrace run.trace.now.lines.items }
+    requires run { IsOpenedRun (D.view disk) run }
+    ensures { IsRunOver D.view (D.view disk) run.entry.calls run.entry.trace.now.lines.items result }
 {
-    let end = ground.image.end;
+    let end = run.image.end;
     if end > LAST_END {
         let fault = OpenFault::BadFrame { at: end };
         return unopened(alloc, Status::BadStore(fault), disk);
     }
-    run_session(alloc, ground, disk)
+    run_session(alloc, run, disk)
 }
 
 // The session's ceiling, which leaves a number for each object that the trace may make.
-fn session_ceiling(ground: &Ground<'_>) -> Pnode
-    requires lines { length ground.now.trace.now.lines.items ≤ 100000 }
-    requires room { ground.now.start.ceiling + 8192 < 2 ^ 48 }
-    requires objects { objects_of_lines ground.now.trace.now.lines.items ≤ 8192 }
-    ensures { result ≡ ground.now.start.ceiling + objects_of_lines ground.now.trace.now.lines.items }
+fn session_ceiling(run: &OpenedRun<'_>) -> Pnode
+    requires lines { length run.now.trace.now.lines.items ≤ 100000 }
+    requires room { run.now.start.ceiling + 8192 < 2 ^ 48 }
+    requires objects { objects_of_lines run.now.trace.now.lines.items ≤ 8192 }
+    ensures { result ≡ run.now.start.ceiling + objects_of_lines run.now.trace.now.lines.items }
 {
-    Pnode(ground.start.ceiling + u64::from(objects_of(&ground.trace.lines)))
+    Pnode(run.start.ceiling + u64::from(objects_of(&run.trace.lines)))
 }
 
 // Runs a trace over an opened store.
-fn run_session<D: Disk>(alloc: Global, ground: Ground<'_>, disk: D) -> RunEnd<D>
+fn run_session<D: Disk>(alloc: Global, run: OpenedRun<'_>, disk: D) -> RunEnd<D>
     ghost story: { Story }
-    requires trace { IsTrace ground.trace.now.lines.items }
-    requires ground { IsGround (D.view disk) ground }
-    requires short { ground.image.end ≤ 2 ^ 38 }
-    requires story { story ≡ story_over ground [] }
-    ensures { IsRunOver D.view (D.view disk) ground.entry.calls ground.entry.trace.now.lines.items result }
+    requires trace { IsTrace run.trace.now.lines.items }
+    requires run { IsOpenedRun (D.view disk) run }
+    requires short { run.image.end ≤ 2 ^ 38 }
+    requires story { story ≡ story_over (D.view disk).seen.store run [] }
+    ensures { IsRunOver D.view (D.view disk) run.entry.calls run.entry.trace.now.lines.items result }
 {
     logs();
     traces();
-    let ceiling = session_ceiling(&ground);
-    let mut keeper = match Keeper::open(alloc, disk, &ground.image, ceiling) {
+    let ceiling = session_ceiling(&run);
+    let mut keeper = match Keeper::open(alloc, disk, &run.image, ceiling) {
         Ok(keeper) => keeper,
         Err((fault, disk)) => {
-            return stopped(
-                alloc,
-                ground,
-                fault,
-                Vec::new(alloc),
-                (disk, Vec::new(alloc)),
-            );
+            let kept = (disk, Vec::new(alloc));
+            return opened_end(alloc, run, stopped_status(fault), kept);
         }
     };
-    let performed = match Performed::run(alloc, ground.trace, &ground.start) {
+    let performed = match Performed::run(alloc, run.trace, &run.start) {
         Ok(performed) => performed,
         Err(AllocError) => {
-            let (disk, _syncs) = keeper.into_disk();
-            return unopened(alloc, Status::NoMemory, disk);
+            let kept = keeper.into_disk();
+            return opened_end(alloc, run, Status::NoMemory, kept);
         }
     };
     graph();
@@ -163,13 +162,26 @@ fn run_session<D: Disk>(alloc: Global, ground: Ground<'_>, disk: D) -> RunEnd<D>
     runs();
     let stored = store(alloc, &mut keeper, &performed);
     let kept = keeper.into_disk();
+    let Performed {
+        status,
+        history,
+        report,
+        ..
+    } = performed;
     match stored {
-        Ok(()) => ended(ground, performed, kept),
-        Err(fault) => stopped(alloc, ground, fault, performed.history, kept),
+        Ok(()) => RunEnd {
+            history,
+            report,
+            ..opened_end(alloc, run, status, kept)
+        },
+        Err(fault) => RunEnd {
+            history,
+            ..opened_end(alloc, run, stopped_status(fault), kept)
+        },
     }
 }
 
-// Keeps the records of a run as one frame, and then the blocks that it changed.
+// Keeps the records of a run as one frame, and then the blocks that it changed. The memory for all of it is taken first.
 fn store<D: Disk>(
     alloc: Global,
     keeper: &mut Keeper<D>,
@@ -189,13 +201,15 @@ fn store<D: Disk>(
     ensures kept { OnOk result (IsAllKept D.view story keeper.new) }
     ensures some { OnErr result (IsSomeKept D.view story keeper.new) }
     ensures healthy { OnOk result ((D.view (disk_of keeper.new)).faults ≡ (D.view (disk_of keeper.old)).faults) }
-    ensures failed { IfErr result (λ e. (e ≡ KeepFault.NoMemory) ⊎ ((e ≡ KeepFault.DiskFault (log_opened (log_of keeper.old)) (D.view (disk_of keeper.new)).faults)
-        × (((D.view (disk_of keeper.old)).faults < (D.view (disk_of keeper.new)).faults) ⊎ IsAtEnd (D.view (disk_of keeper.new))))) }
+    ensures failed { IfErr result (λ e. (e ≡ KeepFault.NoMemory) ⊎ Failed (log_opened (log_of keeper.old)) (D.view (disk_of keeper.old)) (D.view (disk_of keeper.new)) e) }
+    ensures goes_on { GoesOn (D.view (disk_of keeper.old)) (D.view (disk_of keeper.new)) }
 {
     let blocks = dirty_blocks(alloc, &performed.recording)?;
-    let parts = from_ref(&performed.recording.list);
-    keeper.flush(alloc, parts, performed.history.len() as u64)?;
-    keeper.sync_blocks(&blocks)
+    let frames = stage_all(alloc, from_ref(&performed.recording.list))?;
+    keeper.ready(2)?;
+    keeper.append(&frames, performed.history.len() as u64)?;
+    keeper.write(&blocks)?;
+    Ok(())
 }
 
 // The status of a run of which a call on its keeper failed.
@@ -211,67 +225,31 @@ fn stopped_status(fault: KeepFault) -> Status
     }
 }
 
-// The end of a run of which a call on its keeper failed.
-fn stopped<D>(
+// The end of a run over an opened store, before anything is told of what it did.
+fn opened_end<D>(
     alloc: Global,
-    ground: Ground<'_>,
-    fault: KeepFault,
-    history: Vec<Entry>,
+    run: OpenedRun<'_>,
+    status: Status,
     kept: (D, Vec<Synced>),
 ) -> RunEnd<D>
-    ensures memory { fault ≡ KeepFault.NoMemory → (result.status ≡ Status.NoMemory) × IsUnopened result.list.items result.start result.history.items result.syncs.items }
-    ensures status { (opened now : ℕ) → fault ≡ KeepFault.DiskFault opened now → result.status ≡ Status.DiskFault opened now }
-    ensures history { (opened now : ℕ) → fault ≡ KeepFault.DiskFault opened now → result.history.items ≡ history.items }
-    ensures syncs { (opened now : ℕ) → fault ≡ KeepFault.DiskFault opened now → result.syncs.items ≡ kept.1.items }
-    ensures list { (opened now : ℕ) → fault ≡ KeepFault.DiskFault opened now → result.list.items ≡ ground.entry.image.list.items }
-    ensures start { (opened now : ℕ) → fault ≡ KeepFault.DiskFault opened now → SameButBytes result.start ground.entry.start × IsBare result.start }
+    ensures status { result.status ≡ status }
+    ensures history { result.history.items ≡ [] }
     ensures report { result.report.items ≡ [] }
+    ensures syncs { result.syncs.items ≡ kept.1.items }
+    ensures list { result.list.items ≡ run.entry.image.list.items }
+    ensures start { SameButBytes result.start run.entry.start × IsBare result.start }
     ensures disk { result.disk ≡ kept.0 }
 {
     let (disk, syncs) = kept;
-    let status = stopped_status(fault);
-    if let KeepFault::NoMemory = fault {
-        return unopened(alloc, status, disk);
-    }
-    let Ground { image, start, .. } = ground;
+    let OpenedRun { image, start, .. } = run;
     let LogImage { list, .. } = image;
     RunEnd {
         status,
-        history,
+        history: Vec::new(alloc),
         syncs,
         list,
         start: bare(start),
         report: Vec::new(alloc),
-        disk,
-    }
-}
-
-// The end of a run of which all is kept.
-fn ended<D>(ground: Ground<'_>, performed: Performed, kept: (D, Vec<Synced>)) -> RunEnd<D>
-    ensures status { result.status ≡ performed.status }
-    ensures history { result.history.items ≡ performed.history.items }
-    ensures report { result.report.items ≡ performed.report.items }
-    ensures syncs { result.syncs.items ≡ kept.1.items }
-    ensures list { result.list.items ≡ ground.entry.image.list.items }
-    ensures start { SameButBytes result.start ground.entry.start × IsBare result.start }
-    ensures disk { result.disk ≡ kept.0 }
-{
-    let (disk, syncs) = kept;
-    let Ground { image, start, .. } = ground;
-    let LogImage { list, .. } = image;
-    let Performed {
-        status,
-        history,
-        report,
-        ..
-    } = performed;
-    RunEnd {
-        status,
-        history,
-        syncs,
-        list,
-        start: bare(start),
-        report,
         disk,
     }
 }

@@ -11,3 +11,4 @@ returns-in-Err-clause-judged g c = λ known.
     (c.opening_status.ensures ∙ ap (λ (opened : ℕ). status_of_opening opened c.faults.result c.in-Err.fault) c.faults-opened.ensures
     ∙ ap (λ (now : ℕ). status_of_opening (g.D.Disk.view c.args.disk.now).faults now c.in-Err.fault) c.faults.ensures)
     known c.in-Err.ensures.fault (λ other. c.in-Err.ensures.no_fault (λ is. other (same_error c.in-Err.fault DiskFault is)))
+    (λ other. c.in-Err.ensures.stays (λ is. other (same_error c.in-Err.fault DiskFault is)))

@@ -1,5 +1,5 @@
 use Rattle.std.proofs.Common.{ℕ, List, ◌++◌, ap, ◌∙◌, subst}
-use Rattle.pass_run.specs.Writing.{IsPart}
+use Rattle.pass_run.specs.Writing.{IsPartOfText}
 use Rattle.pass_cli.specs.Answers.{text_with}
 use Rattle.pass_cli.proofs.Written.{stands_as}
 use Rattle.pass_cli.proofs.main_call.run_words.Goals as goal
@@ -16,7 +16,7 @@ returns-clause-run g c = λ known.
       by = run;
       stands = stands_as c.write_answer.result r.status known w.stands;
       whole = λ whole tells. w.whole whole known tells ∙ ap (λ (t : List ℕ). g.K.Sink.taken c.args.sink.now ++ text_with r.status t) c.deref.ensures.value;
-      part = λ fault tells. subst (λ (t : List ℕ). IsPart (text_with r.status t) (g.K.Sink.taken c.args.sink.now) (g.K.Sink.taken c.write_answer.new.sink)) c.deref.ensures.value (w.part fault tells);
+      part = λ fault tells. subst (λ (t : List ℕ). IsPartOfText (text_with r.status t) (g.K.Sink.taken c.args.sink.now) (g.K.Sink.taken c.write_answer.new.sink)) c.deref.ensures.value (w.part fault tells);
     }
 
 pub returns-clause-stops : goal.returns-clause-stops

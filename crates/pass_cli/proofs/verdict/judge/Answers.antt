@@ -1,9 +1,10 @@
-use Rattle.std.proofs.Common.{◌≡◌, ◌∙◌, ap, sym, subst, List, ℕ, ◌<◌, length, ◌⊎◌, inl}
+use Rattle.std.proofs.Common.{◌≡◌, ◌∙◌, sym, subst, List, ℕ, ◌<◌, length, ◌⊎◌, inl, inr, ⊎_elim}
 use Rattle.pass_trace.specs.declared.trace.TraceLine.{TraceLine}
 use Rattle.pass_run.specs.declared.status.Status.{Status}
 use Rattle.pass_run.specs.declared.status.Status.TheVariants as status
-use Rattle.pass_run.specs.Stored.{IsOverStore}
-use Rattle.pass_cli.specs.Answers.{IsRefusal, HasRun, IsNothing, outcome_of_run}
+use Rattle.pass_run.specs.Stored.{IsLeftAlone, IsOverStore}
+use Rattle.pass_run.proofs.Moved.{alone_untouched}
+use Rattle.pass_cli.specs.Answers.{IsRefusal, IsRefused, HasRun, outcome_of_run}
 use Rattle.pass_cli.proofs.Judging.{ran_run, refusal_run, same_error, no_write, reported_ends, some_report}
 use Rattle.pass_cli.proofs.verdict.judge.Goals as goal
 
@@ -14,20 +15,13 @@ returns-in-Ok-clause-judged g c = λ known.
     let r = c.run_trace.result in (
       bytes,
       told,
-      ran_run bytes _ _ (g.D.Disk.view c.args.disk) (g.D.Disk.view r.disk) c.in-Ok.trace.lines.items (outcome_of_run r) r.status r.report.items traced same
+      ran_run g.D.Disk.view bytes _ _ c.args.disk r.disk c.in-Ok.trace.lines.items (outcome_of_run r) r.status r.report.items traced same
           (record {
             not_built = e.not_built known;
             disk_fault = λ opened now is. let (before, after, risen) = e.disk_fault opened now is in record { before = before; after = after; risen = risen };
             no_fault = e.no_fault known;
             by_log = e.judged known;
-            not_begun = λ some. (
-              record {
-                calls = ap (λ d. (g.D.Disk.view d).calls) (e.not_begun some).0;
-                faults = ap (λ d. (g.D.Disk.view d).faults) (e.not_begun some).0;
-                seen = ap (λ d. (g.D.Disk.view d).seen) (e.not_begun some).0;
-              },
-              (e.not_begun some).1,
-            );
+            not_begun = e.not_begun;
             bad_store = e.bad_store;
             recorded = e.recorded;
             ended = e.ended;
@@ -37,7 +31,16 @@ returns-in-Ok-clause-judged g c = λ known.
 pub returns-in-Ok-clause-recorded : goal.returns-in-Ok-clause-recorded
 returns-in-Ok-clause-recorded g c =
     let (bytes, told, (traced, same)) = c.in-Ok.ensures.read in
-    (bytes, told, subst (λ (ls : List TraceLine). IsNothing (outcome_of_run c.run_trace.result) ⊎ IsOverStore (g.D.Disk.view c.args.disk).calls (g.D.Disk.view c.args.disk) (g.D.Disk.view c.run_trace.result.disk) ls c.run_trace.result.list.items c.run_trace.result.start c.run_trace.result.history.items c.run_trace.result.syncs.items) same c.run_trace.ensures.recorded)
+    let r = c.run_trace.result in
+    let old = g.D.Disk.view c.args.disk in
+    let new = g.D.Disk.view r.disk in (
+      bytes,
+      told,
+      ⊎_elim (λ (refused : IsRefused old new r.status (outcome_of_run r)). inl (refused.nothing, refused.alone))
+          (λ (over : IsOverStore old.calls old new c.in-Ok.trace.lines.items r.list.items r.start r.history.items r.syncs.items).
+          inr (subst (λ (ls : List TraceLine). IsOverStore old.calls old new ls r.list.items r.start r.history.items r.syncs.items) same over))
+          c.run_trace.ensures.recorded,
+    )
 
 pub returns-in-Ok-clause-some : goal.returns-in-Ok-clause-some
 returns-in-Ok-clause-some g c = λ reported.
@@ -52,22 +55,34 @@ returns-in-Ok-clause-no_write g c = λ is.
 pub returns-in-Err-clause-judged : goal.returns-in-Err-clause-judged
 returns-in-Err-clause-judged g c = λ known.
     let (bytes, told, refusal) = c.in-Err.ensures.read in
-    let r = c.refused.result in
-    let e = c.refused.ensures in (
+    let r = c.unopened.result in
+    let e = c.unopened.ensures in
+    let faults = g.S.Source.fault_count in (
       bytes,
       told,
-      subst (λ d. HasRun bytes (g.S.Source.fault_count c.args.source.now) (g.S.Source.fault_count c.read_trace.new.source) (g.D.Disk.view c.args.disk) (g.D.Disk.view d) (outcome_of_run r) r.status r.report.items) (sym e.disk)
-          (subst (λ (s : Status). HasRun bytes (g.S.Source.fault_count c.args.source.now) (g.S.Source.fault_count c.read_trace.new.source) (g.D.Disk.view c.args.disk) (g.D.Disk.view c.args.disk) (outcome_of_run r) s r.report.items) (sym e.status)
-          (refusal_run bytes _ _ (g.D.Disk.view c.args.disk) (outcome_of_run r) c.in-Err.status r.report.items (λ is. known (e.status ∙ is)) refusal e.nothing)),
+      subst (λ d. HasRun g.D.Disk.view bytes (faults c.args.source.now) (faults c.read_trace.new.source) c.args.disk d (outcome_of_run r) r.status r.report.items) (sym e.disk)
+          (subst (λ (s : Status). HasRun g.D.Disk.view bytes (faults c.args.source.now) (faults c.read_trace.new.source) c.args.disk c.args.disk (outcome_of_run r) s r.report.items) (sym e.status)
+          (refusal_run g.D.Disk.view bytes _ _ c.args.disk (outcome_of_run r) c.in-Err.status r.report.items (λ is. known (e.status ∙ is)) refusal
+          (record { no_list = e.list; no_start = e.start; no_history = e.history; no_syncs = e.syncs }))),
     )
 
 pub returns-in-Err-clause-recorded : goal.returns-in-Err-clause-recorded
-returns-in-Err-clause-recorded g c = let (bytes, told, refusal) = c.in-Err.ensures.read in (bytes, told, inl c.refused.ensures.nothing)
+returns-in-Err-clause-recorded g c =
+    let (bytes, told, refusal) = c.in-Err.ensures.read in
+    let e = c.unopened.ensures in
+    let view = g.D.Disk.view in (
+      bytes,
+      told,
+      inl (
+        record { no_list = e.list; no_start = e.start; no_history = e.history; no_syncs = e.syncs },
+        subst (λ d. IsLeftAlone (view c.args.disk) (view d)) (sym e.disk) (alone_untouched (view c.args.disk)),
+      ),
+    )
 
 pub returns-in-Err-clause-no_write : goal.returns-in-Err-clause-no_write
 returns-in-Err-clause-no_write g c = λ is.
     let (bytes, told, refusal) = c.in-Err.ensures.read in
-    subst (λ (s : Status). IsRefusal bytes (g.S.Source.fault_count c.args.source.now) (g.S.Source.fault_count c.read_trace.new.source) s) (sym c.refused.ensures.status ∙ is) refusal
+    subst (λ (s : Status). IsRefusal bytes (g.S.Source.fault_count c.args.source.now) (g.S.Source.fault_count c.read_trace.new.source) s) (sym c.unopened.ensures.status ∙ is) refusal
 
 pub returns-in-Err-clause-stops : goal.returns-in-Err-clause-stops
-returns-in-Err-clause-stops g c = λ t known. c.in-Err.ensures.stops t (λ is. known (c.refused.ensures.status ∙ same_error _ _ is))
+returns-in-Err-clause-stops g c = λ t known. c.in-Err.ensures.stops t (λ is. known (c.unopened.ensures.status ∙ same_error _ _ is))

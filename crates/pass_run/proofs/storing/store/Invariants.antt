@@ -1,8 +1,4 @@
-use Rattle.std.proofs.Common.{[]}
 use Rattle.pass_run.proofs.storing.store.Given as goal
 
 abbrev pub ghost-dirty_blocks : goal.ghost-dirty_blocks
 ghost-dirty_blocks g a = g.story
-
-abbrev pub ghost-flush : goal.ghost-flush
-ghost-flush g a = record { story = g.story; noted = [] }

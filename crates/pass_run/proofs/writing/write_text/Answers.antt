@@ -8,6 +8,7 @@ pieces-preserved g c = record {
   within = omega (arith, c.in_ok-count.ensures.within, ap length (take_rest c.args.text.now c.pieces.written), length-drop c.pieces.written c.args.text.now);
   taken = λ tells. one_piece_more _ _ _ c.args.text.now c.pieces.written c.in_ok-count.count (c.pieces.invariant.taken tells) (c.in_ok-count.ensures.taken tells);
   same = (c.in_ok-count.ensures.faults.ok refl).0 ∙ c.pieces.invariant.same;
+  untouched = λ none. absurd (omega (arith, none));
   goes = λ _ end. (c.in_ok-count.ensures.faults.ok refl).1 (c.pieces.invariant.same ∙ end);
 }
 

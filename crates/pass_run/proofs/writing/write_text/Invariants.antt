@@ -8,6 +8,7 @@ invariant-pieces g l = record {
   within : l.written ≤ length l.text;
   taken : IsTrue g.K.Sink.tells → g.K.Sink.taken l.sink ≡ g.K.Sink.taken l.fn.sink ++ take l.written l.text;
   same : g.K.Sink.fault_count l.sink ≡ g.K.Sink.fault_count l.fn.sink;
+  untouched : length l.text ≡ 0 → l.sink ≡ l.fn.sink;
   goes : 0 < l.written → g.K.Sink.fault_count l.fn.sink ≡ count_end → ⊥;
 }
 

@@ -28,7 +28,6 @@ returns c =
     let from : IsRunFrom start history lines start = record { same = record { ceiling = refl; files = refl; apps = refl }; sound = c.requires.sound; run = c.in_ok-status.ensures.run } in
     record {
       run = c.in_ok-status.ensures.run;
-      named = c.in_ok-status.ensures.named;
       ends = c.in_ok-status.ensures.ends;
       report =
           c.in_ok-report.ensures start (subst (λ (h : List Entry). IsRunFrom start h lines start) (sym c.deref.ensures.value) from)

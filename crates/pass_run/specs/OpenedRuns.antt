@@ -25,12 +25,12 @@ use Rattle.pass_dirty.specs.Gathering.{every_file}
 use Rattle.pass_run.specs.declared.ending.RunEnd.{RunEnd}
 use Rattle.pass_run.specs.declared.performing.Performed.{Performed}
 use Rattle.pass_run.specs.declared.status.Status.TheVariants as status
-use Rattle.pass_run.specs.declared.storing.Ground.{Ground}
-use Rattle.pass_run.specs.Ends.{AreNamed, EndsAs}
-use Rattle.pass_run.specs.Stored.{session_fault, IsJudged, IsEnd, IsOfDisk, IsUnopened, IsOverStore, HasEnded, story_of}
+use Rattle.pass_run.specs.declared.storing.OpenedRun.{OpenedRun}
+use Rattle.pass_run.specs.Ends.{EndsAs}
+use Rattle.pass_run.specs.Stored.{session_fault, IsStoreJudged, IsEnd, IsOfDisk, IsLater, IsRefusedOpening, IsOverStore, HasEnded, story_of}
 
 -- what a disk tells of a store that was opened, with nothing written since the opening's two syncs
-pub record IsGround (m : Moment) (g : Ground) : Type 0 where
+pub record IsOpenedRun (m : Moment) (g : OpenedRun) : Type 0 where
   pub read : IsRead m g.image
   pub logged : IsWellLogged g.image.list.items
   pub told : IsStartOf g.image.list.items g.start
@@ -39,16 +39,15 @@ pub record IsGround (m : Moment) (g : Ground) : Type 0 where
   pub sound : (objects : ℕ) → 1 ≤ objects → g.start.ceiling + objects < 2 ^ 48 → IsSound (session_of g.start objects)
   pub continues : (objects : ℕ) → 1 ≤ objects → objects ≤ 8192 → g.start.ceiling + objects < 2 ^ 48 → Continues g.image.list.items (session_of g.start objects)
   pub earlier : g.calls + 2 ≤ m.calls
-  pub since : IsTrue m.tells → (c : Image) → m.left_since (g.calls + 2) c → c.log ≡ m.seen.log
+  pub since : IsTrue m.tells → (c : Image) → m.left_since (g.calls + 2) c → c ≡ m.seen
 
--- the session that runs over it
-abbrev pub story_over : Ground → List Entry → Story
-story_over g history = story_of g.calls g.image.list.items g.start g.trace.now.lines.items history
+-- the session that runs over it, where the store area reads these bytes
+abbrev pub story_over : List ℕ → OpenedRun → List Entry → Story
+story_over area g history = story_of g.calls area g.image.list.items g.start g.trace.now.lines.items history
 
 -- a run of the trace with its report and its records
 pub record HasPerformed (start : Start) (lines : List TraceLine) (p : Performed) : Type 0 where
   pub run : IsRun (session_of_trace start lines) (plain_trace lines) p.history.items
-  pub named : AreNamed (session_of_trace start lines) (plain_trace lines) p.history.items
   pub ends : EndsAs (session_of_trace start lines) (plain_trace lines) p.history.items p.status
   pub report : p.report.items ≡ report_of start p.history.items lines
   pub recording : IsRecording start p.history.items p.recording
@@ -78,10 +77,10 @@ pub record IsRunOver {D : Type 0} (view : D → Moment) (old : Moment) (calls : 
   pub disk_fault : (opened now : ℕ) → e.status ≡ status.DiskFault opened now
       → (opened ≡ old.faults) × (now ≡ (view e.disk).faults) × ((opened < now) ⊎ IsAtEnd (view e.disk))
   pub no_fault : e.status ≢ status.NoMemory → (IsOfDisk e.status → ⊥) → (view e.disk).faults ≡ old.faults
-  pub judged : e.status ≢ status.NoMemory → (IsOfDisk e.status → ⊥) → LogHas old (λ bytes. IsJudged (session_fault bytes) e.status)
-  pub no_memory : e.status ≡ status.NoMemory → IsUnopened e.list.items e.start e.history.items e.syncs.items
-  pub bad_store : (fault : OpenFault) → e.status ≡ status.BadStore fault → IsUnopened e.list.items e.start e.history.items e.syncs.items
-  pub recorded : IsUnopened e.list.items e.start e.history.items e.syncs.items
+  pub judged : e.status ≢ status.NoMemory → (IsOfDisk e.status → ⊥) → LogHas old (λ bytes. IsStoreJudged (session_fault bytes) e.status)
+  pub bad_store : (fault : OpenFault) → e.status ≡ status.BadStore fault → IsRefusedOpening old (view e.disk) e.status e.list.items e.start e.history.items e.syncs.items
+  pub recorded : IsRefusedOpening old (view e.disk) e.status e.list.items e.start e.history.items e.syncs.items
       ⊎ IsOverStore calls old (view e.disk) lines e.list.items e.start e.history.items e.syncs.items
   pub ended : IsEnd e.status → HasEnded calls old (view e.disk) lines e.list.items e.start e.history.items e.syncs.items e.status e.report.items
   pub no_report : (IsEnd e.status → ⊥) → e.report.items ≡ []
+  pub later : IsLater old (view e.disk)

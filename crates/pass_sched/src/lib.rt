@@ -10,6 +10,8 @@ mod ranked;
 mod room;
 mod spread;
 mod task;
+#[cfg(test)]
+mod tests;
 
 ghost use Rattle.std.specs.Prelude.{◌≡◌, ◌≢◌, ◌≤◌, List, IsPermutation, nat_eq};
 ghost use Rattle.std.specs.List.Sorted.{IsNonDecreasingBy};

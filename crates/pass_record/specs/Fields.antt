@@ -6,6 +6,7 @@ use Rattle.std.specs.Int.{Width, w8, w16, w32, w64, byte_len, from_be_bytes}
 use Rattle.pass_entry.specs.declared.objects.Kind.{Kind}
 use Rattle.pass_entry.specs.declared.objects.Kind.TheVariants as kind_of
 use Rattle.pass_entry.specs.declared.objects.Node.{Node}
+use Rattle.pass_entry.specs.Limits.{block_count, file_limit, line_limit}
 use Rattle.pass_entry.specs.Ranges.{is_number}
 use Rattle.pass_entry.specs.Texts.{is_line_byte, is_name_byte}
 use Rattle.pass_record.specs.declared.fault.RecordFault.{RecordFault}
@@ -76,7 +77,7 @@ attr_at bytes = text_at w8 (nat_le 1) is_name_byte bytes
 
 -- 1 to 1,024
 abbrev pub is_value_length : ℕ → Bool
-is_value_length n = nat_le 1 n && nat_le n 1024
+is_value_length n = nat_le 1 n && nat_le n line_limit
 
 -- a length of two bytes from 1 to 1,024, then as many bytes of a line
 unfoldable pub value_at : List ℕ → Result (List ℕ × List ℕ) RecordFault
@@ -84,11 +85,11 @@ value_at bytes = text_at w16 is_value_length is_line_byte bytes
 
 -- a file has at most 4,194,304 bytes
 abbrev pub size_at : List ℕ → Result (ℕ × List ℕ) RecordFault
-size_at bytes = number_at w64 (λ n. nat_le n 4194304) bytes
+size_at bytes = number_at w64 (λ n. nat_le n file_limit) bytes
 
 -- a file has 1,024 blocks
 abbrev pub block_at : List ℕ → Result (ℕ × List ℕ) RecordFault
-block_at bytes = number_at w32 (λ n. nat_lt n 1024) bytes
+block_at bytes = number_at w32 (λ n. nat_lt n block_count) bytes
 
 -- an MD5 (RFC 1321) has 16 bytes
 abbrev pub md5_at : List ℕ → Result (List ℕ × List ℕ) RecordFault

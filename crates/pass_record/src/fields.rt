@@ -7,23 +7,13 @@ ghost use Rattle.pass_record.specs.Fields.{block_at, kind_at, md5_at, name_at, a
 ghost use Rattle.pass_record.specs.declared.fault.RecordFault.TheVariants as fault;
 
 use crate::fault::RecordFault;
-use pass_entry::{Kind, Node, Pnode, Text, TextFault};
+use pass_entry::{
+    BLOCK_COUNT, FILE_LIMIT, Kind, LINE_LIMIT, NUMBER_LIMIT, Node, Pnode, Text, TextFault,
+};
 use pass_num::Cursor;
 use std::alloc::Global;
 
-/// Pnodes and versions are below this, and not 0.
-const NUMBER_LIMIT: u64 = 1 << 48;
-
-/// The greatest number of bytes of a file.
-const FILE_SIZE: u64 = 4_194_304;
-
-/// The greatest number of blocks of a file.
-const FILE_BLOCKS: u32 = 1024;
-
-/// The greatest number of bytes of an attribute's value.
-const VALUE_LENGTH: u16 = 1024;
-
-/// A number of an object or a version, 8 bytes: from 1, in 48 bits.
+// A number of an object or a version, 8 bytes: from 1, in 48 bits.
 fn take_number(cursor: &mut Cursor) -> Result<u64, RecordFault>
     ensures { Gives (λ number. (number, cursor.new)) result (object_number_at cursor.old) }
 {
@@ -70,7 +60,7 @@ pub fn take_size(cursor: &mut Cursor) -> Result<u64, RecordFault>
     ensures { Gives (λ size. (size, cursor.new)) result (size_at cursor.old) }
 {
     let size = cursor.take_u64()?;
-    if size > FILE_SIZE {
+    if size > FILE_LIMIT {
         return Err(RecordFault::Value);
     }
     Ok(size)
@@ -81,7 +71,7 @@ pub fn take_block(cursor: &mut Cursor) -> Result<u32, RecordFault>
     ensures { Gives (λ block. (block, cursor.new)) result (block_at cursor.old) }
 {
     let block = cursor.take_u32()?;
-    if block >= FILE_BLOCKS {
+    if block >= BLOCK_COUNT {
         return Err(RecordFault::Value);
     }
     Ok(block)
@@ -97,7 +87,7 @@ pub fn take_md5(cursor: &mut Cursor) -> Result<[u8; 16], RecordFault>
     Ok(md5)
 }
 
-/// The bytes were taken before they are copied, so no room is made for bytes that aren't there.
+// The bytes were taken before they are copied, so no room is made for bytes that aren't there.
 fn name_of(alloc: Global, bytes: &[u8]) -> Result<Text, RecordFault>
     requires some { 1 ≤ length bytes.now }
     requires few { length bytes.now ≤ 255 }
@@ -153,7 +143,7 @@ pub fn take_value(alloc: Global, cursor: &mut Cursor) -> Result<Text, RecordFaul
     ensures { Gives (λ value. (value, cursor.new)) result (value_at cursor.old) }
 {
     let len = cursor.take_u16()?;
-    if len == 0 || len > VALUE_LENGTH {
+    if len == 0 || len as usize > LINE_LIMIT {
         return Err(RecordFault::Value);
     }
     line_of(alloc, cursor.take_bytes(len as usize)?)

@@ -104,8 +104,6 @@ fn record_of(alloc: Global, cursor: &mut Cursor) -> Result<Record, RecordFault>
 }
 
 /// The record at the front of the bytes, and how many bytes its spelling has. Any bytes may follow it.
-///
-/// Called by the log as it reads a frame.
 pub fn decode(alloc: Global, bytes: &[u8]) -> Result<(Record, usize), RecordFault>
     // What is read stands at the front, and this is its length.
     ensures found { IfOk result (λ read. StandsAtFront read.0 bytes.now × (read.1 ≡ record_length read.0)) }

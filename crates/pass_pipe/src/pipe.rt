@@ -2,16 +2,14 @@
 ghost use Rattle.std.specs.Prelude.{◌≡◌, ◌<◌, ◌≤◌, ◌-◌, ◌^◌, ◌++◌, ◌↔◌, ℕ, [], length, take, drop, min, OnOk, OnErr, IfOk, IsErrOf};
 ghost use Rattle.pass_entry.specs.declared.entry.Act.TheVariants as act;
 ghost use Rattle.pass_plain.specs.Pipes.{new_pipe, pipe_act};
-ghost use Rattle.pass_plain.specs.Replies.{pushed, taken, pipe_capacity};
+ghost use Rattle.pass_entry.specs.Limits.{pipe_capacity};
+ghost use Rattle.pass_plain.specs.Replies.{pushed, taken};
 ghost use Rattle.pass_pipe.specs.Ends.{count_at};
 
 use circular_buffer::HeapCircularBuffer;
-use pass_entry::End;
+use pass_entry::{End, PIPE_CAPACITY};
 use std::alloc::{AllocError, Global};
 use std::marker::Model;
-
-/// The greatest number of bytes that a pipe holds, as in Linux.
-const CAPACITY: usize = 65_536;
 
 /// Why a transfer didn't come about.
 #[derive(Clone, Copy, Debug, PartialEq, Eq)]
@@ -33,7 +31,7 @@ pub struct PipeState {
 impl Model for PipeState {
     ghost use Rattle.std.specs.Prelude.{◌≡◌};
     ghost use Rattle.pass_plain.specs.Pipes.{Pipe};
-    ghost use Rattle.pass_plain.specs.Replies.{pipe_capacity};
+    ghost use Rattle.pass_entry.specs.Limits.{pipe_capacity};
 
     ghost Value = { Pipe };
 
@@ -49,7 +47,7 @@ impl PipeState {
     pub fn new(alloc: Global) -> Result<PipeState, AllocError>
         ensures { IfOk result (λ pipe. pipe ≡ new_pipe) }
     {
-        let buffer = HeapCircularBuffer::with_capacity(alloc, CAPACITY)?;
+        let buffer = HeapCircularBuffer::with_capacity(alloc, PIPE_CAPACITY)?;
         Ok(PipeState {
             buffer,
             readers: 1,
@@ -69,7 +67,7 @@ impl PipeState {
         if self.readers == 0 {
             return Err(PipeEnd::BrokenPipe);
         }
-        if CAPACITY - self.buffer.len() < bytes.len() {
+        if PIPE_CAPACITY - self.buffer.len() < bytes.len() {
             return Err(PipeEnd::Again);
         }
         self.buffer.fill_from_slice(bytes);

@@ -9,6 +9,7 @@ use Rattle.std.proofs.lemmas.Option.{slice_get_read, slice_get-map}
 use Rattle.std.proofs.Math.Seq.{take-append-add}
 use Rattle.pass_entry.specs.declared.objects.Kind.{Kind}
 use Rattle.pass_entry.specs.declared.objects.Kind.TheVariants as kind
+use Rattle.pass_entry.specs.Limits.{kind_limit}
 use Rattle.pass_plain.specs.declared.start.StartFile.{StartFile}
 use Rattle.pass_plain.specs.Registries.{same_kind}
 use Rattle.pass_plain.proofs.Appends.{slice_get-append}
@@ -47,13 +48,13 @@ module _ {X : Type 0} (g : X → ℕ × Kind) (before : List (ℕ × Kind)) (ite
       ∙ single_at (before ++ map g items) (length before + i) (g x) single there
 
   -- there are fewer than may be while one is to come
-  pub few_next : (k : Kind) → count_in k before + length items ≤ 1024 → i < length items → nat_le 1024 (count_in k (before ++ map g (take i items))) ≡ false
+  pub few_next : (k : Kind) → count_in k before + length items ≤ kind_limit → i < length items → nat_le kind_limit (count_in k (before ++ map g (take i items))) ≡ false
   few_next k few within =
       let all = sum_by-append (λ (o : ℕ × Kind). cond (same_kind o.1 k) 1 0) before (map g (take i items)) in
       let most = count_by-le-length (λ (o : ℕ × Kind). same_kind o.1 k) (map g (take i items)) in
       let len = length-map (take i items) g in
       let taken = length-take-le i items (omega (arith, within)) in
-      lt-leb 1024 (count_in k (before ++ map g (take i items))) (omega (arith, all, most, len, taken, few, within))
+      lt-leb kind_limit (count_in k (before ++ map g (take i items))) (omega (arith, all, most, len, taken, few, within))
 
 -- a number above those of all objects is none of theirs
 pub none_above : (objects : List (ℕ × Kind)) (n p : ℕ) → ((i : ℕ) (o : ℕ × Kind) → slice_get objects i ≡ Some o → o.0 ≤ n) → n < p

@@ -3,6 +3,7 @@ use Rattle.std.specs.Prelude.{ℕ, ◌+◌, ◌^◌, ◌≡◌, ◌≤◌, ◌<�
 use Rattle.pass_entry.specs.declared.entry.Act.{Act}
 use Rattle.pass_entry.specs.declared.entry.Reply.{Reply}
 use Rattle.pass_entry.specs.declared.objects.Kind.{Kind}
+use Rattle.pass_entry.specs.Limits.{kind_limit, number_limit}
 use Rattle.pass_plain.specs.declared.start.Start.{Start}
 use Rattle.pass_plain.specs.Sessions.{Session}
 use Rattle.pass_plain.specs.Registries.{Registry, opening_registry, registry_act, is_limited, count_of_kind}
@@ -24,7 +25,7 @@ IsOf session r = (session.start.ceiling ≡ r.ceiling) × (session.objects ≡ r
 
 -- no object of this kind may be made any more: the session made as many as it may, or the store has 1,024 files or app objects
 abbrev pub is_full : RegistryState → Kind → Bool
-is_full r k = nat_le r.limit r.registry.made || (is_limited k && nat_le 1024 (count_of_kind k r.registry))
+is_full r k = nat_le r.limit r.registry.made || (is_limited k && nat_le kind_limit (count_of_kind k r.registry))
 
 -- the number of the next object
 abbrev pub next_pnode : RegistryState → ℕ
@@ -39,4 +40,4 @@ pub record IsSession (objects : List (ℕ × Kind)) (room ceiling limit made : �
   pub below : (i : ℕ) (o : ℕ × Kind) → slice_get objects i ≡ Some o → o.0 ≤ ceiling + made
   pub within : made ≤ limit
   pub reserved : limit ≤ room + made
-  pub numbers : ceiling + limit < 2 ^ 48
+  pub numbers : ceiling + limit < number_limit

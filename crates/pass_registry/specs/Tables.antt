@@ -2,6 +2,7 @@
 use Rattle.std.specs.Prelude.{ℕ, suc, ◌≡◌, Bool, true, false, ◌&&◌, List, [], ◌∷◌, Option, Some, None, map, count_by, nat_le}
 use Rattle.pass_entry.specs.declared.objects.Kind.{Kind}
 use Rattle.pass_entry.specs.declared.objects.Kind.TheVariants as kind
+use Rattle.pass_entry.specs.Limits.{kind_limit}
 use Rattle.pass_plain.specs.Registries.{same_kind, is_limited}
 use Rattle.pass_registry.specs.declared.objects.Object.{Object}
 use Rattle.pass_registry.specs.declared.objects.Object.TheVariants as object
@@ -46,7 +47,7 @@ count_in k objects = count_by (λ o. same_kind o.1 k) objects
 
 -- there are as many objects of this kind as a store may have
 abbrev pub is_filled : List (ℕ × Kind) → Kind → Bool
-is_filled objects k = is_limited k && nat_le 1024 (count_in k objects)
+is_filled objects k = is_limited k && nat_le kind_limit (count_in k objects)
 
 -- the files of the table have their numbers, and there are so many files and app objects
 pub record IsTable (table : List (ℕ × Object)) (files apps : ℕ) : Type 0 where

@@ -6,12 +6,9 @@ ghost use Rattle.pass_plain.specs.Registries.{same_kind};
 ghost use Rattle.pass_registry.specs.Files.{number_of};
 
 use indexmap::IndexMap;
-use pass_entry::{Kind, Pnode};
+use pass_entry::{KIND_LIMIT, Kind, Pnode};
 use std::alloc::{AllocError, Global};
 use std::marker::Model;
-
-/// The greatest number of files that a store may have, and of app objects.
-const MOST_OF_A_KIND: u32 = 1_024;
 
 /// What an object is, and of a file its number among the files.
 #[derive(Clone, Copy)]
@@ -96,8 +93,8 @@ impl Objects {
         ensures { result ≡ is_filled self.now.objects kind }
     {
         match kind {
-            Kind::File => self.files >= MOST_OF_A_KIND,
-            Kind::App => self.apps >= MOST_OF_A_KIND,
+            Kind::File => self.files >= KIND_LIMIT,
+            Kind::App => self.apps >= KIND_LIMIT,
             Kind::Process | Kind::Pipe => false,
         }
     }

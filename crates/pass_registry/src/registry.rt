@@ -6,6 +6,7 @@ ghost use Rattle.pass_entry.specs.declared.entry.Act.TheVariants as act;
 ghost use Rattle.pass_entry.specs.declared.entry.CallFault.TheVariants as faults;
 ghost use Rattle.pass_entry.specs.declared.entry.Reply.TheVariants as answer;
 ghost use Rattle.pass_entry.specs.declared.objects.Kind.TheVariants as kinds;
+ghost use Rattle.pass_entry.specs.Limits.{kind_limit, number_limit};
 ghost use Rattle.pass_plain.specs.Legal.{session_of};
 ghost use Rattle.pass_plain.specs.Registries.{Exists};
 ghost use Rattle.pass_plain.specs.Replies.{is_app_object};
@@ -60,7 +61,7 @@ impl Model for Registry {
 /// Adds the files with which a session begins.
 fn add_files(table: &mut Objects, files: &[StartFile])
     requires single { IsSingle (table.old.objects ++ map file_object files.now) }
-    requires few { count_in kinds.File table.old.objects + length files.now ≤ 1024 }
+    requires few { count_in kinds.File table.old.objects + length files.now ≤ kind_limit }
     requires room { length files.now ≤ table.old.room }
     ensures objects { table.new.objects ≡ table.old.objects ++ map file_object files.now }
     ensures room { table.new.room ≡ table.old.room - length files.now }
@@ -73,7 +74,7 @@ fn add_files(table: &mut Objects, files: &[StartFile])
 /// Adds the app objects with which a session begins.
 fn add_apps(table: &mut Objects, apps: &[Node])
     requires single { IsSingle (table.old.objects ++ map app_object apps.now) }
-    requires few { count_in kinds.App table.old.objects + length apps.now ≤ 1024 }
+    requires few { count_in kinds.App table.old.objects + length apps.now ≤ kind_limit }
     requires room { length apps.now ≤ table.old.room }
     ensures objects { table.new.objects ≡ table.old.objects ++ map app_object apps.now }
     ensures room { table.new.room ≡ table.old.room - length apps.now }
@@ -204,7 +205,7 @@ impl Registry {
     pub fn made(&self) -> u32
         ensures made { result ≡ self.now.registry.made }
         ensures within { result ≤ self.now.limit }
-        ensures numbers { self.now.ceiling + self.now.limit < 2 ^ 48 }
+        ensures numbers { self.now.ceiling + self.now.limit < number_limit }
     {
         self.made
     }

@@ -3,6 +3,7 @@ use Rattle.std.specs.Prelude.{nat_le}
 use Rattle.std.specs.List.{list_any}
 use Rattle.pass_entry.specs.declared.objects.Kind.{Kind}
 use Rattle.pass_entry.specs.declared.objects.Kind.TheVariants as kind
+use Rattle.pass_entry.specs.Limits.{kind_limit}
 use Rattle.pass_registry.specs.Openings.{file_object}
 use Rattle.pass_registry.specs.Tables.{count_in}
 use Rattle.pass_registry.proofs.Numbers.{single_next, few_next}
@@ -15,5 +16,5 @@ add-requires-clause-single c =
 
 pub add-requires-clause-few : goal.add-requires-clause-few
 add-requires-clause-few c =
-    ap (λ (objects : List (ℕ × Kind)). nat_le 1024 (count_in kind.File objects)) c.loop-file.invariant.objects
+    ap (λ (objects : List (ℕ × Kind)). nat_le kind_limit (count_in kind.File objects)) c.loop-file.invariant.objects
     ∙ few_next file_object c.args.table.now.objects c.args.files.now c.loop-file.file-index kind.File c.requires.few (omega arith)

@@ -1,0 +1,4 @@
+//! Which blocks of a file its syncs leave dirty.
+#![tactic(auto)]
+
+pub mod laws;

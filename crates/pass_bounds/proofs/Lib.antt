@@ -2,7 +2,7 @@ mod Arguments
 mod Charged
 mod Created
 mod Digested
-mod Images
+pub mod Images
 mod Lengths
 mod Numbers
 mod Ranges

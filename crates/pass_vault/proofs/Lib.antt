@@ -1,11 +1,9 @@
 pub mod Numbering
 pub mod Cleaning
 pub mod Longer
+pub mod Rooms
 pub mod Holding
 pub mod Keeping
 pub mod Handing
 pub mod Told
 pub mod Parted
-pub mod Behind
-pub mod Listing
-pub mod Seating

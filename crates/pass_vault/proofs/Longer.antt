@@ -1,24 +1,23 @@
 -- A vault that has seen more of the history.
-use Rattle.std.proofs.Common.{◌≡◌, ◌≤◌, ℕ, List, [], ◌∷◌, ◌++◌, length, take, sym, ◌∙◌, ap, subst, arith}
+use Rattle.std.proofs.Common.{◌≡◌, ◌+◌, ◌*◌, ◌≤◌, ℕ, List, [], ◌∷◌, ◌++◌, length, take, sym, ◌∙◌, ap, subst, arith}
 use Rattle.std.proofs.lemmas.List.{take-append-le}
 use mathlib.Core.List.{IsPrefix}
 use Rattle.pass_entry.specs.declared.entry.Entry.{Entry}
 use Rattle.pass_entry.specs.declared.record.Record.{Record}
 use Rattle.pass_outside.specs.Moments.{Moment}
-use Rattle.pass_plain.specs.Files.{file_after}
 use Rattle.pass_plain.specs.Legal.{IsLegal}
+use Rattle.pass_log.specs.Records.{spellings}
+use Rattle.pass_book.specs.Syncs.{durable}
 use Rattle.pass_plain.specs.Records.{records_of}
-use Rattle.pass_range.specs.Rows.{range}
-use Rattle.pass_range.specs.Sources.{row_source}
 use Rattle.pass_keep.specs.declared.keeper.Keeper.{Keeper}
-use Rattle.pass_keep.specs.Kept.{Story, records_to, source_to, range_to, AreParts}
+use Rattle.pass_keep.specs.Kept.{records_to, AreParts}
 use Rattle.pass_keep.proofs.Shown.{longer_shown}
 use Rattle.pass_vault.specs.Vaulted.{Vaulted, story_with}
+use Rattle.pass_vault.specs.Rooms.{first_place}
 use Rattle.pass_vault.specs.Vaults.{past_of, IsVault}
-use Rattle.pass_vault.specs.Cleaned.{IsDirtyAt, AreDirtyOf}
 
 -- the first entries of a history and of one that it begins
-front : (xs ys : List Entry) (n : ℕ) → IsPrefix xs ys → n ≤ length xs → take n ys ≡ take n xs
+pub front : (xs ys : List Entry) (n : ℕ) → IsPrefix xs ys → n ≤ length xs → take n ys ≡ take n xs
 front xs ys n pre le = ap (take n) (sym pre.1) ∙ take-append-le n xs pre.0 le
 
 -- its disk keeps it of the longer history
@@ -31,6 +30,15 @@ vault_longer view v k is seen pre legal =
           (record { sound = is.keeper.story.sound; tells = is.keeper.story.tells; legal = subst (IsLegal v.book.session) (sym pre.1) legal });
       durable = is.durable;
       late = is.late;
+      unstaged = is.unstaged;
+      roomy = record {
+        bounded = is.roomy.bounded;
+        room = λ healthy going.
+            let low : durable v.syncs ≤ length v.seen = let few = is.keeper.kept.within in omega (arith, few, is.durable) in
+            let same : records_to (story_with v (v.seen ++ pre.0)) (durable v.syncs) ≡ records_to (story_with v v.seen) (durable v.syncs) =
+            ap (records_of v.book.session) (take-append-le (durable v.syncs) v.seen pre.0 low) in
+            subst (λ (l : List Record). v.place ≤ first_place + 2 * length (spellings l)) (sym same) (is.roomy.room healthy going);
+      };
     })
 
 -- parts of the one are parts of the other
@@ -50,26 +58,3 @@ parts_longer v w xs ys session pre upto within (part ∷ parts) from le are = (
   where
     same : (n : ℕ) → n ≤ length xs → records_to (story_with w ys) n ≡ records_to (story_with v xs) n
     same n low = ap (λ s. records_of s (take n ys)) session ∙ ap (records_of v.book.session) (front xs ys n pre low)
-
--- and so are dirty blocks
-module _ (s : Story) (ys : List Entry) (pre : IsPrefix s.history ys) (file clean n : ℕ) (within : n ≤ length s.history) where
-  abbrev longer : Story
-  longer = record s { history = ys }
-
-  same_source : (block : ℕ) → source_to longer n file block ≡ source_to s n file block
-  same_source block = ap (λ (h : List Entry). row_source s.session h file block) (front s.history ys n pre within)
-
-  same_range : (block : ℕ) → range_to longer n file block ≡ range_to s n file block
-  same_range block = ap (λ (h : List Entry). range block (file_after s.session h file)) (front s.history ys n pre within)
-
-  dirty_on : (block : ℕ) → IsDirtyAt s file clean n block → IsDirtyAt longer file clean n block
-  dirty_on block d = record { at = d.at; source = same_source block ∙ d.source; unsynced = d.unsynced }
-
-  dirty_back : (block : ℕ) → IsDirtyAt longer file clean n block → IsDirtyAt s file clean n block
-  dirty_back block d = record { at = d.at; source = sym (same_source block) ∙ d.source; unsynced = d.unsynced }
-
-  pub dirty_longer : (blocks : List (ℕ × List ℕ)) → AreDirtyOf s file clean n blocks → AreDirtyOf longer file clean n blocks
-  dirty_longer blocks are = record {
-    each = λ i x at. let g = are.each i x at in (dirty_on x.0 g.0, g.1 ∙ sym (same_range x.0));
-    all = λ block d. are.all block (dirty_back block d);
-  }

@@ -1,5 +1,5 @@
 -- What a vault says of images, each as it is stated.
-use Rattle.std.proofs.Common.{◌≡◌, ◌<◌, ◌≤◌, ℕ, zero, suc, true, List, [], ◌∷◌, ◌++◌, length, map, IsTrue, Some, ⊎_elim, refl, sym, ◌∙◌, ap, subst, arith}
+use Rattle.std.proofs.Common.{◌≡◌, ◌<◌, ◌≤◌, ℕ, zero, suc, true, List, [], ◌∷◌, ◌++◌, length, map, IsTrue, Some, ⊎_elim, refl, sym, ◌∙◌, ap, subst, arith, false}
 use Rattle.std.specs.Prelude.{slice_get}
 use Rattle.std.proofs.lemmas.List.{map-append}
 use Rattle.pass_outside.specs.Areas.{Image}
@@ -14,15 +14,17 @@ use Rattle.pass_book.specs.declared.view.FileMark.{FileMark}
 use Rattle.pass_book.specs.declared.view.VaultSync.{VaultSync}
 use Rattle.pass_book.specs.Syncs.{IsRising, rising_from, AreNumbered}
 use Rattle.pass_keep.specs.declared.keeper.Keeper.{Keeper}
-use Rattle.pass_keep.specs.Kept.{Story, IsStory, Noted, Every, IsKeptSince, HasRecords, IsLeft, bound_of, list_to, source_to, range_to}
+use Rattle.pass_keep.specs.Kept.{Story, IsStory, Noted, Every, IsKeptSince, HasRecords, IsLeft, AreTimed, synced_of, bound_of, list_to, source_to, range_to}
 use Rattle.pass_keep.specs.Keepers.{disk_of, durable_of}
 use Rattle.pass_keep.proofs.Stories.{number_known, source_earlier, source_below}
-use Rattle.pass_keep.proofs.Shown.{since_shown, matched_shown, settled_shown}
+use Rattle.pass_keep.proofs.Shown.{since_shown, matched_shown, settled_shown, timed_shown}
 use Rattle.pass_vault.specs.Vaulted.{Vaulted, story_of, is_number, noted_of}
-use Rattle.pass_vault.specs.Vaults.{opening, past_of, IsVault}
-use Rattle.pass_vault.specs.Cleaned.{cleaned}
+use Rattle.pass_entry.specs.declared.entry.Synced.{Synced}
+use Rattle.pass_vault.specs.Vaults.{opening, past_of, handed_of, IsVault}
+use Rattle.pass_vault.proofs.Handing.{handed_each}
+use Rattle.pass_clean.specs.Cleaned.{is_dirty}
 use Rattle.pass_vault.proofs.Numbering.{number_same, number_from}
-use Rattle.pass_vault.proofs.Cleaning.{covered_all}
+use Rattle.pass_vault.proofs.Cleaning.{covered_all, all_clean}
 
 noted_at : (ss : List VaultSync) (i : ℕ) (x : VaultSync) → slice_get ss i ≡ Some x → slice_get (map noted_of ss) i ≡ Some (noted_of x)
 noted_at [] i x at = absurd (cc)
@@ -62,6 +64,20 @@ rising_last c k (s ∷ front) last up zero x at =
     at_end (y ∷ ys) = at_end ys
 rising_last c k (s ∷ front) last up (suc i) x at =
     let rest = rising_last s.calls s.entries front last up.2 i x at in (omega (arith, up.0, rest.0), rest.1)
+
+timed_rest : (m : Moment) (n : ℕ) (x : Synced) (xs : List Synced) → AreTimed m n (x ∷ xs) → AreTimed m n xs
+timed_rest m n x xs are = record {
+  earlier = λ i y at. are.earlier (suc i) y at;
+  within = λ i y at. are.within (suc i) y at;
+  rising = λ i j y z less one two. are.rising (suc i) (suc j) y z (omega (arith, less)) one two;
+}
+
+-- the syncs behind the opening's
+pub timed_told : {D : Type 0} (view : D → Moment) (v : Vaulted D) (k : Keeper D) → IsVault view v k → AreTimed (view (disk_of k)) (length v.seen) (map handed_of v.syncs)
+timed_told view v k is =
+    subst (AreTimed (view (disk_of k)) (length v.seen)) (handed_each v.syncs)
+    (timed_rest (view (disk_of k)) (length v.seen) (synced_of (opening v.ready)) (map synced_of (map noted_of v.syncs))
+    (subst (AreTimed (view (disk_of k)) (length v.seen)) is.keeper.syncs (timed_shown view (past_of v) k is.keeper)))
 
 module _ {D : Type 0} (view : D → Moment) (v : Vaulted D) (k : Keeper D) (is : IsVault view v k) (told : IsTrue (view (disk_of k)).tells) where
   abbrev s : Story
@@ -104,7 +120,7 @@ module _ {D : Type 0} (view : D → Moment) (v : Vaulted D) (k : Keeper D) (is :
 
     pub settled_told : ((t u : ℕ) (c : Image) → t ≤ u → (view (disk_of k)).left_since u c → (view (disk_of k)).left_since t c) → IsRising v.syncs
         → (front : List VaultSync) (last : VaultSync) → v.syncs ≡ front ++ last ∷ [] → last.entries ≡ length v.seen
-        → ((file block at : ℕ) → source_to s (length v.seen) file block ≡ Some at → at < cleaned file v.syncs)
+        → ((file block : ℕ) → block < 1024 → is_dirty v.book.session v.seen v.syncs file block ≡ false)
         → (c : Image) → (view (disk_of k)).left_since last.calls c
         → HasRecords (list_to s (length v.seen)) c.log
         × ((file block at : ℕ) → source_to s (length v.seen) file block ≡ Some at → IsUnmatched (list_to s (length v.seen)) c.store file block → ⊥)
@@ -114,8 +130,8 @@ module _ {D : Type 0} (view : D → Moment) (v : Vaulted D) (k : Keeper D) (is :
         settled_shown view (past_of v) k is.keeper less told (opening v.ready ∷ map noted_of front) (noted_of last) noted whole ordered
         (λ p block number at source known.
         let file = number_from s story p number known in
-        let same = covered_all s story v.ready p number file v.syncs numbered in
-        let low = clean p block at source in omega (arith, low, same))
+        let same = covered_all s story v.ready p number block file v.syncs numbered is.unstaged in
+        let low = all_clean s v.syncs clean p block at source in omega (arith, low, same))
         c left
       where
         last_at : (xs : List VaultSync) → slice_get (xs ++ last ∷ []) (length xs) ≡ Some last

@@ -1,5 +1,5 @@
 -- What a vault keeps between two calls (this project's own rule).
-use Rattle.std.specs.Prelude.{◌≡◌, ℕ, ◌≤◌, List, ◌∷◌, map}
+use Rattle.std.specs.Prelude.{◌≡◌, ℕ, ◌≤◌, List, ◌∷◌, map, None}
 use Rattle.std.specs.List.{All}
 use Rattle.pass_entry.specs.declared.entry.Synced.{Synced}
 use Rattle.pass_entry.specs.declared.record.Record.{Record}
@@ -13,6 +13,7 @@ use Rattle.pass_keep.specs.Kept.{Story, Noted}
 use Rattle.pass_keep.specs.Keepers.{Past, no_file, disk_of, log_of, durable_of, IsKeeper}
 use Rattle.pass_vault.specs.declared.opening.Opening.{Opening}
 use Rattle.pass_vault.specs.Vaulted.{Vaulted, story_of, noted_of}
+use Rattle.pass_vault.specs.Rooms.{IsRoomy}
 
 -- as it was opened, each crash from then on leaves the session's ceiling: the disk has a sync of no entry there
 abbrev pub opening : ℕ → Noted
@@ -26,15 +27,18 @@ pub record IsVault {D : Type 0} (view : D → Moment) (v : Vaulted D) (k : Keepe
   pub keeper : IsKeeper view (past_of v) k
   pub durable : durable_of k ≡ durable v.syncs
   pub late : All (λ s. v.ready ≤ s.calls) v.syncs
+  pub unstaged : All (λ s. s.staged ≡ None) v.syncs
+  pub roomy : IsRoomy (view v.disk) v
 
 -- its parts, as contracts see them
-abbrev pub valued : {D : Type 0} → Keeper D → VaultState → Opening → Vaulted D
-valued k seat o = record {
+abbrev pub valued : {D : Type 0} → (D → Moment) → Keeper D → VaultState → Opening D → Vaulted D
+valued view k seat o = record {
   book = seat.book;
   seen = seat.seen;
   syncs = seat.syncs;
   disk = disk_of k;
   before = o.before.value.items;
+  store = (view o.disk.value).seen.store;
   ceiling = o.ceiling;
   since = o.since;
   ready = o.ready;
@@ -43,8 +47,8 @@ valued k seat o = record {
 }
 
 -- the session with which it is opened
-abbrev pub begun_with : List Record → ℕ → VaultState → ℕ → Story
-begun_with before ceiling seat since = record { before = before; ceiling = ceiling; session = seat.book.session; history = seat.seen; start = since }
+abbrev pub begun_with : List Record → List ℕ → ℕ → VaultState → ℕ → Story
+begun_with before store ceiling seat since = record { before = before; ceiling = ceiling; session = seat.book.session; history = seat.seen; start = since; store = store }
 
 -- a sync as it is handed out
 abbrev pub handed_of : VaultSync → Synced

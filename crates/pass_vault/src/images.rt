@@ -3,25 +3,29 @@ use crate::Vault;
 use pass_outside::Disk;
 
 impl<D: Disk> Vault<D> {
-    ghost use Rattle.std.specs.Prelude.{◌≡◌, ◌++◌, ◌∷◌, ◌<◌, ◌≤◌, ℕ, List, [], length, slice_get, Some, IsTrue};
+    ghost use Rattle.std.specs.Prelude.{◌≡◌, ◌++◌, ◌∷◌, ◌<◌, ◌≤◌, ℕ, List, [], length, map, slice_get, Some, IsTrue, false};
+    ghost use Rattle.pass_entry.specs.Limits.{block_count};
     ghost use Rattle.pass_outside.specs.Areas.{Image};
     ghost use Rattle.pass_range.specs.Places.{place, Holds};
     ghost use Rattle.pass_range.specs.Rows.{IsUnmatched};
     ghost use Rattle.pass_book.specs.declared.view.FileMark.{FileMark};
     ghost use Rattle.pass_book.specs.declared.view.VaultSync.{VaultSync};
-    ghost use Rattle.pass_keep.specs.Kept.{HasRecords, IsLeft, IsBegun, bound_of, list_to, source_to, range_to};
+    ghost use Rattle.pass_keep.specs.Kept.{HasRecords, IsLeft, IsBegun, AreTimed, bound_of, list_to, source_to, range_to};
     ghost use Rattle.pass_vault.specs.Vaulted.{story_of, noted_of};
-    ghost use Rattle.pass_vault.specs.Cleaned.{cleaned};
+    ghost use Rattle.pass_vault.specs.Vaults.{handed_of};
+    ghost use Rattle.pass_clean.specs.Cleaned.{is_dirty};
 
     /// What follows for each image from the type alone. It does nothing.
     pub fn images(&self)
-        // Since the session began a crash leaves the records before it, or the session's with some of its entries.
+        // Since the session began a crash leaves what was there before it, or the session's records with some of its entries.
         ensures begun { IsBegun (story_of self.now) (D.view self.now.disk) }
         // Since the vault was opened it leaves the ceiling, and the records of some entries.
         ensures opened { IsTrue (D.view self.now.disk).tells → (c : Image) → (D.view self.now.disk).left_since self.now.ready c → IsLeft (story_of self.now) 0 (λ _. 0) c }
         // Since each sync it leaves at least the entries that were durable then.
         ensures since { IsTrue (D.view self.now.disk).tells → (i : ℕ) (x : VaultSync) → slice_get self.now.syncs i ≡ Some x
             → (c : Image) → (D.view self.now.disk).left_since x.calls c → IsLeft (story_of self.now) x.entries (bound_of (noted_of x)) c }
+        // The syncs that it hands out are of their moment.
+        ensures timed { AreTimed (D.view self.now.disk) (length self.now.seen) (map handed_of self.now.syncs) }
         // Each range of its file whose row comes from an entry below it is matched, and has the bytes of the image's entries.
         ensures matched { IsTrue (D.view self.now.disk).tells → (i : ℕ) (x : VaultSync) (f : FileMark) → slice_get self.now.syncs i ≡ Some x → x.file ≡ Some f
             → (c : Image) → (D.view self.now.disk).left_since x.calls c → (n : ℕ) → n ≤ length self.now.seen → HasRecords (list_to (story_of self.now) n) c.log
@@ -34,7 +38,7 @@ impl<D: Disk> Vault<D> {
             → Holds (place f.number block) (range_to (story_of self.now) x.entries f.pnode block) c.store × (IsUnmatched (list_to (story_of self.now) n) c.store f.pnode block → ⊥) }
         // Where the last sync has all entries, and no block is dirty, no range of this history is unmatched since then.
         ensures settled { IsTrue (D.view self.now.disk).tells → (front : List VaultSync) (last : VaultSync) → self.now.syncs ≡ front ++ last ∷ [] → last.entries ≡ length self.now.seen
-            → ((file block at : ℕ) → source_to (story_of self.now) (length self.now.seen) file block ≡ Some at → at < cleaned file self.now.syncs)
+            → ((file block : ℕ) → block < block_count → is_dirty self.now.book.session self.now.seen self.now.syncs file block ≡ false)
             → (c : Image) → (D.view self.now.disk).left_since last.calls c
             → HasRecords (list_to (story_of self.now) (length self.now.seen)) c.log
             × ((file block at : ℕ) → source_to (story_of self.now) (length self.now.seen) file block ≡ Some at → IsUnmatched (list_to (story_of self.now) (length self.now.seen)) c.store file block → ⊥) }

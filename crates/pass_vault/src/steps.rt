@@ -1,5 +1,6 @@
 //! What a vault does once it can no longer refuse: its disk, its seat and its opening lie beside each other.
-ghost use Rattle.std.specs.Prelude.{◌≡◌, ◌⊎◌, ◌+◌, ◌*◌, ◌<◌, ◌≤◌, ◌^◌, ◌++◌, ◌∷◌, [], ℕ, List, length, IsTrue, OnOk, OnErr, IfOk, IfErr};
+ghost use Rattle.std.specs.Prelude.{◌≡◌, ◌⊎◌, ◌+◌, ◌*◌, ◌<◌, ◌≤◌, ◌^◌, ◌++◌, ◌∷◌, [], ℕ, List, length, take, IsTrue, OnOk, OnErr, IfOk, IfErr};
+ghost use Rattle.std.specs.List.{All};
 ghost use Rattle.pass_entry.specs.declared.record.Record.{Record as AnyRecord};
 ghost use Rattle.pass_entry.specs.declared.record.Record.TheVariants.{Ceiling};
 ghost use Rattle.pass_entry.specs.Ranges.{IsInRange};
@@ -14,17 +15,19 @@ ghost use Rattle.pass_book.specs.Numbers.{IsFileNumber};
 ghost use Rattle.pass_book.specs.Syncs.{durable};
 ghost use Rattle.pass_book.specs.Tokens.{HasMet};
 ghost use Rattle.pass_keep.specs.Kept.{Story, IsStory, IsBegun, AreParts};
-ghost use Rattle.pass_keep.specs.Keepers.{disk_of, log_of, durable_of, IsKeeper, HasSpare, KeptSynced, KeptUnsynced};
+ghost use Rattle.pass_keep.specs.Keepers.{disk_of, log_of, durable_of, IsKeeper, HasSpare, GoesOn, Made, Failed, KeptSynced, KeptUnsynced};
 ghost use Rattle.pass_keep.specs.Dirty.{IsAscending, AreSized};
 ghost use Rattle.pass_keep.specs.Parts.{bytes_length, AreFrames};
 ghost use Rattle.pass_vault.specs.Vaulted.{story_of, story_with, flushed, file_synced};
+ghost use Rattle.pass_vault.specs.Rooms.{most_entries};
 ghost use Rattle.pass_vault.specs.Vaults.{valued, begun_with, IsVault};
-ghost use Rattle.pass_vault.specs.Cleaned.{cleaned, AreDirtyOf, IsRisingBy};
+ghost use Rattle.pass_clean.specs.Blocks.{AreDirty, IsRisingBy};
 ghost use Rattle.pass_vault.specs.Blocks.{AreBlocks, write_calls};
 
 use crate::opening::Opening;
 use crate::vault::Receipt;
 use pass_book::{Desk, Note, VaultSeat};
+use pass_bounds::laws::histories;
 use pass_entry::{Pnode, Synced};
 use pass_keep::{Block, KeepFault, Keeper};
 use pass_log::LogImage;
@@ -44,16 +47,17 @@ pub(crate) fn opened<D: Disk>(
     requires in_range { IsInRange (Ceiling ceiling) }
     requires image { IsRead (D.view disk) image.now }
     requires since { since ≤ (D.view disk).calls }
-    requires same { IsTrue (D.view disk).tells → (c : Image) → (D.view disk).left_since since c → c.log ≡ (D.view disk).seen.log }
+    requires same { IsTrue (D.view disk).tells → (c : Image) → (D.view disk).left_since since c → c ≡ (D.view disk).seen }
     requires room { image.now.end ≤ 2 ^ 38 }
-    ensures kept { IfOk result (λ k. IsKeeper D.view (record { story = begun_with image.now.list.items ceiling seat.now since; noted = [] }) k) }
+    ensures kept { IfOk result (λ k. IsKeeper D.view (record { story = begun_with image.now.list.items (D.view disk).seen.store ceiling seat.now since; noted = [] }) k) }
     ensures durable { IfOk result (λ k. durable_of k ≡ 0) }
     ensures healthy { IfOk result (λ k. (D.view (disk_of k)).faults ≡ (D.view disk).faults) }
     ensures place { IfOk result (λ k. log_end (log_of k) ≡ image.now.end + 14) }
     ensures opened { IfOk result (λ k. log_opened (log_of k) ≡ (D.view (disk_of k)).faults) }
-    ensures tells { IfOk result (λ k. (D.view (disk_of k)).tells ≡ (D.view disk).tells) }
-    ensures begun { IfErr result (λ e. IsBegun (begun_with image.now.list.items ceiling seat.now since) (D.view e.1)) }
-    ensures failed { IfErr result (λ e. ((e.0 ≡ KeepFault.DiskFault (D.view disk).faults (D.view e.1).faults) × (((D.view disk).faults < (D.view e.1).faults) ⊎ IsAtEnd (D.view e.1))) ⊎ (e.0 ≡ KeepFault.NoMemory)) }
+    ensures goes_on { IfOk result (λ k. GoesOn (D.view disk) (D.view (disk_of k))) }
+    ensures begun { IfErr result (λ e. IsBegun (begun_with image.now.list.items (D.view disk).seen.store ceiling seat.now since) (D.view e.1)) }
+    ensures failed { IfErr result (λ e. Failed (D.view disk).faults (D.view disk) (D.view e.1) e.0 ⊎ (e.0 ≡ KeepFault.NoMemory)) }
+    ensures stopped { IfErr result (λ e. GoesOn (D.view disk) (D.view e.1)) }
 {
     let _seen = seat.seen();
     open_as(alloc, disk, image, ceiling, seat, since)
@@ -69,21 +73,22 @@ fn open_as<D: Disk>(
     since: u64,
 ) -> Result<Keeper<D>, (KeepFault, D)>
     ghost story: { Story }
-    requires story { story ≡ begun_with image.now.list.items ceiling seat.now since }
+    requires story { story ≡ begun_with image.now.list.items (D.view disk).seen.store ceiling seat.now since }
     requires is_story { IsStory story }
     requires in_range { IsInRange (Ceiling ceiling) }
     requires image { IsRead (D.view disk) image.now }
     requires since { since ≤ (D.view disk).calls }
-    requires same { IsTrue (D.view disk).tells → (c : Image) → (D.view disk).left_since since c → c.log ≡ (D.view disk).seen.log }
+    requires same { IsTrue (D.view disk).tells → (c : Image) → (D.view disk).left_since since c → c ≡ (D.view disk).seen }
     requires room { image.now.end ≤ 2 ^ 38 }
     ensures kept { IfOk result (λ k. IsKeeper D.view (record { story = story; noted = [] }) k) }
     ensures durable { IfOk result (λ k. durable_of k ≡ 0) }
     ensures healthy { IfOk result (λ k. (D.view (disk_of k)).faults ≡ (D.view disk).faults) }
     ensures place { IfOk result (λ k. log_end (log_of k) ≡ image.now.end + 14) }
     ensures opened { IfOk result (λ k. log_opened (log_of k) ≡ (D.view (disk_of k)).faults) }
-    ensures tells { IfOk result (λ k. (D.view (disk_of k)).tells ≡ (D.view disk).tells) }
+    ensures goes_on { IfOk result (λ k. GoesOn (D.view disk) (D.view (disk_of k))) }
     ensures begun { IfErr result (λ e. IsBegun story (D.view e.1)) }
-    ensures failed { IfErr result (λ e. ((e.0 ≡ KeepFault.DiskFault (D.view disk).faults (D.view e.1).faults) × (((D.view disk).faults < (D.view e.1).faults) ⊎ IsAtEnd (D.view e.1))) ⊎ (e.0 ≡ KeepFault.NoMemory)) }
+    ensures failed { IfErr result (λ e. Failed (D.view disk).faults (D.view disk) (D.view e.1) e.0 ⊎ (e.0 ≡ KeepFault.NoMemory)) }
+    ensures stopped { IfErr result (λ e. GoesOn (D.view disk) (D.view e.1)) }
 {
     let _ = seat;
     let _ = since;
@@ -94,32 +99,29 @@ fn open_as<D: Disk>(
 pub(crate) fn advance<D: Disk>(
     keeper: &mut Keeper<D>,
     seat: &mut VaultSeat,
-    opening: &Opening,
+    opening: &Opening<D>,
     frames: &[Vec<u8>],
     upto: Note,
 ) -> Result<(), KeepFault>
-    requires kept { IsVault D.view (valued keeper.old seat.old opening.now) keeper.old }
+    requires kept { IsVault D.view (valued D.view keeper.old seat.old opening.now) keeper.old }
     requires one { upto.book ≡ seat.old.book }
     requires later { durable seat.old.syncs ≤ length upto.seen }
-    requires parts { (parts : List (List AnyRecord)) × AreParts (story_with (valued keeper.old seat.old opening.now) upto.seen) (durable seat.old.syncs) (length upto.seen) parts × AreFrames parts frames.now }
+    requires parts { (parts : List (List AnyRecord)) × AreParts (story_with (valued D.view keeper.old seat.old opening.now) upto.seen) (durable seat.old.syncs) (length upto.seen) parts × AreFrames parts frames.now × All (λ part. 0 < length part) parts }
     requires healthy { (D.view (disk_of keeper.old)).faults ≤ log_opened (log_of keeper.old) }
-    requires spare { HasSpare keeper.old }
-    requires room { log_end (log_of keeper.old) + bytes_length frames.now < 2 ^ 39 }
-    ensures kept { IsVault D.view (valued keeper.new seat.new opening.now) keeper.new }
+    requires spare { HasSpare 1 keeper.old }
+    requires few { length upto.seen ≤ most_entries }
+    ensures kept { IsVault D.view (valued D.view keeper.new seat.new opening.now) keeper.new }
     ensures done { OnOk result (seat.new ≡ record seat.old { seen = seat.new.seen; syncs = seat.old.syncs ++ flushed (D.view (disk_of keeper.new)).calls (length upto.seen) ∷ [] }) }
     ensures undone { OnErr result (seat.new ≡ record seat.old { seen = seat.new.seen }) }
     ensures met { HasMet (name role.Vault 0) seat.old.seen seat.old.syncs upto.seen upto.syncs seat.new.seen seat.old.syncs }
-    ensures failed { IfErr result (λ e. (e ≡ KeepFault.DiskFault (log_opened (log_of keeper.old)) (D.view (disk_of keeper.new)).faults)
-        × (((D.view (disk_of keeper.old)).faults < (D.view (disk_of keeper.new)).faults) ⊎ IsAtEnd (D.view (disk_of keeper.new)))) }
-    ensures healthy { OnOk result ((D.view (disk_of keeper.new)).faults ≡ (D.view (disk_of keeper.old)).faults) }
-    ensures calls { OnOk result ((D.view (disk_of keeper.new)).calls ≡ (D.view (disk_of keeper.old)).calls + 4 * length frames.now) }
+    ensures failed { IfErr result (Failed (log_opened (log_of keeper.old)) (D.view (disk_of keeper.old)) (D.view (disk_of keeper.new))) }
+    ensures made { OnOk result (Made (4 * length frames.now) (D.view (disk_of keeper.old)) (D.view (disk_of keeper.new))) }
     ensures opened { log_opened (log_of keeper.new) ≡ log_opened (log_of keeper.old) }
     ensures place { log_end (log_of keeper.new) ≤ log_end (log_of keeper.old) + bytes_length frames.now }
-    ensures tells { (D.view (disk_of keeper.new)).tells ≡ (D.view (disk_of keeper.old)).tells }
-    ensures rises { (D.view (disk_of keeper.old)).faults ≤ (D.view (disk_of keeper.new)).faults }
-    ensures later { (D.view (disk_of keeper.old)).calls ≤ (D.view (disk_of keeper.new)).calls }
+    ensures goes_on { GoesOn (D.view (disk_of keeper.old)) (D.view (disk_of keeper.new)) }
 {
     let _ = opening;
+    histories();
     let entries = upto.seen();
     seat.meet(upto);
     let _seen = seat.seen();
@@ -130,7 +132,7 @@ pub(crate) fn advance<D: Disk>(
 
 // Writes blocks and syncs the store area. Where there is none it makes no device call.
 fn put<D: Disk>(keeper: &mut Keeper<D>, blocks: &[Block<'_>]) -> Result<Synced, KeepFault>
-    requires spare { HasSpare keeper.old }
+    requires spare { HasSpare 1 keeper.old }
     requires ascending { IsAscending blocks.now }
     requires sized { AreSized blocks.now }
     ensures kept { OnOk result (KeptSynced D.view blocks.now keeper.old keeper.new) }
@@ -138,14 +140,10 @@ fn put<D: Disk>(keeper: &mut Keeper<D>, blocks: &[Block<'_>]) -> Result<Synced, 
     ensures sync { IfOk result (λ s. s ≡ record { calls = (D.view (disk_of keeper.new)).calls; entries = durable_of keeper.old }) }
     ensures durable { durable_of keeper.new ≡ durable_of keeper.old }
     ensures log { log_of keeper.new ≡ log_of keeper.old }
-    ensures failed { IfErr result (λ e. (e ≡ KeepFault.DiskFault (log_opened (log_of keeper.old)) (D.view (disk_of keeper.new)).faults)
-        × (((D.view (disk_of keeper.old)).faults < (D.view (disk_of keeper.new)).faults) ⊎ IsAtEnd (D.view (disk_of keeper.new)))) }
-    ensures healthy { OnOk result ((D.view (disk_of keeper.new)).faults ≡ (D.view (disk_of keeper.old)).faults) }
-    ensures calls { OnOk result ((D.view (disk_of keeper.new)).calls ≡ (D.view (disk_of keeper.old)).calls + write_calls (length blocks.now)) }
+    ensures failed { IfErr result (Failed (log_opened (log_of keeper.old)) (D.view (disk_of keeper.old)) (D.view (disk_of keeper.new))) }
+    ensures made { OnOk result (Made (write_calls (length blocks.now)) (D.view (disk_of keeper.old)) (D.view (disk_of keeper.new))) }
     ensures idle { length blocks.now ≡ 0 → disk_of keeper.new ≡ disk_of keeper.old }
-    ensures tells { (D.view (disk_of keeper.new)).tells ≡ (D.view (disk_of keeper.old)).tells }
-    ensures rises { (D.view (disk_of keeper.old)).faults ≤ (D.view (disk_of keeper.new)).faults }
-    ensures later { (D.view (disk_of keeper.old)).calls ≤ (D.view (disk_of keeper.new)).calls }
+    ensures goes_on { GoesOn (D.view (disk_of keeper.old)) (D.view (disk_of keeper.new)) }
 {
     if blocks.is_empty() {
         return Ok(keeper.clean());
@@ -158,32 +156,28 @@ fn put<D: Disk>(keeper: &mut Keeper<D>, blocks: &[Block<'_>]) -> Result<Synced, 
 pub(crate) fn save<D: Disk>(
     keeper: &mut Keeper<D>,
     seat: &mut VaultSeat,
-    opening: &Opening,
+    opening: &Opening<D>,
     desk: &mut Desk,
     number: u32,
     blocks: &[Block<'_>],
 ) -> Result<Receipt, KeepFault>
-    requires kept { IsVault D.view (valued keeper.old seat.old opening.now) keeper.old }
+    requires kept { IsVault D.view (valued D.view keeper.old seat.old opening.now) keeper.old }
     requires one { desk.old.book ≡ seat.old.book }
     requires number { IsFileNumber seat.old.book.session desk.old.seen desk.old.what number }
-    requires dirty { (given : List (ℕ × List ℕ)) × AreDirtyOf (story_of (valued keeper.old seat.old opening.now)) desk.old.what (cleaned desk.old.what desk.old.syncs) (durable seat.old.syncs) given
+    requires dirty { (given : List (ℕ × List ℕ)) × AreDirty seat.old.book.session (take (durable seat.old.syncs) seat.old.seen) desk.old.syncs desk.old.what given
         × IsRisingBy given × AreBlocks number given blocks.now }
-    requires spare { HasSpare keeper.old }
-    ensures kept { IsVault D.view (valued keeper.new seat.new opening.now) keeper.new }
+    requires spare { HasSpare 1 keeper.old }
+    ensures kept { IsVault D.view (valued D.view keeper.new seat.new opening.now) keeper.new }
     ensures done { OnOk result (seat.new ≡ record seat.old { seen = desk.new.seen; syncs = seat.old.syncs ++ file_synced desk.old.what number (D.view (disk_of keeper.new)).calls (durable seat.old.syncs) ∷ [] }) }
     ensures undone { OnErr result (seat.new ≡ record seat.old { seen = desk.new.seen }) }
     ensures desk { desk.new ≡ record desk.old { seen = desk.new.seen; syncs = seat.new.syncs } }
     ensures met { HasMet (name role.Desk desk.old.what) desk.old.seen desk.old.syncs seat.old.seen seat.old.syncs desk.new.seen seat.old.syncs }
     ensures receipt { IfOk result (λ r. r ≡ record { calls = (D.view (disk_of keeper.new)).calls; entries = durable seat.old.syncs }) }
-    ensures failed { IfErr result (λ e. (e ≡ KeepFault.DiskFault (log_opened (log_of keeper.old)) (D.view (disk_of keeper.new)).faults)
-        × (((D.view (disk_of keeper.old)).faults < (D.view (disk_of keeper.new)).faults) ⊎ IsAtEnd (D.view (disk_of keeper.new)))) }
-    ensures healthy { OnOk result ((D.view (disk_of keeper.new)).faults ≡ (D.view (disk_of keeper.old)).faults) }
-    ensures calls { OnOk result ((D.view (disk_of keeper.new)).calls ≡ (D.view (disk_of keeper.old)).calls + write_calls (length blocks.now)) }
+    ensures failed { IfErr result (Failed (log_opened (log_of keeper.old)) (D.view (disk_of keeper.old)) (D.view (disk_of keeper.new))) }
+    ensures made { OnOk result (Made (write_calls (length blocks.now)) (D.view (disk_of keeper.old)) (D.view (disk_of keeper.new))) }
     ensures idle { length blocks.now ≡ 0 → disk_of keeper.new ≡ disk_of keeper.old }
     ensures log { log_of keeper.new ≡ log_of keeper.old }
-    ensures tells { (D.view (disk_of keeper.new)).tells ≡ (D.view (disk_of keeper.old)).tells }
-    ensures rises { (D.view (disk_of keeper.old)).faults ≤ (D.view (disk_of keeper.new)).faults }
-    ensures later { (D.view (disk_of keeper.old)).calls ≤ (D.view (disk_of keeper.new)).calls }
+    ensures goes_on { GoesOn (D.view (disk_of keeper.old)) (D.view (disk_of keeper.new)) }
 {
     let _ = opening;
     seat.meet_desk(desk);

@@ -28,7 +28,7 @@ pub struct Receipt {
 pub struct Vault<D: Disk> {
     keeper: Keeper<D>,
     pub(crate) seat: VaultSeat,
-    opening: Opening,
+    opening: Opening<D>,
 }
 
 impl<D: Disk> Model for Vault<D> {
@@ -43,36 +43,41 @@ impl<D: Disk> Model for Vault<D> {
 
     ghost coded = { Prim.hlevel (codes, entry_type.the_row.coded, record_type.the_row.coded, start_type.the_row.coded) };
 
-    ghost view = { λ v. valued v.keeper v.seat v.opening };
+    ghost view = { λ v. valued D.view v.keeper v.seat v.opening };
 
-    ghost invariant = { λ v. IsVault D.view (valued v.keeper v.seat v.opening) v.keeper };
+    ghost invariant = { λ v. IsVault D.view (valued D.view v.keeper v.seat v.opening) v.keeper };
 }
 
 impl<D: Disk> Vault<D> {
-    ghost use Rattle.std.specs.Prelude.{◌≡◌, ◌⊎◌, ◌+◌, ◌*◌, ◌<◌, ◌≤◌, ◌^◌, ◌++◌, ◌∷◌, [], ℕ, length, map, IsTrue, OnOk, IfOk, IfErr, IsErrOf, Ok, Err};
+    ghost use Rattle.std.specs.Prelude.{◌≡◌, ◌⊎◌, ◌+◌, ◌*◌, ◌<◌, ◌≤◌, ◌^◌, ◌++◌, ◌∷◌, [], ℕ, length, take, map, IsTrue, OnOk, IfOk, IfErr, IsErrOf, Ok, Err};
     ghost use Rattle.std.specs.List.{All};
     ghost use Rattle.pass_entry.specs.declared.record.Record.TheVariants.{Ceiling};
     ghost use Rattle.pass_entry.specs.Ranges.{IsInRange};
     ghost use Rattle.pass_outside.specs.Areas.{Image};
     ghost use Rattle.pass_outside.specs.Moments.{IsAtEnd};
     ghost use Rattle.pass_log.specs.LogImage.{IsRead};
-    ghost use Rattle.pass_log.specs.Records.{spellings};
+    ghost use Rattle.pass_log.specs.Log.{append_calls};
+    ghost use Rattle.pass_log.specs.Records.{spellings, frame_length, ceiling_length};
     ghost use Rattle.pass_range.specs.Lawful.{Tells};
     ghost use Rattle.pass_book.specs.declared.view.Role.TheVariants as role;
     ghost use Rattle.pass_book.specs.Names.{name};
     ghost use Rattle.pass_book.specs.Numbers.{IsFileNumber};
-    ghost use Rattle.pass_book.specs.Syncs.{called, durable as durable_in};
+    ghost use Rattle.pass_plain.specs.Legal.{IsLegal};
+    ghost use Rattle.pass_plain.specs.Sound.{IsSound};
+    ghost use Rattle.pass_book.specs.Syncs.{called, durable as durable_in, AreNumbered};
     ghost use Rattle.pass_book.specs.Tokens.{HasMet};
     ghost use Rattle.pass_keep.specs.Kept.{IsBegun, AreParts, records_to};
+    ghost use Rattle.pass_keep.specs.Keepers.{GoesOn, Made};
     ghost use Rattle.pass_keep.specs.Parts.{lists_of, frames_length};
     ghost use Rattle.pass_vault.specs.Vaulted.{story_of, story_with, flushed, file_synced};
-    ghost use Rattle.pass_vault.specs.Cleaned.{cleaned, AreDirtyOf, IsRisingBy};
+    ghost use Rattle.pass_clean.specs.Blocks.{AreDirty, IsRisingBy};
+    ghost use Rattle.pass_vault.specs.Rooms.{most_entries};
     ghost use Rattle.pass_vault.specs.Vaults.{handed_of, begun_with};
     ghost use Rattle.pass_vault.specs.Batches.{parts_of};
     ghost use Rattle.pass_vault.specs.Blocks.{write_calls};
 
     /// Opens the vault of a session on a disk of which that image was read, and appends the session's ceiling as one frame.
-    /// `since` is a count of the disk's calls since which each crash leaves the log of the image. After a fault the seat is
+    /// `since` is a count of the disk's calls since which each crash leaves what the disk reads now. After a fault the seat is
     /// dropped, and the disk is handed back.
     pub fn open(
         alloc: Global,
@@ -87,7 +92,7 @@ impl<D: Disk> Vault<D> {
         requires in_range { IsInRange (Ceiling ceiling) }
         requires image { IsRead (D.view disk) image.now }
         requires since { since ≤ (D.view disk).calls }
-        requires same { IsTrue (D.view disk).tells → (c : Image) → (D.view disk).left_since since c → c.log ≡ (D.view disk).seen.log }
+        requires same { IsTrue (D.view disk).tells → (c : Image) → (D.view disk).left_since since c → c ≡ (D.view disk).seen }
         requires room { image.now.end ≤ 2 ^ 38 }
         ensures opened { IfOk result (λ v. v ≡ record {
           book = seat.book;
@@ -95,29 +100,33 @@ impl<D: Disk> Vault<D> {
           syncs = [];
           disk = v.disk;
           before = image.now.list.items;
+          store = (D.view disk).seen.store;
           ceiling = ceiling;
           since = since;
           ready = (D.view v.disk).calls;
           opened = (D.view disk).faults;
-          place = image.now.end + 14;
+          place = image.now.end + ceiling_length;
         }) }
         ensures healthy { IfOk result (λ v. (D.view v.disk).faults ≡ (D.view disk).faults) }
-        ensures tells { IfOk result (λ v. (D.view v.disk).tells ≡ (D.view disk).tells) }
-        // A crash at any moment since then leaves the records from before, or these and the ceiling.
-        ensures begun { IfErr result (λ e. IsBegun (begun_with image.now.list.items ceiling seat since) (D.view e.1)) }
+        ensures goes_on { IfOk result (λ v. GoesOn (D.view disk) (D.view v.disk)) }
+        // A crash at any moment since then leaves what was there before, or the records from before and the ceiling.
+        ensures begun { IfErr result (λ e. IsBegun (begun_with image.now.list.items (D.view disk).seen.store ceiling seat since) (D.view e.1)) }
         ensures failed { IfErr result (λ e. ((e.0 ≡ LogFault.DiskFault) × (((D.view disk).faults < (D.view e.1).faults) ⊎ IsAtEnd (D.view e.1))) ⊎ (e.0 ≡ LogFault.NoMemory)) }
+        ensures stopped { IfErr result (λ e. GoesOn (D.view disk) (D.view e.1)) }
     {
+        let first = Snapshot::of(&disk);
         let before = Snapshot::of(&image.list);
         let mut keeper = match opened(alloc, disk, image, ceiling, &seat, since) {
             Ok(keeper) => keeper,
             Err((fault, disk)) => return Err((log_fault(fault), disk)),
         };
-        if keeper.ready().is_err() {
+        if keeper.ready(1).is_err() {
             let (disk, _syncs) = keeper.into_disk();
             return Err((LogFault::NoMemory, disk));
         }
         let mark = keeper.clean();
         let opening = Opening {
+            disk: first,
             before,
             ceiling,
             since,
@@ -132,8 +141,13 @@ impl<D: Disk> Vault<D> {
 
     /// How many entries from the history's front are durable.
     pub fn durable(&self) -> u64
-        ensures { result ≡ durable_in self.now.syncs }
+        ensures durable { result ≡ durable_in self.now.syncs }
+        ensures within { durable_in self.now.syncs ≤ length self.now.seen }
+        ensures numbered { AreNumbered self.now.book.session self.now.seen self.now.syncs }
+        ensures legal { IsLegal self.now.book.session self.now.seen }
+        ensures sound { IsSound self.now.book.session }
     {
+        let _seen = self.seat.seen();
         self.keeper.durable()
     }
 
@@ -178,7 +192,7 @@ impl<D: Disk> Vault<D> {
         requires batch { records_to (story_with self.old upto.seen) (length upto.seen) ≡ records_to (story_with self.old upto.seen) (durable_in self.old.syncs) ++ batch.now }
         requires in_range { All IsInRange batch.now }
         requires size { length (spellings batch.now) < 2 ^ 32 }
-        requires room { self.old.place + 5 + length (spellings batch.now) < 2 ^ 39 }
+        requires few { length upto.seen ≤ most_entries }
         ensures done { OnOk result (self.new ≡ record self.old {
           seen = self.new.seen;
           disk = self.new.disk;
@@ -194,14 +208,11 @@ impl<D: Disk> Vault<D> {
         ensures broken { self.old.opened < (D.view self.old.disk).faults → (result ≡ Err (KeepFault.Broken self.old.opened (D.view self.old.disk).faults)) × (self.new ≡ self.old) }
         ensures only_broken { (opened now : ℕ) → IsErrOf result (KeepFault.Broken opened now) → self.old.opened < (D.view self.old.disk).faults }
         ensures no_memory { IsErrOf result KeepFault.NoMemory → self.new ≡ self.old }
-        ensures healthy { OnOk result ((D.view self.new.disk).faults ≡ (D.view self.old.disk).faults) }
-        ensures tells { (D.view self.new.disk).tells ≡ (D.view self.old.disk).tells }
-        ensures rises { (D.view self.old.disk).faults ≤ (D.view self.new.disk).faults }
-        ensures later { (D.view self.old.disk).calls ≤ (D.view self.new.disk).calls }
-        ensures calls { OnOk result ((D.view self.new.disk).calls ≡ (D.view self.old.disk).calls + 4 * length (parts_of batch.now)) }
-        ensures place { self.new.place ≤ self.old.place + 5 + length (spellings batch.now) }
+        ensures goes_on { GoesOn (D.view self.old.disk) (D.view self.new.disk) }
+        ensures made { OnOk result (Made (append_calls * length (parts_of batch.now)) (D.view self.old.disk) (D.view self.new.disk)) }
+        ensures place { self.new.place ≤ self.old.place + frame_length batch.now }
     {
-        self.keeper.ready()?;
+        self.keeper.ready(1)?;
         let frames = frames_of(alloc, batch)?;
         advance(
             &mut self.keeper,
@@ -224,7 +235,8 @@ impl<D: Disk> Vault<D> {
         requires parts { AreParts (story_with self.old upto.seen) (durable_in self.old.syncs) (length upto.seen) (lists_of parts.now) }
         requires in_range { All (λ part. All IsInRange part.items) parts.now }
         requires size { All (λ part. length (spellings part.items) < 2 ^ 32) parts.now }
-        requires room { self.old.place + frames_length parts.now < 2 ^ 39 }
+        requires some { All (λ part. 0 < length part.items) parts.now }
+        requires few { length upto.seen ≤ most_entries }
         ensures done { OnOk result (self.new ≡ record self.old {
           seen = self.new.seen;
           disk = self.new.disk;
@@ -240,14 +252,11 @@ impl<D: Disk> Vault<D> {
         ensures broken { self.old.opened < (D.view self.old.disk).faults → (result ≡ Err (KeepFault.Broken self.old.opened (D.view self.old.disk).faults)) × (self.new ≡ self.old) }
         ensures only_broken { (opened now : ℕ) → IsErrOf result (KeepFault.Broken opened now) → self.old.opened < (D.view self.old.disk).faults }
         ensures no_memory { IsErrOf result KeepFault.NoMemory → self.new ≡ self.old }
-        ensures healthy { OnOk result ((D.view self.new.disk).faults ≡ (D.view self.old.disk).faults) }
-        ensures tells { (D.view self.new.disk).tells ≡ (D.view self.old.disk).tells }
-        ensures rises { (D.view self.old.disk).faults ≤ (D.view self.new.disk).faults }
-        ensures later { (D.view self.old.disk).calls ≤ (D.view self.new.disk).calls }
-        ensures calls { OnOk result ((D.view self.new.disk).calls ≡ (D.view self.old.disk).calls + 4 * length parts.now) }
+        ensures goes_on { GoesOn (D.view self.old.disk) (D.view self.new.disk) }
+        ensures made { OnOk result (Made (append_calls * length parts.now) (D.view self.old.disk) (D.view self.new.disk)) }
         ensures place { self.new.place ≤ self.old.place + frames_length parts.now }
     {
-        self.keeper.ready()?;
+        self.keeper.ready(1)?;
         let frames = stage_all(alloc, parts)?;
         advance(
             &mut self.keeper,
@@ -272,7 +281,7 @@ impl<D: Disk> Vault<D> {
     ) -> Result<Receipt, VaultFault>
         requires one { desk.old.book ≡ self.old.book }
         requires number { IsFileNumber self.old.book.session desk.old.seen desk.old.what number }
-        requires dirty { AreDirtyOf (story_of self.old) desk.old.what (cleaned desk.old.what desk.old.syncs) (durable_in self.old.syncs) blocks.now }
+        requires dirty { AreDirty self.old.book.session (take (durable_in self.old.syncs) self.old.seen) desk.old.syncs desk.old.what blocks.now }
         requires ascending { IsRisingBy blocks.now }
         ensures done { OnOk result (self.new ≡ record self.old {
           seen = desk.new.seen;
@@ -291,14 +300,11 @@ impl<D: Disk> Vault<D> {
         ensures broken { self.old.opened < (D.view self.old.disk).faults → (result ≡ Err (KeepFault.Broken self.old.opened (D.view self.old.disk).faults)) × (self.new ≡ self.old) × (desk.new ≡ desk.old) }
         ensures only_broken { (opened now : ℕ) → IsErrOf result (KeepFault.Broken opened now) → self.old.opened < (D.view self.old.disk).faults }
         ensures no_memory { IsErrOf result KeepFault.NoMemory → (self.new ≡ self.old) × (desk.new ≡ desk.old) }
-        ensures healthy { OnOk result ((D.view self.new.disk).faults ≡ (D.view self.old.disk).faults) }
-        ensures calls { OnOk result ((D.view self.new.disk).calls ≡ (D.view self.old.disk).calls + write_calls (length blocks.now)) }
+        ensures made { OnOk result (Made (write_calls (length blocks.now)) (D.view self.old.disk) (D.view self.new.disk)) }
         ensures idle { length blocks.now ≡ 0 → self.new.disk ≡ self.old.disk }
-        ensures tells { (D.view self.new.disk).tells ≡ (D.view self.old.disk).tells }
-        ensures rises { (D.view self.old.disk).faults ≤ (D.view self.new.disk).faults }
-        ensures later { (D.view self.old.disk).calls ≤ (D.view self.new.disk).calls }
+        ensures goes_on { GoesOn (D.view self.old.disk) (D.view self.new.disk) }
     {
-        self.keeper.ready()?;
+        self.keeper.ready(1)?;
         let blocks = blocks_of(alloc, number, blocks)?;
         save(
             &mut self.keeper,

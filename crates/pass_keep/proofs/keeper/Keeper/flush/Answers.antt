@@ -13,7 +13,7 @@ returns-clause-made g c =
     let are = subst (AreFrames (lists_of c.args.parts.now)) (sym c.deref.ensures.value) c.in_ok-frames.ensures.frames in
     let made = c.in_ok-append.ensures.made in (
       made.0
-      ∙ ap (λ d. (g.D.Disk.view d).calls + 4 * length c.deref.result.now) c.ready.ensures.disk
-      ∙ ap (λ (n : ℕ). (g.D.Disk.view c.args.self.now.disk).calls + 4 * n) (frames_count c.args.parts.now c.deref.result.now are),
+          ∙ ap (λ d. (g.D.Disk.view d).calls + 4 * length c.deref.result.now) c.ready.ensures.disk
+          ∙ ap (λ (n : ℕ). (g.D.Disk.view c.args.self.now.disk).calls + 4 * n) (frames_count c.args.parts.now c.deref.result.now are),
       made.1 ∙ ap (λ d. (g.D.Disk.view d).faults) c.ready.ensures.disk,
     )

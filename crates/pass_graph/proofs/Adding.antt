@@ -1,5 +1,5 @@
 -- The tables of a list become those of the list with one more record.
-use Rattle.std.proofs.Common.{ℕ, ◌≡◌, ◌≤◌, ◌<◌, ◌+◌, ◌==◌, Bool, true, false, not, ◌&&◌, ◌||◌, refl, sym, ap, ◌∙◌, List, [], ◌∷◌, ◌++◌, length, arith, cond, min, subst}
+use Rattle.std.proofs.Common.{ℕ, ◌≡◌, ◌≤◌, ◌<◌, ◌+◌, ◌==◌, Bool, true, false, not, ◌&&◌, ◌||◌, refl, sym, ap, ◌∙◌, List, [], ◌∷◌, ◌++◌, length, arith, cond, min, subst, unwrap_or}
 use Rattle.std.specs.Prelude.{Option, Some, None, is_some, nat_eq, nat_lt, nat_le, bytes_eq, count_by, option_map, if◌then◌else◌}
 use Rattle.std.specs.Option.{option_map_or}
 use Rattle.std.specs.List.{list_any}
@@ -218,7 +218,7 @@ sources_reserved old list s sources inputs kept same = record {
 -- a new name
 
 abbrev Texts : Type 0
-Texts = HashMap ℕ (Vec ℕ Global) (BuildHasherDefault FoldHasher)
+Texts = HashMap ℕ (List ℕ) (BuildHasherDefault FoldHasher)
 
 abbrev Holders : Type 0
 Holders = HashMap (Vec ℕ Global) ℕ (BuildHasherDefault FoldHasher)
@@ -271,13 +271,13 @@ module _ (old : Logged) (list : List Record) (s : Summarizes old list) (p : ℕ)
     apps = s.apps;
     objects = s.objects;
     unknown = s.unknown;
-    names = λ q. ap (λ es. option_map_or (λ v. v.items) (lookup (nat_eq q) es) []) same ∙ s.names q;
+    names = λ q. ap (λ es. unwrap_or (lookup (nat_eq q) es) []) same ∙ s.names q;
     holders = held;
     sources = s.sources;
     inputs = s.inputs;
   }
 
-  pub name_added : (names : Texts) (own : Vec ℕ Global) → own.items ≡ name → ((q : ℕ) → get nat_eq names q ≡ cond (p == q) (Some own) (get nat_eq old.names q))
+  pub name_added : (names : Texts) (own : List ℕ) → own ≡ name → ((q : ℕ) → get nat_eq names q ≡ cond (p == q) (Some own) (get nat_eq old.names q))
       → Summarizes (record old { holders = holders; names = names }) (list ++ log.Name p name ∷ [])
   name_added names own is_own named = record {
     ceiling = s.ceiling ∙ sym (ceiling_more list (log.Name p name));
@@ -285,13 +285,13 @@ module _ (old : Logged) (list : List Record) (s : Summarizes old list) (p : ℕ)
     apps = s.apps ∙ nothing_more _ ∙ sym (count_more list (log.Name p name) (has_kind kind.App));
     objects = λ q. s.objects q ∙ sym (told_more list (log.Name p name) q);
     unknown = λ q none. let (one, nothing) = s.unknown q (sym (kind_more list (log.Name p name) q) ∙ none) in (version_more list (log.Name p name) q ∙ one, size_more list (log.Name p name) q ∙ nothing);
-    names = λ q. ap (λ o. option_map_or (λ v. v.items) o []) (named q) ∙ at_name (p == q) q ∙ sym (name_more list (log.Name p name) q);
+    names = λ q. ap (λ o. unwrap_or o []) (named q) ∙ at_name (p == q) q ∙ sym (name_more list (log.Name p name) q);
     holders = λ q. rw (name_more list (log.Name p name) q) (at_holder q (p == q) refl);
     sources = λ n. s.sources n ∙ sym (any_same list (log.Name p name) (has_source n) refl);
     inputs = λ t n. s.inputs t n ∙ sym (any_same list (log.Name p name) (is_input t n) refl);
   }
     where
-      at_name : (t : Bool) (q : ℕ) → option_map_or (λ v. v.items) (cond t (Some own) (get nat_eq old.names q)) [] ≡ (if t then name else last_name_of list q)
+      at_name : (t : Bool) (q : ℕ) → unwrap_or (cond t (Some own) (get nat_eq old.names q)) [] ≡ (if t then name else last_name_of list q)
       at_name true q = is_own
       at_name false q = s.names q
 

@@ -8,6 +8,7 @@ ghost use Rattle.std.specs.Option.{option_map_or};
 ghost use Rattle.pass_entry.specs.declared.objects.Node.{Node};
 ghost use Rattle.pass_plain.specs.Versions.{same_node};
 ghost use Rattle.pass_graph.specs.Check.{IsFlawOf};
+ghost use Rattle.pass_graph.specs.Logged.{Summarizes};
 
 use crate::logged::Logged;
 use pass_entry::{FlawReason, Node, Record};
@@ -41,17 +42,13 @@ impl From<AllocError> for CheckFault {
     }
 }
 
-/// Reads the list once: whether it is well logged, and then its ranks.
-pub fn check(alloc: Global, list: &[Record]) -> Result<Ranks, CheckFault>
+/// What the list says, in tables, where it is well logged.
+pub fn read(alloc: Global, list: &[Record]) -> Result<Logged, CheckFault>
     ensures ok { OnOk result (IsWellLogged list.now) }
+    ensures says { IfOk result (λ logged. Summarizes logged list.now) }
     ensures flaw { IfErr result (IsFlawOf list.now) }
-
-    ensures ranks { IfOk result (λ r. r.places.items ≡ ranks_of list.now) }
-    ensures falls { IfOk result (λ r. FallAlong list.now r.places.items) }
-    ensures acyclic { OnOk result (IsAcyclic list.now) }
 {
     let mut logged = Logged::new(alloc);
-    let mut ranking = Ranking::new(alloc);
     for (place, one) in list.iter().enumerate() {
         if let Some(reason) = logged.flaw(one) {
             return Err(CheckFault::Flaw {
@@ -60,13 +57,29 @@ pub fn check(alloc: Global, list: &[Record]) -> Result<Ranks, CheckFault>
             });
         }
         logged.add(one)?;
+    }
+    Ok(logged)
+}
+
+/// Whether the list is well logged, and then its ranks.
+pub fn check(alloc: Global, list: &[Record]) -> Result<Ranks, CheckFault>
+    ensures ok { OnOk result (IsWellLogged list.now) }
+    ensures flaw { IfErr result (IsFlawOf list.now) }
+
+    ensures ranks { IfOk result (λ r. r.places.items ≡ ranks_of list.now) }
+    ensures falls { IfOk result (λ r. FallAlong list.now r.places.items) }
+    ensures acyclic { OnOk result (IsAcyclic list.now) }
+{
+    read(alloc, list)?;
+    let mut ranking = Ranking::new(alloc);
+    for (place, one) in list.iter().enumerate() {
         ranking.add(one, place as u64)?;
     }
     let places = ranking.places(alloc, list.len() as u64)?;
     Ok(Ranks { places })
 }
 
-/// The node that the record makes.
+// The node that the record makes.
 fn made_node(one: &Record) -> Option<Node>
     ensures { result ≡ made_node one.now }
 {
@@ -80,7 +93,7 @@ fn made_node(one: &Record) -> Option<Node>
     }
 }
 
-/// The node that the record names as a source, or that its version ends.
+// The node that the record names as a source, or that its version ends.
 fn closed_node(one: &Record) -> Option<Node>
     ensures { (node : Node) → (has_source node one.now || begins_after node one.now) ≡ option_map_or (λ n. same_node n node) result false }
 {
@@ -94,8 +107,8 @@ fn closed_node(one: &Record) -> Option<Node>
     }
 }
 
-/// The nodes of the records so far, and for those that a record has named as a source or ended the place of the first
-/// such record.
+// The nodes of the records so far, and for those that a record has named as a source or ended the place of the first
+// such record.
 #[derive(Drop)]
 struct Ranking {
     nodes: Vec<Node>,
@@ -114,7 +127,7 @@ impl Ranking {
         }
     }
 
-    /// Takes the record at the place.
+    // Takes the record at the place.
     fn add(&mut self, one: &Record, place: u64) -> Result<(), AllocError>
         ensures { OnOk result ((list : List Record) → IsRankingOf list self.old → length list ≡ place
             → IsRankingOf (list ++ one.now ∷ []) self.new) }
@@ -126,7 +139,7 @@ impl Ranking {
         Ok(())
     }
 
-    /// The node that the record closes has the place, if it had none.
+    // The node that the record closes has the place, if it had none.
     fn close(&mut self, one: &Record, place: u64) -> Result<(), AllocError>
         ensures nodes { self.new.nodes ≡ self.old.nodes }
         ensures closed { OnOk result ((list : List Record) → AreFirst list self.old.closed → length list ≡ place
@@ -141,7 +154,7 @@ impl Ranking {
         Ok(())
     }
 
-    /// The nodes with their ranks; those without one have the list's length.
+    // The nodes with their ranks; those without one have the list's length.
     fn places(&self, alloc: Global, end: u64) -> Result<Vec<(Node, u64)>, AllocError>
         ensures { IfOk result (λ places. (list : List Record) → IsRankingOf list self.now → length list ≡ end → places.items ≡ ranks_of list) }
     {

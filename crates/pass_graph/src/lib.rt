@@ -6,8 +6,6 @@ pub mod bounds;
 mod checking;
 pub mod laws;
 mod logged;
-#[cfg(test)]
-mod tests;
 
-pub use checking::{CheckFault, Ranks, check};
+pub use checking::{CheckFault, Ranks, check, read};
 pub use logged::{Logged, Told};

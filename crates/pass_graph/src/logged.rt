@@ -1,24 +1,21 @@
 //! What a list of records says, in tables.
-ghost use Rattle.std.specs.Prelude.{◌≡◌, ℕ, List, IfSome, IfNone, OnOk, OnErr, Some, None, ◌∷◌, [], ◌++◌, length, ◌≤◌, ◌<◌, ◌&&◌, ◌||◌, not, nat_lt, nat_le, count_by, bytes_eq};
+ghost use Rattle.std.specs.Prelude.{◌≡◌, ℕ, List, IfOk, IfSome, IfNone, OnOk, OnErr, Some, None, ◌∷◌, [], ◌++◌, length, ◌≤◌, ◌<◌, ◌&&◌, ◌||◌, not, nat_lt, nat_le, count_by, bytes_eq};
 ghost use Rattle.std.specs.List.{list_any};
+ghost use Rattle.pass_entry.specs.Limits.{kind_limit};
 ghost use Rattle.pass_entry.specs.declared.record.Record.{Record};
 ghost use Rattle.pass_entry.specs.declared.record.Record.TheVariants as log;
 ghost use Rattle.pass_plain.specs.WellLogged.{ceiling_of, current_of, size_of, last_name_of, flaw_of, is_known, is_file_of, is_current, names_other, has_kind, has_source, is_input};
 ghost use Rattle.pass_plain.specs.Versions.{same_node};
 ghost use Rattle.pass_plain.specs.Registries.{is_limited};
+ghost use Rattle.pass_graph.specs.Logged.{name_in};
 
+use pass_entry::limits::{BLOCK_SIZE, KIND_LIMIT};
 use pass_entry::{FlawReason, Kind, Node, Pnode, Record, Text};
 use std::alloc::{AllocError, Global};
 use std::collections::{HashMap, HashSet};
 
 /// By how much a ceiling may rise at once.
 const CEILING_STEP: u64 = 8192;
-
-/// How many files a store may have, and how many objects of applications.
-const OBJECT_LIMIT: u32 = 1024;
-
-/// The size of a file's block in bytes.
-const BLOCK_SIZE: u64 = 4096;
 
 /// What a list of records says of one object.
 #[derive(Clone, Copy, Debug, PartialEq, Eq)]
@@ -38,7 +35,7 @@ pub struct Logged {
     files: u32,
     apps: u32,
     objects: HashMap<u64, Told>,
-    names: HashMap<u64, Vec<u8>>,
+    names: HashMap<u64, Text>,
     holders: HashMap<Vec<u8>, u64>,
     sources: HashSet<Node>,
     inputs: HashSet<(Node, Node)>,
@@ -76,6 +73,16 @@ impl Logged {
         ensures { (list : List Record) → Summarizes self.now list → result ≡ ceiling_of list }
     {
         self.ceiling
+    }
+
+    /// The object's last name, None where it has none or the empty one.
+    pub fn name(&self, pnode: Pnode) -> Result<Option<Text>, AllocError>
+        ensures { IfOk result (λ name. (list : List Record) → Summarizes self.now list → name ≡ name_in (last_name_of list pnode)) }
+    {
+        match self.names.get(&pnode.0) {
+            Some(name) => unless_empty(name),
+            None => Ok(None),
+        }
     }
 
     /// The first reason for which the record may not stand after the list.
@@ -117,12 +124,12 @@ impl Logged {
             → result ≡ bytes_eq (last_name_of list object) name.now }
     {
         match self.names.get(&object) {
-            Some(own) => own.as_slice() == name,
+            Some(own) => own.as_bytes() == name,
             None => name.is_empty(),
         }
     }
 
-    /// Whether a file other than this one has the name.
+    // Whether a file other than this one has the name.
     fn is_other(&self, pnode: Pnode, name: &[u8]) -> bool
         ensures { (list : List Record) → Summarizes self.now list
             → result ≡ (nat_lt 0 (length name.now) && list_any (names_other list pnode name.now) list) }
@@ -166,7 +173,7 @@ impl Logged {
     }
 
     /// The current version, 1 for an object that the list doesn't have.
-    fn version(&self, pnode: Pnode) -> u64
+    pub fn version(&self, pnode: Pnode) -> u64
         ensures { (list : List Record) → Summarizes self.now list → result ≡ current_of list pnode }
     {
         match self.object(pnode) {
@@ -181,7 +188,7 @@ impl Logged {
         node.version == self.version(node.pnode)
     }
 
-    /// The size, 0 for an object that the list doesn't have.
+    // The size, 0 for an object that the list doesn't have.
     fn size(&self, pnode: Pnode) -> u64
         ensures { (list : List Record) → Summarizes self.now list → result ≡ size_of list pnode }
     {
@@ -191,14 +198,14 @@ impl Logged {
         }
     }
 
-    /// There are as many objects of the kind as there may be.
+    // There are as many objects of the kind as there may be.
     fn is_full(&self, kind: Kind) -> bool
         ensures { (list : List Record) → Summarizes self.now list
-            → result ≡ (is_limited kind && nat_le 1024 (count_by (has_kind kind) list)) }
+            → result ≡ (is_limited kind && nat_le kind_limit (count_by (has_kind kind) list)) }
     {
         match kind {
-            Kind::File => self.files >= OBJECT_LIMIT,
-            Kind::App => self.apps >= OBJECT_LIMIT,
+            Kind::File => self.files >= KIND_LIMIT,
+            Kind::App => self.apps >= KIND_LIMIT,
             Kind::Process | Kind::Pipe => false,
         }
     }
@@ -229,7 +236,7 @@ impl Logged {
         }
     }
 
-    /// Whether the list doesn't have the object, or the object hasn't come to the version.
+    // Whether the list doesn't have the object, or the object hasn't come to the version.
     fn is_to_come(&self, node: Node) -> bool
         ensures { (list : List Record) → Summarizes self.now list
             → result ≡ (not (is_known list node.pnode) || nat_lt (current_of list node.pnode) node.version) }
@@ -240,7 +247,7 @@ impl Logged {
         }
     }
 
-    /// Whether an input from the source has the target as a source already, or as its own.
+    // Whether an input from the source has the target as a source already, or as its own.
     fn is_source(&self, target: &Node, source: &Node) -> bool
         ensures { (list : List Record) → Summarizes self.now list
             → result ≡ (list_any (has_source target.now) list || same_node target.now source.now) }
@@ -329,7 +336,7 @@ impl Logged {
     {
         match one {
             Record::Object { pnode, kind } => self.add_object(pnode.0, *kind),
-            Record::Name { pnode, name } => self.add_name(pnode.0, name.as_bytes()),
+            Record::Name { pnode, name } => self.add_name(pnode.0, name),
             Record::Input { target, source } => self.add_input(target, source),
             Record::Version { node } => {
                 self.add_version(*node);
@@ -391,14 +398,14 @@ impl Logged {
         self.ceiling = pnode.0;
     }
 
-    fn add_name(&mut self, pnode: u64, name: &[u8]) -> Result<(), AllocError>
+    fn add_name(&mut self, pnode: u64, name: &Text) -> Result<(), AllocError>
         ensures ok { OnOk result ((list : List Record) → Summarizes self.old list → flaw_of list (log.Name pnode name.now) ≡ None
             → Summarizes self.new (list ++ log.Name pnode name.now ∷ [])) }
         ensures err { OnErr result ((list : List Record) → Summarizes self.old list → flaw_of list (log.Name pnode name.now) ≡ None
             → Summarizes self.new list) }
     {
-        let key = Vec::from_slice(self.alloc, name)?;
-        let own = Vec::from_slice(self.alloc, name)?;
+        let key = Vec::from_slice(self.alloc, name.as_bytes())?;
+        let own = name.clone()?;
         self.holders.insert(key, pnode)?;
         self.names.insert(pnode, own)?;
         Ok(())
@@ -414,4 +421,14 @@ impl Logged {
         let _ = self.sources.insert(*source);
         Ok(())
     }
+}
+
+// The name, None where it is empty.
+fn unless_empty(name: &Text) -> Result<Option<Text>, AllocError>
+    ensures { IfOk result (λ own. own ≡ name_in name.now) }
+{
+    if name.as_bytes().is_empty() {
+        return Ok(None);
+    }
+    Ok(Some(name.clone()?))
 }

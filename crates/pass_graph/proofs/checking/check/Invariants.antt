@@ -1,13 +1,6 @@
-use Rattle.std.proofs.Common.{◌≡◌, take}
-use Rattle.pass_plain.specs.WellLogged.{first_flaw, first_flaw_after}
-use Rattle.std.specs.Prelude.{drop}
+use Rattle.std.proofs.Common.{take}
 use Rattle.pass_graph.specs.Check.{IsRankingOf}
-use Rattle.pass_graph.specs.Logged.{Summarizes}
 use Rattle.pass_graph.proofs.checking.check.Given as goal
 
 abbrev pub invariant-loop-place : goal.invariant-loop-place
-invariant-loop-place l = record {
-  logged : Summarizes l.logged (take l.place l.list);
-  ranking : IsRankingOf (take l.place l.list) l.ranking;
-  rest : first_flaw l.list ≡ first_flaw_after (take l.place l.list) (drop l.place l.list);
-}
+invariant-loop-place l = IsRankingOf (take l.place l.list) l.ranking

@@ -8,7 +8,7 @@ use Rattle.pass_plain.specs.Versions.{same_node}
 use Rattle.pass_graph.proofs.Noding.{same_node_is}
 use Rattle.pass_waldo.specs.declared.edges.Edges.{Edges}
 use Rattle.pass_waldo.specs.declared.edges.Row.{Row}
-use Rattle.pass_waldo.specs.Edges.{parents_of, children_of, AreSame, HasRoom, HasParentRoom, HasChildRoom}
+use Rattle.pass_waldo.specs.Edges.{parents_of, children_of, HaveSameEdges, HasRoom, HasParentRoom, HasChildRoom}
 
 -- the node's row is now this one, and every other row is as before
 abbrev pub Writes : Edges → Edges → Node → Row → Type 0
@@ -38,7 +38,7 @@ module _ (old new : Edges) (node : Node) (had row : Row) (was : Some had ≡ get
   pub children_stay : row.children.items ≡ had.children.items → (n : Node) → children_of new n ≡ children_of old n
   children_stay same = stays (λ r. r.children.items) [] same
 
-  pub rows_stay : row.parents.items ≡ had.parents.items → row.children.items ≡ had.children.items → AreSame old new
+  pub rows_stay : row.parents.items ≡ had.parents.items → row.children.items ≡ had.children.items → HaveSameEdges old new
   rows_stay p c = record { parents = parents_stay p; children = children_stay c }
 
   -- room that a row and the written one both have, all nodes keep
@@ -68,7 +68,7 @@ module _ (old new : Edges) (node : Node) (row : Row) (lacks : is_some (get same_
       at_test true is = is_none ∙ ap (λ o. option_map_or f o none) (sym (none_at (get same_node old.rows node) lacks) ∙ ap (get same_node old.rows) (same_node_is node n is))
       at_test false is = refl
 
-  pub row_made : row.parents.items ≡ [] → row.children.items ≡ [] → AreSame old new
+  pub row_made : row.parents.items ≡ [] → row.children.items ≡ [] → HaveSameEdges old new
   row_made p c = record { parents = empty (λ r. r.parents.items) [] p; children = empty (λ r. r.children.items) [] c }
 
   made_keeps : (P : Row → Type 0) → (n : Node) → IsSomeAnd (get same_node old.rows n) P → IsSomeAnd (get same_node new.rows n) P

@@ -23,7 +23,7 @@ use Rattle.pass_graph.proofs.Noding.{same_node_is, same_node_equiv}
 use Rattle.pass_waldo.specs.Orders.{node_cmp}
 use Rattle.pass_waldo.specs.Lookups.{AreAll, value_in, values_in}
 use Rattle.pass_waldo.specs.Edges.{parents_of, children_of}
-use Rattle.pass_waldo.specs.Texts.{files_of, values_of}
+use Rattle.pass_waldo.specs.Texts.{files_named, values_of}
 use Rattle.pass_waldo.specs.Index.{AreEdges, AreTexts, IsIndex, MakesEdge, IsQuiet}
 use Rattle.pass_waldo.specs.declared.edges.Edges.{Edges}
 use Rattle.pass_waldo.specs.declared.texts.Texts.{Texts}
@@ -68,7 +68,7 @@ module _ {X : Type 0} {cmp : X → X → Ordering} where
 none_logged : (r : Record) → Contains [] r → ⊥
 none_logged r h = nothing_in r h
 
-pub none_indexed : (edges : Edges) (texts : Texts) → ((n : Node) → parents_of edges n ≡ []) → ((n : Node) → children_of edges n ≡ []) → ((n : List ℕ) → files_of texts n ≡ []) → ((n : List ℕ) → values_of texts n ≡ [])
+pub none_indexed : (edges : Edges) (texts : Texts) → ((n : Node) → parents_of edges n ≡ []) → ((n : Node) → children_of edges n ≡ []) → ((n : List ℕ) → files_named texts n ≡ []) → ((n : List ℕ) → values_of texts n ≡ [])
     → IsIndex (record { taken = []; edges = edges; texts = texts })
 none_indexed edges texts parents children files values = record {
   edges = record {
@@ -76,7 +76,7 @@ none_indexed edges texts parents children files values = record {
     children = λ n. nothing (children_of edges n) (λ t. IsEdge [] t n) (children n) (λ t e. no_edge t n e);
   };
   texts = record {
-    files = λ name. nothing (files_of texts name) (λ p. Contains [] (log.Name p name)) (files name) (λ p h. none_logged (log.Name p name) h);
+    files = λ name. nothing (files_named texts name) (λ p. Contains [] (log.Name p name)) (files name) (λ p h. none_logged (log.Name p name) h);
     values = values;
   };
 }
@@ -175,11 +175,11 @@ module _ (list : List Record) (r : Record) where
 
   pub texts_stay : ((p : ℕ) (name : List ℕ) → r ≡ log.Name p name → ⊥) → ((attr : List ℕ) → value_in attr r ≡ None) → (texts : Texts) → AreTexts list texts → AreTexts more texts
   texts_stay no_name quiet texts are = record {
-    files = λ name. quiet_files no_name name (files_of texts name) (are.files name);
+    files = λ name. quiet_files no_name name (files_named texts name) (are.files name);
     values = λ attr. are.values attr ∙ sym (quiet_values quiet attr);
   }
 
-  pub name_added : (p : ℕ) (name : List ℕ) → r ≡ log.Name p name → (texts put : Texts) → ((n : List ℕ) → files_of put n ≡ (if bytes_eq name n then insert_key nat_cmp (files_of texts n) p else files_of texts n)) → ((n : List ℕ) → values_of put n ≡ values_of texts n)
+  pub name_added : (p : ℕ) (name : List ℕ) → r ≡ log.Name p name → (texts put : Texts) → ((n : List ℕ) → files_named put n ≡ (if bytes_eq name n then insert_key nat_cmp (files_named texts n) p else files_named texts n)) → ((n : List ℕ) → values_of put n ≡ values_of texts n)
       → AreTexts list texts → AreTexts more put
   name_added p name is texts put files values are = record {
     files = λ n. subst (λ row. AreAll nat_cmp row (λ q. Contains more (log.Name q n))) (sym (files n)) (at_files n (bytes_eq name n) refl);
@@ -189,20 +189,20 @@ module _ (list : List Record) (r : Record) where
       old_name : (n : List ℕ) (q : ℕ) → Contains list (log.Name q n) → Contains more (log.Name q n)
       old_name n q h = Contains-append_left list (r ∷ []) (log.Name q n) h
 
-      at_files : (n : List ℕ) (c : Bool) → bytes_eq name n ≡ c → AreAll nat_cmp (if c then insert_key nat_cmp (files_of texts n) p else files_of texts n) (λ q. Contains more (log.Name q n))
+      at_files : (n : List ℕ) (c : Bool) → bytes_eq name n ≡ c → AreAll nat_cmp (if c then insert_key nat_cmp (files_named texts n) p else files_named texts n) (λ q. Contains more (log.Name q n))
       at_files n true same =
           let here : name ≡ n = (bytes_eq-Decides name n).0 same in
-          one_more nat_cmp_total exact_unsigned (files_of texts n) p (λ q. Contains list (log.Name q n)) (λ q. Contains more (log.Name q n)) (old_name n)
+          one_more nat_cmp_total exact_unsigned (files_named texts n) p (λ q. Contains list (log.Name q n)) (λ q. Contains more (log.Name q n)) (old_name n)
           (subst (λ x. Contains more x) (is ∙ ap (log.Name p) here) (Contains-push list r))
           (λ q h. elim (Contains-push_cases list r (log.Name q n) h) [ inl old ↦ inl old | inr at ↦ inr (let z : log.Name p name ≡ log.Name q n = sym is ∙ at in let e : p ≡ q = cc in e) ]) (are.files n)
       at_files n false differ =
-          alike (files_of texts n) (λ q. Contains list (log.Name q n)) (λ q. Contains more (log.Name q n)) (old_name n)
+          alike (files_named texts n) (λ q. Contains list (log.Name q n)) (λ q. Contains more (log.Name q n)) (old_name n)
           (λ q h. elim (Contains-push_cases list r (log.Name q n) h) [ inl old ↦ old | inr at ↦ absurd (let z : log.Name p name ≡ log.Name q n = sym is ∙ at in let e : name ≡ n = cc in let y : true ≡ false = sym ((bytes_eq-Decides name n).1 e) ∙ differ in cc) ]) (are.files n)
 
-  pub value_added : (n : Node) (attr value : List ℕ) → r ≡ log.Attr n attr value → (texts put : Texts) → ((a : List ℕ) → values_of put a ≡ (if bytes_eq attr a then values_of texts a ++ (n, value) ∷ [] else values_of texts a)) → ((a : List ℕ) → files_of put a ≡ files_of texts a)
+  pub value_added : (n : Node) (attr value : List ℕ) → r ≡ log.Attr n attr value → (texts put : Texts) → ((a : List ℕ) → values_of put a ≡ (if bytes_eq attr a then values_of texts a ++ (n, value) ∷ [] else values_of texts a)) → ((a : List ℕ) → files_named put a ≡ files_named texts a)
       → AreTexts list texts → AreTexts more put
   value_added n attr value is texts put values files are = record {
-    files = λ name. subst (λ row. AreAll nat_cmp row (λ q. Contains more (log.Name q name))) (sym (files name)) (quiet_files (λ p m at. let z : log.Attr n attr value ≡ log.Name p m = sym is ∙ at in cc) name (files_of texts name) (are.files name));
+    files = λ name. subst (λ row. AreAll nat_cmp row (λ q. Contains more (log.Name q name))) (sym (files name)) (quiet_files (λ p m at. let z : log.Attr n attr value ≡ log.Name p m = sym is ∙ at in cc) name (files_named texts name) (are.files name));
     values = λ a. values a ∙ at_values a (bytes_eq attr a) refl ∙ sym (values_next a ∙ ap (λ o. values_in list a ++ cons_option o []) (ap (value_in a) is));
   }
     where

@@ -13,7 +13,7 @@ use Rattle.std.proofs.lemmas.Slice.Eq.{bytes_eq-Decides}
 use Rattle.pass_entry.specs.declared.objects.Node.{Node}
 use Rattle.pass_waldo.specs.declared.texts.Texts.{Texts}
 use Rattle.pass_waldo.specs.declared.texts.Row.{Row}
-use Rattle.pass_waldo.specs.Texts.{is_text, files_of, values_of, AreSame}
+use Rattle.pass_waldo.specs.Texts.{is_text, files_named, values_of, NameTheSame}
 
 abbrev pub same_key : Vec ℕ Global → Vec ℕ Global → Bool
 same_key a b = bytes_eq a.items b.items
@@ -54,16 +54,16 @@ module _ (old new : Texts) (name : List ℕ) (had row : Row) (was : Some had ≡
       at_test true same = is ∙ ap (λ o. to (option_map_or f o none)) (was ∙ ap (λ x. get_by (is_text x) old.rows) ((bytes_eq-Decides name n).0 same))
       at_test false differ = refl
 
-  pub files_stay : row.files.items ≡ had.files.items → (n : List ℕ) → files_of new n ≡ files_of old n
+  pub files_stay : row.files.items ≡ had.files.items → (n : List ℕ) → files_named new n ≡ files_named old n
   files_stay same = stays (λ r. r.files.items) [] same
 
   pub values_stay : row.values.items ≡ had.values.items → (n : List ℕ) → values_of new n ≡ values_of old n
   values_stay same = stays (λ r. r.values.items) [] same
 
-  pub rows_stay : row.files.items ≡ had.files.items → row.values.items ≡ had.values.items → AreSame old new
+  pub rows_stay : row.files.items ≡ had.files.items → row.values.items ≡ had.values.items → NameTheSame old new
   rows_stay f v = record { files = files_stay f; values = values_stay v }
 
-  pub files_change : (to : List ℕ → List ℕ) → row.files.items ≡ to had.files.items → (n : List ℕ) → files_of new n ≡ (if bytes_eq name n then to (files_of old n) else files_of old n)
+  pub files_change : (to : List ℕ → List ℕ) → row.files.items ≡ to had.files.items → (n : List ℕ) → files_named new n ≡ (if bytes_eq name n then to (files_named old n) else files_named old n)
   files_change to is = changes (λ r. r.files.items) [] to is
 
   pub values_change : (to : List (Node × List ℕ) → List (Node × List ℕ)) → row.values.items ≡ to had.values.items → (n : List ℕ) → values_of new n ≡ (if bytes_eq name n then to (values_of old n) else values_of old n)
@@ -82,5 +82,5 @@ module _ (old new : Texts) (name : List ℕ) (row : Row) (lacks : is_some (get_b
       at_test true is = is_none ∙ ap (λ o. option_map_or f o none) (sym (none_at (get_by (is_text name) old.rows) lacks) ∙ ap (λ x. get_by (is_text x) old.rows) ((bytes_eq-Decides name n).0 is))
       at_test false is = refl
 
-  pub row_made : row.files.items ≡ [] → row.values.items ≡ [] → AreSame old new
+  pub row_made : row.files.items ≡ [] → row.values.items ≡ [] → NameTheSame old new
   row_made f v = record { files = empty (λ r. r.files.items) [] f; values = empty (λ r. r.values.items) [] v }

@@ -13,7 +13,7 @@ abbrev pub children_of : Edges → Node → List Node
 children_of edges node = option_map_or (λ row. row.children.items) (get same_node edges.rows node) []
 
 -- each node has the same edges
-pub record AreSame (old new : Edges) : Type 0 where
+pub record HaveSameEdges (old new : Edges) : Type 0 where
   pub parents : (node : Node) → parents_of new node ≡ parents_of old node
   pub children : (node : Node) → children_of new node ≡ children_of old node
 

@@ -7,7 +7,7 @@ use Rattle.pass_entry.specs.declared.record.Record.TheVariants as log
 use Rattle.pass_plain.specs.Graphs.{IsEdge}
 use Rattle.pass_waldo.specs.Orders.{node_cmp}
 use Rattle.pass_waldo.specs.Edges.{parents_of, children_of}
-use Rattle.pass_waldo.specs.Texts.{files_of, values_of}
+use Rattle.pass_waldo.specs.Texts.{files_named, values_of}
 use Rattle.pass_waldo.specs.Lookups.{AreAll, values_in}
 use Rattle.pass_waldo.specs.declared.edges.Edges.{Edges}
 use Rattle.pass_waldo.specs.declared.texts.Texts.{Texts}
@@ -20,7 +20,7 @@ pub record AreEdges (list : List Record) (edges : Edges) : Type 0 where
 
 -- and so are those of texts
 pub record AreTexts (list : List Record) (texts : Texts) : Type 0 where
-  pub files : (name : List ℕ) → AreAll nat_cmp (files_of texts name) (λ p. Contains list (log.Name p name))
+  pub files : (name : List ℕ) → AreAll nat_cmp (files_named texts name) (λ p. Contains list (log.Name p name))
   pub values : (attr : List ℕ) → values_of texts attr ≡ values_in list attr
 
 pub record IsIndex (i : Inside) : Type 0 where

@@ -10,15 +10,15 @@ use Rattle.pass_waldo.specs.declared.texts.Texts.{Texts}
 abbrev pub is_text : List ℕ → Vec ℕ Global → Bool
 is_text name key = bytes_eq name key.items
 
-abbrev pub files_of : Texts → List ℕ → List ℕ
-files_of texts name = option_map_or (λ row. row.files.items) (get_by (is_text name) texts.rows) []
+abbrev pub files_named : Texts → List ℕ → List ℕ
+files_named texts name = option_map_or (λ row. row.files.items) (get_by (is_text name) texts.rows) []
 
 abbrev pub values_of : Texts → List ℕ → List (Node × List ℕ)
 values_of texts attr = option_map_or (λ row. row.values.items) (get_by (is_text attr) texts.rows) []
 
 -- each text names the same
-pub record AreSame (old new : Texts) : Type 0 where
-  pub files : (name : List ℕ) → files_of new name ≡ files_of old name
+pub record NameTheSame (old new : Texts) : Type 0 where
+  pub files : (name : List ℕ) → files_named new name ≡ files_named old name
   pub values : (attr : List ℕ) → values_of new attr ≡ values_of old attr
 
 -- a file, or a value, may be put into the text's row without taking memory

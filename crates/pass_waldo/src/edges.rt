@@ -12,7 +12,7 @@ use pass_entry::Node;
 use std::alloc::{AllocError, Global};
 use std::collections::HashMap;
 
-/// The nodes to which a node has an edge, and those that have one to it, each in ascending order.
+// The nodes to which a node has an edge, and those that have one to it, each in ascending order.
 #[derive(Drop)]
 struct Row {
     parents: Vec<Node>,
@@ -26,7 +26,7 @@ pub(crate) struct Edges {
 }
 
 impl Edges {
-    ghost use Rattle.pass_waldo.specs.Edges.{parents_of, children_of, AreSame, HasRoom, HasParentRoom, HasChildRoom};
+    ghost use Rattle.pass_waldo.specs.Edges.{parents_of, children_of, HaveSameEdges, HasRoom, HasParentRoom, HasChildRoom};
 
     pub(crate) fn new(alloc: Global) -> Edges
         ensures parents { (n : Node) → parents_of result n ≡ [] }
@@ -58,7 +58,7 @@ impl Edges {
 
     /// Makes room for one more edge from the node, and for one more to it.
     pub(crate) fn make_room(&mut self, node: Node) -> Result<(), AllocError>
-        ensures same { AreSame self.old self.new }
+        ensures same { HaveSameEdges self.old self.new }
         ensures room { OnOk result (HasRoom self.new node) }
         ensures keeps { (n : Node) → HasRoom self.old n → HasRoom self.new n }
     {
@@ -66,9 +66,9 @@ impl Edges {
         self.widen(&node)
     }
 
-    /// The node has a row.
+    // The node has a row.
     fn make_row(&mut self, node: Node) -> Result<(), AllocError>
-        ensures same { AreSame self.old self.new }
+        ensures same { HaveSameEdges self.old self.new }
         ensures made { OnOk result (IsSome (get same_node self.new.rows node)) }
         ensures keeps { (n : Node) → HasRoom self.old n → HasRoom self.new n }
     {
@@ -82,10 +82,10 @@ impl Edges {
         Ok(())
     }
 
-    /// The node's row has room.
+    // The node's row has room.
     fn widen(&mut self, node: &Node) -> Result<(), AllocError>
         requires { IsSome (get same_node self.old.rows node.now) }
-        ensures same { AreSame self.old self.new }
+        ensures same { HaveSameEdges self.old self.new }
         ensures room { OnOk result (HasRoom self.new node.now) }
         ensures keeps { (n : Node) → HasRoom self.old n → HasRoom self.new n }
     {

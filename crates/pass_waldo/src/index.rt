@@ -99,10 +99,7 @@ impl Index {
     pub fn current(&self, pnode: Pnode) -> Option<u64>
         ensures { result ≡ current_in self.now pnode }
     {
-        match self.taken.object(pnode) {
-            Some(told) => Some(told.version),
-            None => None,
-        }
+        Some(self.taken.object(pnode)?.version)
     }
 
     /// The nodes to which the node has an edge.
@@ -149,7 +146,7 @@ impl Index {
         Ok(())
     }
 
-    /// Takes a record without a flaw.
+    // Takes a record without a flaw.
     fn take(&mut self, one: &Record) -> Result<(), AllocError>
         requires { flaw_of self.old one.now ≡ None }
         ensures ok { OnOk result (self.new ≡ self.old ++ one.now ∷ []) }
@@ -175,7 +172,7 @@ impl Index {
         }
     }
 
-    /// Takes a record that makes the edge and names nothing.
+    // Takes a record that makes the edge and names nothing.
     fn take_edge(&mut self, one: &Record, target: &Node, source: &Node) -> Result<(), AllocError>
         requires fine { flaw_of self.old one.now ≡ None }
         requires edge { MakesEdge one.now target.now source.now }
@@ -190,7 +187,7 @@ impl Index {
         Ok(())
     }
 
-    /// Takes the record that gives the file the name.
+    // Takes the record that gives the file the name.
     fn take_name(&mut self, one: &Record, file: Pnode, name: &[u8]) -> Result<(), AllocError>
         requires fine { flaw_of self.old one.now ≡ None }
         requires name { one.now ≡ log.Name file name.now }
@@ -203,7 +200,7 @@ impl Index {
         Ok(())
     }
 
-    /// Takes the record that gives the node the value of the attribute.
+    // Takes the record that gives the node the value of the attribute.
     fn take_value(
         &mut self,
         one: &Record,
@@ -223,7 +220,7 @@ impl Index {
         Ok(())
     }
 
-    /// Takes a record that makes no edge and names nothing.
+    // Takes a record that makes no edge and names nothing.
     fn take_quiet(&mut self, one: &Record) -> Result<(), AllocError>
         requires fine { flaw_of self.old one.now ≡ None }
         requires quiet { IsQuiet one.now }

@@ -5,8 +5,6 @@ mod edges;
 mod index;
 mod sorted;
 mod taken;
-#[cfg(test)]
-mod tests;
 mod texts;
 
 pub use index::{Index, IndexFault};

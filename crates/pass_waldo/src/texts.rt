@@ -10,8 +10,8 @@ use pass_entry::{Node, Pnode, Text};
 use std::alloc::{AllocError, Global};
 use std::collections::HashMap;
 
-/// The files that got the text as a name, in ascending order, and the values of the attributes of that name, in the order
-/// in which they were given.
+// The files that got the text as a name, in ascending order, and the values of the attributes of that name, in the order
+// in which they were given.
 #[derive(Drop)]
 struct Row {
     files: Vec<Pnode>,
@@ -25,10 +25,10 @@ pub(crate) struct Texts {
 }
 
 impl Texts {
-    ghost use Rattle.pass_waldo.specs.Texts.{is_text, files_of, values_of, AreSame, HasFileRoom, HasValueRoom};
+    ghost use Rattle.pass_waldo.specs.Texts.{is_text, files_named, values_of, NameTheSame, HasFileRoom, HasValueRoom};
 
     pub(crate) fn new(alloc: Global) -> Texts
-        ensures files { (n : List ℕ) → files_of result n ≡ [] }
+        ensures files { (n : List ℕ) → files_named result n ≡ [] }
         ensures values { (n : List ℕ) → values_of result n ≡ [] }
     {
         Texts {
@@ -38,7 +38,7 @@ impl Texts {
     }
 
     pub(crate) fn files(&self, name: &[u8]) -> &[Pnode]
-        ensures { result.now ≡ files_of self.now name.now }
+        ensures { result.now ≡ files_named self.now name.now }
     {
         match self.rows.get(name) {
             Some(row) => row.files.as_slice(),
@@ -57,7 +57,7 @@ impl Texts {
 
     /// Makes room for one more file of the name.
     pub(crate) fn make_file_room(&mut self, name: &[u8]) -> Result<(), AllocError>
-        ensures same { AreSame self.old self.new }
+        ensures same { NameTheSame self.old self.new }
         ensures room { OnOk result (HasFileRoom self.new name.now) }
     {
         self.make_row(name)?;
@@ -66,16 +66,16 @@ impl Texts {
 
     /// Makes room for one more value of the attribute.
     pub(crate) fn make_value_room(&mut self, attr: &[u8]) -> Result<(), AllocError>
-        ensures same { AreSame self.old self.new }
+        ensures same { NameTheSame self.old self.new }
         ensures room { OnOk result (HasValueRoom self.new attr.now) }
     {
         self.make_row(attr)?;
         self.widen_values(attr)
     }
 
-    /// The text has a row.
+    // The text has a row.
     fn make_row(&mut self, name: &[u8]) -> Result<(), AllocError>
-        ensures same { AreSame self.old self.new }
+        ensures same { NameTheSame self.old self.new }
         ensures made { OnOk result (IsSome (get_by (is_text name.now) self.new.rows)) }
     {
         if !self.rows.contains_key(name) {
@@ -91,7 +91,7 @@ impl Texts {
 
     fn widen_files(&mut self, name: &[u8]) -> Result<(), AllocError>
         requires { IsSome (get_by (is_text name.now) self.old.rows) }
-        ensures same { AreSame self.old self.new }
+        ensures same { NameTheSame self.old self.new }
         ensures room { OnOk result (HasFileRoom self.new name.now) }
     {
         match self.rows.get_mut(name) {
@@ -102,7 +102,7 @@ impl Texts {
 
     fn widen_values(&mut self, attr: &[u8]) -> Result<(), AllocError>
         requires { IsSome (get_by (is_text attr.now) self.old.rows) }
-        ensures same { AreSame self.old self.new }
+        ensures same { NameTheSame self.old self.new }
         ensures room { OnOk result (HasValueRoom self.new attr.now) }
     {
         match self.rows.get_mut(attr) {
@@ -114,9 +114,9 @@ impl Texts {
     /// The file got the name.
     pub(crate) fn put_file(&mut self, name: &[u8], file: Pnode)
         requires room { HasFileRoom self.old name.now }
-        requires sorted { IsStrictlySortedBy nat_cmp (files_of self.old name.now) }
-        ensures files { (n : List ℕ) → files_of self.new n
-            ≡ (if bytes_eq name.now n then insert_key nat_cmp (files_of self.old n) file else files_of self.old n) }
+        requires sorted { IsStrictlySortedBy nat_cmp (files_named self.old name.now) }
+        ensures files { (n : List ℕ) → files_named self.new n
+            ≡ (if bytes_eq name.now n then insert_key nat_cmp (files_named self.old n) file else files_named self.old n) }
         ensures values { (n : List ℕ) → values_of self.new n ≡ values_of self.old n }
     {
         if let Some(row) = self.rows.get_mut(name) {
@@ -129,7 +129,7 @@ impl Texts {
         requires { HasValueRoom self.old attr.now }
         ensures values { (n : List ℕ) → values_of self.new n
             ≡ (if bytes_eq attr.now n then values_of self.old n ++ (node, value) ∷ [] else values_of self.old n) }
-        ensures files { (n : List ℕ) → files_of self.new n ≡ files_of self.old n }
+        ensures files { (n : List ℕ) → files_named self.new n ≡ files_named self.old n }
     {
         if let Some(row) = self.rows.get_mut(attr) {
             let _ = row.values.push((node, value));

@@ -14,7 +14,7 @@ found-passes : {X : Type 0} (p : X → Bool) (xs : List X) (x : X) → find p xs
 found-passes p [] x is = absurd (cc)
 found-passes p (y ∷ xs) x is = first_or_later p x y (find p xs) (p y) refl (found-passes p xs x) is
 
-call_of-call_word : (name : CallName) → call_of (call_word name) ≡ Some name
+pub call_of-call_word : (name : CallName) → call_of (call_word name) ≡ Some name
 call_of-call_word call.Start = refl
 call_of-call_word call.Creat = refl
 call_of-call_word call.OpenName = refl

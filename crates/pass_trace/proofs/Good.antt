@@ -17,12 +17,13 @@ use Rattle.pass_trace.specs.declared.trace.TraceLine.{TraceLine}
 use Rattle.pass_trace.specs.declared.trace.TraceReason.{TraceReason}
 use Rattle.pass_trace.specs.declared.trace.TraceReason.TheVariants as reason
 use Rattle.pass_trace.specs.declared.call.Form.TheVariants as form
-use Rattle.pass_trace.specs.declared.call.Call.{Call}
-use Rattle.pass_trace.specs.declared.call.Call.TheVariants.{Creat, Open, Close, Read, Write, Seek, Truncate, Pipe, Fork, Exec, Wait, Rename, Unlink, MkObj, Revive, Freeze, Disclose, Tag, Sync}
-use Rattle.pass_trace.specs.Calls.{call_of, forms_of}
+use Rattle.pass_entry.specs.Words.{call_of}
+use Rattle.pass_entry.specs.declared.entry.CallName.{CallName}
+use Rattle.pass_entry.specs.declared.entry.CallName.TheVariants as call
+use Rattle.pass_trace.specs.Calls.{forms_of}
 use Rattle.pass_trace.specs.Lines.{words_of}
 use Rattle.pass_trace.specs.Rules.{child_of}
-use Rattle.pass_trace.specs.Words.{is_text, is_word, is_number, is_payload, have_forms, value_of}
+use Rattle.pass_trace.specs.Words.{is_text, is_word, is_number, is_payload, have_forms, have_these, value_of}
 use Rattle.pass_trace.specs.Commands.{◌>>=◌, word_at, number_in, process_of, fd_of, name_of, mode_of, given, decoded, repeated_of, hex_of, payload_of, args_of, command_of, creat_of, open_of, close_of, read_of, write_of, seek_of, truncate_of, pipe_of, fork_of, exec_of, wait_of, rename_of, unlink_of, mkobj_of, revive_of, freeze_of, disclose_of, tag_of, sync_of}
 use Rattle.pass_trace.specs.Traces.{has_row, row_of, call_line_of, line_of, text_line_of}
 
@@ -181,13 +182,13 @@ payload_is word p form h =
     (λ e. repeated_is (drop 2 word) p e)
 
 -- the forms of a write and of an exec
-payload_form : (words : List (List ℕ)) → have_forms (forms_of Write) words ≡ true → is_payload (word_at words 1) ≡ true
+payload_form : (words : List (List ℕ)) → have_these (forms_of call.Write) words ≡ true → is_payload (word_at words 1) ≡ true
 payload_form [] h = cc
 payload_form (fd ∷ []) h = cc (and_parts (is_number fd) false h).1
 payload_form (fd ∷ payload ∷ words) h =
     (and_parts (is_payload payload) (have_forms [] words) (and_parts (is_number fd) (have_forms (form.Payload ∷ []) (payload ∷ words)) h).1).0
 
-args_form : (words : List (List ℕ)) → have_forms (forms_of Exec) words ≡ true → list_all is_word (drop 1 words) ≡ true
+args_form : (words : List (List ℕ)) → have_these (forms_of call.Exec) words ≡ true → list_all is_word (drop 1 words) ≡ true
 args_form [] h = cc
 args_form (name ∷ words) h = (and_parts (is_word name) (list_all is_word words) h).1
 
@@ -197,36 +198,38 @@ args_is words args form h =
     let parts = guard_ok (is_line (join_with_byte 32 words)) (join_with_byte 32 words) args reason.Length h in
     record { line = subst IsLine parts.1 parts.0; words = (words, form, sym parts.1) }
 
-pub command_is : (call : Call) (words : List (List ℕ)) (c : Command) → have_forms (forms_of call) words ≡ true → command_of call words ≡ Ok c → IsGood c
+pub command_is : (call : CallName) (words : List (List ℕ)) (c : Command) → have_these (forms_of call) words ≡ true → command_of call words ≡ Ok c → IsGood c
 unfolding creat_of open_of close_of read_of write_of seek_of truncate_of pipe_of fork_of exec_of wait_of rename_of unlink_of mkobj_of revive_of freeze_of disclose_of tag_of sync_of
-command_is Creat words c form h = two_ok (fd_of (word_at words 0)) (name_of (word_at words 1)) command.Creat IsGood c h (λ a b ea eb. (fd_range (word_at words 0) a ea, name_is (word_at words 1) b eb))
-command_is Open words c form h = two_ok (fd_of (word_at words 0)) (name_of (word_at words 1)) (λ a b. command.Open a b (mode_of (word_at words 2))) IsGood c h (λ a b ea eb. (fd_range (word_at words 0) a ea, name_is (word_at words 1) b eb, mode_is (word_at words 2)))
-command_is Close words c form h = one_ok (fd_of (word_at words 0)) command.Close IsGood c h (λ a ea. fd_range (word_at words 0) a ea)
-command_is Read words c form h = two_ok (fd_of (word_at words 0)) (number_in 1 4096 (word_at words 1)) command.Read IsGood c h (λ a b ea eb. (fd_range (word_at words 0) a ea, (number_in_range 1 4096 (word_at words 1) b eb).0, (number_in_range 1 4096 (word_at words 1) b eb).1))
-command_is Write words c form h = two_ok (fd_of (word_at words 0)) (payload_of (word_at words 1)) command.Write IsGood c h (λ a b ea eb. (fd_range (word_at words 0) a ea, payload_is (word_at words 1) b (payload_form words form) eb))
-command_is Seek words c form h = two_ok (fd_of (word_at words 0)) (number_in 0 4294967295 (word_at words 1)) command.Seek IsGood c h (λ a b ea eb. (fd_range (word_at words 0) a ea, (number_in_range 0 4294967295 (word_at words 1) b eb).1))
-command_is Truncate words c form h = two_ok (fd_of (word_at words 0)) (number_in 0 4294967295 (word_at words 1)) command.Truncate IsGood c h (λ a b ea eb. (fd_range (word_at words 0) a ea, (number_in_range 0 4294967295 (word_at words 1) b eb).1))
-command_is Pipe words c form h = two_ok (fd_of (word_at words 0)) (fd_of (word_at words 1)) command.Pipe IsGood c h (λ a b ea eb. (fd_range (word_at words 0) a ea, fd_range (word_at words 1) b eb))
-command_is Fork words c form h = one_ok (process_of (word_at words 0)) command.Fork IsGood c h (λ a ea. ((number_in_range 1 8192 (word_at words 0) a ea).0, (number_in_range 1 8192 (word_at words 0) a ea).1))
-command_is Exec words c form h = two_ok (name_of (word_at words 0)) (args_of (drop 1 words)) command.Exec IsGood c h (λ a b ea eb. (name_is (word_at words 0) a ea, args_is (drop 1 words) b (args_form words form) eb))
-command_is Wait words c form h = one_ok (process_of (word_at words 0)) command.Wait IsGood c h (λ a ea. ((number_in_range 1 8192 (word_at words 0) a ea).0, (number_in_range 1 8192 (word_at words 0) a ea).1))
-command_is Rename words c form h = two_ok (name_of (word_at words 0)) (name_of (word_at words 1)) command.Rename IsGood c h (λ a b ea eb. (name_is (word_at words 0) a ea, name_is (word_at words 1) b eb))
-command_is Unlink words c form h = one_ok (name_of (word_at words 0)) command.Unlink IsGood c h (λ a ea. name_is (word_at words 0) a ea)
-command_is MkObj words c form h = one_ok (fd_of (word_at words 0)) command.MkObj IsGood c h (λ a ea. fd_range (word_at words 0) a ea)
-command_is Revive words c form h = two_ok (fd_of (word_at words 0)) (number_in 1 (2 ^ 48 - 1) (word_at words 1)) command.Revive IsGood c h (λ a b ea eb. (fd_range (word_at words 0) a ea, (number_in_range 1 (2 ^ 48 - 1) (word_at words 1) b eb).0, (number_in_range 1 (2 ^ 48 - 1) (word_at words 1) b eb).1))
-command_is Freeze words c form h = one_ok (fd_of (word_at words 0)) command.Freeze IsGood c h (λ a ea. fd_range (word_at words 0) a ea)
-command_is Disclose words c form h = two_ok (fd_of (word_at words 0)) (fd_of (word_at words 1)) command.Disclose IsGood c h (λ a b ea eb. (fd_range (word_at words 0) a ea, fd_range (word_at words 1) b eb))
-command_is Tag words c form h = three_ok (fd_of (word_at words 0)) (name_of (word_at words 1)) (name_of (word_at words 2)) command.Tag IsGood c h (λ a b d ea eb ed. (fd_range (word_at words 0) a ea, name_is (word_at words 1) b eb, name_is (word_at words 2) d ed))
-command_is Sync words c form h = one_ok (fd_of (word_at words 0)) command.Sync IsGood c h (λ a ea. fd_range (word_at words 0) a ea)
+command_is call.Start words c form h = absurd (cc)
+command_is call.Creat words c form h = two_ok (fd_of (word_at words 0)) (name_of (word_at words 1)) command.Creat IsGood c h (λ a b ea eb. (fd_range (word_at words 0) a ea, name_is (word_at words 1) b eb))
+command_is call.OpenName words c form h = two_ok (fd_of (word_at words 0)) (name_of (word_at words 1)) (λ a b. command.Open a b (mode_of (word_at words 2))) IsGood c h (λ a b ea eb. (fd_range (word_at words 0) a ea, name_is (word_at words 1) b eb, mode_is (word_at words 2)))
+command_is call.CloseFd words c form h = one_ok (fd_of (word_at words 0)) command.Close IsGood c h (λ a ea. fd_range (word_at words 0) a ea)
+command_is call.Read words c form h = two_ok (fd_of (word_at words 0)) (number_in 1 4096 (word_at words 1)) command.Read IsGood c h (λ a b ea eb. (fd_range (word_at words 0) a ea, (number_in_range 1 4096 (word_at words 1) b eb).0, (number_in_range 1 4096 (word_at words 1) b eb).1))
+command_is call.Write words c form h = two_ok (fd_of (word_at words 0)) (payload_of (word_at words 1)) command.Write IsGood c h (λ a b ea eb. (fd_range (word_at words 0) a ea, payload_is (word_at words 1) b (payload_form words form) eb))
+command_is call.Seek words c form h = two_ok (fd_of (word_at words 0)) (number_in 0 4294967295 (word_at words 1)) command.Seek IsGood c h (λ a b ea eb. (fd_range (word_at words 0) a ea, (number_in_range 0 4294967295 (word_at words 1) b eb).1))
+command_is call.Truncate words c form h = two_ok (fd_of (word_at words 0)) (number_in 0 4294967295 (word_at words 1)) command.Truncate IsGood c h (λ a b ea eb. (fd_range (word_at words 0) a ea, (number_in_range 0 4294967295 (word_at words 1) b eb).1))
+command_is call.MakePipe words c form h = two_ok (fd_of (word_at words 0)) (fd_of (word_at words 1)) command.Pipe IsGood c h (λ a b ea eb. (fd_range (word_at words 0) a ea, fd_range (word_at words 1) b eb))
+command_is call.Fork words c form h = one_ok (process_of (word_at words 0)) command.Fork IsGood c h (λ a ea. ((number_in_range 1 8192 (word_at words 0) a ea).0, (number_in_range 1 8192 (word_at words 0) a ea).1))
+command_is call.Exec words c form h = two_ok (name_of (word_at words 0)) (args_of (drop 1 words)) command.Exec IsGood c h (λ a b ea eb. (name_is (word_at words 0) a ea, args_is (drop 1 words) b (args_form words form) eb))
+command_is call.WaitChild words c form h = one_ok (process_of (word_at words 0)) command.Wait IsGood c h (λ a ea. ((number_in_range 1 8192 (word_at words 0) a ea).0, (number_in_range 1 8192 (word_at words 0) a ea).1))
+command_is call.Exit words c form h = absurd (cc)
+command_is call.Rename words c form h = two_ok (name_of (word_at words 0)) (name_of (word_at words 1)) command.Rename IsGood c h (λ a b ea eb. (name_is (word_at words 0) a ea, name_is (word_at words 1) b eb))
+command_is call.Unlink words c form h = one_ok (name_of (word_at words 0)) command.Unlink IsGood c h (λ a ea. name_is (word_at words 0) a ea)
+command_is call.MakeObj words c form h = one_ok (fd_of (word_at words 0)) command.MkObj IsGood c h (λ a ea. fd_range (word_at words 0) a ea)
+command_is call.Revive words c form h = two_ok (fd_of (word_at words 0)) (number_in 1 (2 ^ 48 - 1) (word_at words 1)) command.Revive IsGood c h (λ a b ea eb. (fd_range (word_at words 0) a ea, (number_in_range 1 (2 ^ 48 - 1) (word_at words 1) b eb).0, (number_in_range 1 (2 ^ 48 - 1) (word_at words 1) b eb).1))
+command_is call.FreezeObj words c form h = one_ok (fd_of (word_at words 0)) command.Freeze IsGood c h (λ a ea. fd_range (word_at words 0) a ea)
+command_is call.Disclose words c form h = two_ok (fd_of (word_at words 0)) (fd_of (word_at words 1)) command.Disclose IsGood c h (λ a b ea eb. (fd_range (word_at words 0) a ea, fd_range (word_at words 1) b eb))
+command_is call.TagObj words c form h = three_ok (fd_of (word_at words 0)) (name_of (word_at words 1)) (name_of (word_at words 2)) command.Tag IsGood c h (λ a b d ea eb ed. (fd_range (word_at words 0) a ea, name_is (word_at words 1) b eb, name_is (word_at words 2) d ed))
+command_is call.Sync words c form h = one_ok (fd_of (word_at words 0)) command.Sync IsGood c h (λ a ea. fd_range (word_at words 0) a ea)
 
 -- a line of a trace that words say
-row_is : (number : ℕ) (process : List ℕ) (call : Option Call) (words : List (List ℕ)) (line : TraceLine) → row_of number process call words ≡ Ok line → IsGoodLine line
+row_is : (number : ℕ) (process : List ℕ) (call : Option CallName) (words : List (List ℕ)) (line : TraceLine) → row_of number process call words ≡ Ok line → IsGoodLine line
 unfolding call_line_of
 row_is number process None words line h = cc
 row_is number process (Some call) words line h =
     elim (has_row process call words) as (λ b. has_row process call words ≡ b → cond b (call_line_of number process call words) (Err reason.Form) ≡ Ok line → IsGoodLine line) [
       | true ↦ λ form e.
-          let forms = (and_parts (is_number process) (have_forms (forms_of call) words) form).1 in
+          let forms = (and_parts (is_number process) (have_these (forms_of call) words) form).1 in
           let p = bind_ok (process_of process) (λ p. command_of call words >>= λ c. Ok (record { number = number; process = p; command = c })) line e in
           let c = bind_ok (command_of call words) (λ c. Ok (record { number = number; process = p.0; command = c })) line p.2 in
           let range = number_in_range 1 8192 process p.0 p.1 in

@@ -17,37 +17,39 @@ use Rattle.pass_trace.specs.declared.trace.Payload.TheVariants.{Given, Last}
 use Rattle.pass_trace.specs.declared.trace.TraceLine.{TraceLine}
 use Rattle.pass_trace.specs.declared.trace.TraceReason.{TraceReason}
 use Rattle.pass_trace.specs.declared.trace.TraceReason.TheVariants as reason
-use Rattle.pass_trace.specs.declared.call.Call.{Call}
-use Rattle.pass_trace.specs.declared.call.Call.TheVariants.{Creat, Open, Close, Read, Write, Seek, Truncate, Pipe, Fork, Exec, Wait, Rename, Unlink, MkObj, Revive, Freeze, Disclose, Tag, Sync}
-use Rattle.pass_trace.specs.Calls.{call_of, forms_of, word_of}
+use Rattle.pass_entry.specs.Words.{call_of, call_word}
+use Rattle.pass_entry.proofs.CallWords.{call_of-call_word}
+use Rattle.pass_entry.specs.declared.entry.CallName.{CallName}
+use Rattle.pass_entry.specs.declared.entry.CallName.TheVariants as call
+use Rattle.pass_trace.specs.Calls.{forms_of}
 use Rattle.pass_trace.specs.Lines.{is_skipped, words_of}
-use Rattle.pass_trace.specs.Words.{is_word, is_mode, is_hex, is_payload, have_forms}
+use Rattle.pass_trace.specs.Words.{is_word, is_mode, is_hex, is_payload, have_forms, have_these}
 use Rattle.pass_trace.specs.Commands.{◌>>=◌, number_in, process_of, fd_of, name_of, mode_of, given, decoded, hex_of, payload_of, args_of, command_of, creat_of, open_of, close_of, read_of, write_of, seek_of, truncate_of, pipe_of, fork_of, exec_of, wait_of, rename_of, unlink_of, mkobj_of, revive_of, freeze_of, disclose_of, tag_of, sync_of}
 use Rattle.pass_trace.specs.Traces.{row_of, call_line_of, line_of, text_line_of}
 use Rattle.pass_trace.specs.Texts.{spaced, payload_word, mode_word, command_words, line_text}
 use Rattle.pass_trace.proofs.Good.{IsGood, IsGoodLine, IsPayload, IsMode, IsArgs}
 use Rattle.pass_trace.proofs.Spelled.{are_graphic, words_of-behind, words_of-spaced, join_with_byte-spaced, are_printable, are_graphic-decimal, is_number-decimal, number_in-decimal}
 
-abbrev pub call_named : Command → Call
-call_named (command.Creat a b) = Creat
-call_named (command.Open a b d) = Open
-call_named (command.Close a) = Close
-call_named (command.Read a b) = Read
-call_named (command.Write a b) = Write
-call_named (command.Seek a b) = Seek
-call_named (command.Truncate a b) = Truncate
-call_named (command.Pipe a b) = Pipe
-call_named (command.Fork a) = Fork
-call_named (command.Exec a b) = Exec
-call_named (command.Wait a) = Wait
-call_named (command.Rename a b) = Rename
-call_named (command.Unlink a) = Unlink
-call_named (command.MkObj a) = MkObj
-call_named (command.Revive a b) = Revive
-call_named (command.Freeze a) = Freeze
-call_named (command.Disclose a b) = Disclose
-call_named (command.Tag a b d) = Tag
-call_named (command.Sync a) = Sync
+abbrev pub call_named : Command → CallName
+call_named (command.Creat a b) = call.Creat
+call_named (command.Open a b d) = call.OpenName
+call_named (command.Close a) = call.CloseFd
+call_named (command.Read a b) = call.Read
+call_named (command.Write a b) = call.Write
+call_named (command.Seek a b) = call.Seek
+call_named (command.Truncate a b) = call.Truncate
+call_named (command.Pipe a b) = call.MakePipe
+call_named (command.Fork a) = call.Fork
+call_named (command.Exec a b) = call.Exec
+call_named (command.Wait a) = call.WaitChild
+call_named (command.Rename a b) = call.Rename
+call_named (command.Unlink a) = call.Unlink
+call_named (command.MkObj a) = call.MakeObj
+call_named (command.Revive a b) = call.Revive
+call_named (command.Freeze a) = call.FreezeObj
+call_named (command.Disclose a b) = call.Disclose
+call_named (command.Tag a b d) = call.TagObj
+call_named (command.Sync a) = call.Sync
 
 -- the words behind the call, as they are split again
 abbrev pub words_named : Command → List (List ℕ)
@@ -72,47 +74,28 @@ words_named (command.Disclose a b) = decimal a ∷ decimal b ∷ []
 words_named (command.Tag a b d) = decimal a ∷ b ∷ d ∷ []
 words_named (command.Sync a) = decimal a ∷ []
 
-call_of-word_of : (call : Call) → call_of (word_of call) ≡ Some call
-call_of-word_of Creat = refl
-call_of-word_of Open = refl
-call_of-word_of Close = refl
-call_of-word_of Read = refl
-call_of-word_of Write = refl
-call_of-word_of Seek = refl
-call_of-word_of Truncate = refl
-call_of-word_of Pipe = refl
-call_of-word_of Fork = refl
-call_of-word_of Exec = refl
-call_of-word_of Wait = refl
-call_of-word_of Rename = refl
-call_of-word_of Unlink = refl
-call_of-word_of MkObj = refl
-call_of-word_of Revive = refl
-call_of-word_of Freeze = refl
-call_of-word_of Disclose = refl
-call_of-word_of Tag = refl
-call_of-word_of Sync = refl
-
-graphic-word_of : (call : Call) → are_graphic (word_of call) ≡ true
-graphic-word_of Creat = refl
-graphic-word_of Open = refl
-graphic-word_of Close = refl
-graphic-word_of Read = refl
-graphic-word_of Write = refl
-graphic-word_of Seek = refl
-graphic-word_of Truncate = refl
-graphic-word_of Pipe = refl
-graphic-word_of Fork = refl
-graphic-word_of Exec = refl
-graphic-word_of Wait = refl
-graphic-word_of Rename = refl
-graphic-word_of Unlink = refl
-graphic-word_of MkObj = refl
-graphic-word_of Revive = refl
-graphic-word_of Freeze = refl
-graphic-word_of Disclose = refl
-graphic-word_of Tag = refl
-graphic-word_of Sync = refl
+graphic-call_word : (call : CallName) → are_graphic (call_word call) ≡ true
+graphic-call_word call.Start = refl
+graphic-call_word call.Creat = refl
+graphic-call_word call.OpenName = refl
+graphic-call_word call.CloseFd = refl
+graphic-call_word call.Read = refl
+graphic-call_word call.Write = refl
+graphic-call_word call.Seek = refl
+graphic-call_word call.Truncate = refl
+graphic-call_word call.MakePipe = refl
+graphic-call_word call.Fork = refl
+graphic-call_word call.Exec = refl
+graphic-call_word call.WaitChild = refl
+graphic-call_word call.Exit = refl
+graphic-call_word call.Rename = refl
+graphic-call_word call.Unlink = refl
+graphic-call_word call.MakeObj = refl
+graphic-call_word call.Revive = refl
+graphic-call_word call.FreezeObj = refl
+graphic-call_word call.Disclose = refl
+graphic-call_word call.TagObj = refl
+graphic-call_word call.Sync = refl
 
 is_word-name : (name : List ℕ) → IsName name → is_word name ≡ true
 is_word-name name h =
@@ -269,7 +252,7 @@ fd_of-decimal : (n : ℕ) → n ≤ 63 → fd_of (decimal n) ≡ Ok n
 fd_of-decimal n h = number_in-decimal 0 63 n (omega arith) (omega arith) h
 
 -- the words of what is written
-pub words_of-line : (process : List ℕ) (c : Command) → are_graphic process ≡ true → IsGood c → words_of (process ++ spaced (command_words c)) ≡ process ∷ word_of (call_named c) ∷ words_named c
+pub words_of-line : (process : List ℕ) (c : Command) → are_graphic process ≡ true → IsGood c → words_of (process ++ spaced (command_words c)) ≡ process ∷ call_word (call_named c) ∷ words_named c
 words_of-line process (command.Creat a b) p h = words_of-spaced process (command_words (command.Creat a b)) p (and_from _ _ (are_graphic-decimal a (omega (arith, h.0))) (and_from _ _ (graphic_name b h.1) refl))
 words_of-line process (command.Open a b d) p h = words_of-spaced process (command_words (command.Open a b d)) p (and_from _ _ (are_graphic-decimal a (omega (arith, h.0))) (and_from _ _ (graphic_name b h.1) (and_from _ _ (graphic_mode d) refl)))
 words_of-line process (command.Close a) p h = words_of-spaced process (command_words (command.Close a)) p (and_from _ _ (are_graphic-decimal a (omega (arith, h))) refl)
@@ -297,7 +280,7 @@ words_of-line process (command.Disclose a b) p h = words_of-spaced process (comm
 words_of-line process (command.Tag a b d) p h = words_of-spaced process (command_words (command.Tag a b d)) p (and_from _ _ (are_graphic-decimal a (omega (arith, h.0))) (and_from _ _ (graphic_name b h.1) (and_from _ _ (graphic_name d h.2) refl)))
 words_of-line process (command.Sync a) p h = words_of-spaced process (command_words (command.Sync a)) p (and_from _ _ (are_graphic-decimal a (omega (arith, h))) refl)
 
-pub have_forms-named : (c : Command) → IsGood c → have_forms (forms_of (call_named c)) (words_named c) ≡ true
+pub have_forms-named : (c : Command) → IsGood c → have_these (forms_of (call_named c)) (words_named c) ≡ true
 have_forms-named (command.Creat a b) h = (and_from _ _ (is_number-decimal a (omega (arith, h.0))) (and_from _ _ (is_word-name b h.1) refl))
 have_forms-named (command.Open a b d) h = (and_from _ _ (is_number-decimal a (omega (arith, h.0))) (and_from _ _ (is_word-name b h.1) (and_from _ _ (is_mode-word d h.2) refl)))
 have_forms-named (command.Close a) h = (and_from _ _ (is_number-decimal a (omega (arith, h))) refl)
@@ -372,19 +355,19 @@ length-command (command.Sync a) h = omega (arith, length-spaced (command_words (
 abbrev pub renumbered : ℕ → TraceLine → TraceLine
 renumbered number line = record { number = number; process = line.process; command = line.command }
 
-row_of-named : (number : ℕ) (line : TraceLine) → IsGoodLine line → row_of number (decimal line.process) (call_of (word_of (call_named line.command))) (words_named line.command) ≡ Ok (renumbered number line)
+row_of-named : (number : ℕ) (line : TraceLine) → IsGoodLine line → row_of number (decimal line.process) (call_of (call_word (call_named line.command))) (words_named line.command) ≡ Ok (renumbered number line)
 unfolding call_line_of
 row_of-named number line h =
     let call = call_named line.command in
     let words = words_named line.command in
     let process = number_in-decimal 1 8192 line.process (omega (arith, h.to)) h.from h.to in
     let row = and_from _ _ (is_number-decimal line.process (omega (arith, h.to))) (have_forms-named line.command h.command) in
-    ap (λ o. row_of number (decimal line.process) o words) (call_of-word_of call)
+    ap (λ o. row_of number (decimal line.process) o words) (call_of-call_word call)
     ∙ ap (λ b. cond b (call_line_of number (decimal line.process) call words) (Err reason.Form)) row
     ∙ ap (λ r. r >>= λ p. command_of call words >>= λ c. Ok (record { number = number; process = p; command = c })) process
     ∙ ap (λ r. r >>= λ c. Ok (record { number = number; process = line.process; command = c })) (command_of-named line.command h.command)
 
-line_of-named : (number : ℕ) (line : TraceLine) → IsGoodLine line → line_of number (decimal line.process ∷ word_of (call_named line.command) ∷ words_named line.command) ≡ Ok (renumbered number line)
+line_of-named : (number : ℕ) (line : TraceLine) → IsGoodLine line → line_of number (decimal line.process ∷ call_word (call_named line.command) ∷ words_named line.command) ≡ Ok (renumbered number line)
 unfolding line_of
 line_of-named number line h = row_of-named number line h
 
@@ -442,4 +425,4 @@ pub is_printable-text : (line : TraceLine) → IsGoodLine line → list_all is_l
 is_printable-text line h =
     let graphic = are_graphic-decimal line.process (omega (arith, h.to)) in
     let words = words_of-line (decimal line.process) line.command graphic h.command in
-    are_printable (line_text line) (ap (list_all are_graphic) words ∙ and_from _ _ graphic (and_from _ _ (graphic-word_of (call_named line.command)) (graphic_named line.command h.command)))
+    are_printable (line_text line) (ap (list_all are_graphic) words ∙ and_from _ _ graphic (and_from _ _ (graphic-call_word (call_named line.command)) (graphic_named line.command h.command)))

@@ -1,9 +1,12 @@
 -- What the words behind a call stand for. The ranges and lengths are this project's own.
-use Rattle.std.specs.Prelude.{ℕ, ◌-◌, ◌^◌, ◌&&◌, nat_le, List, [], length, take, drop, replicate, slice_index, slice_index_or, codes, if◌then◌else◌, Result, Ok, Err}
+use Rattle.std.specs.Prelude.{ℕ, ◌-◌, ◌&&◌, nat_le, List, [], length, take, drop, replicate, slice_index, slice_index_or, codes, if◌then◌else◌, Result, Ok, Err}
 use Rattle.std.specs.List.{join_with_byte}
 use Rattle.hex.specs.Hex.{decode_of, decode_sized}
 use Rattle.hex.specs.declared.error.FromHexError.{FromHexError}
+use Rattle.pass_entry.specs.Limits.{number_limit, transfer_limit}
 use Rattle.pass_entry.specs.Texts.{is_name, is_line}
+use Rattle.pass_entry.specs.declared.entry.CallName.{CallName}
+use Rattle.pass_entry.specs.declared.entry.CallName.TheVariants as call
 use Rattle.pass_entry.specs.declared.objects.Mode as entry
 use Rattle.pass_entry.specs.declared.objects.Mode.TheVariants as mode
 use Rattle.pass_trace.specs.declared.trace.Command.{Command}
@@ -12,8 +15,7 @@ use Rattle.pass_trace.specs.declared.trace.Payload.{Payload}
 use Rattle.pass_trace.specs.declared.trace.Payload.TheVariants.{Given, Last}
 use Rattle.pass_trace.specs.declared.trace.TraceReason.{TraceReason}
 use Rattle.pass_trace.specs.declared.trace.TraceReason.TheVariants as reason
-use Rattle.pass_trace.specs.declared.call.Call.{Call}
-use Rattle.pass_trace.specs.declared.call.Call.TheVariants.{Creat, Open, Close, Read, Write, Seek, Truncate, Pipe, Fork, Exec, Wait, Rename, Unlink, MkObj, Revive, Freeze, Disclose, Tag, Sync}
+use Rattle.pass_trace.specs.Limits.{greatest_offset, last_process}
 use Rattle.pass_trace.specs.Words.{is_text, value_of}
 
 infixl 10 ◌>>=◌
@@ -30,15 +32,15 @@ word_at words k = slice_index_or words k []
 unfoldable pub number_in : ℕ → ℕ → List ℕ → Result ℕ TraceReason
 number_in low high word = if nat_le low (value_of word) && nat_le (value_of word) high then Ok (value_of word) else Err reason.Number
 
--- the number of a process of the trace, 1 to 8,192
+-- the number of a process of the trace
 abbrev pub process_of : List ℕ → Result ℕ TraceReason
-process_of word = number_in 1 8192 word
+process_of word = number_in 1 last_process word
 
 -- the number of a descriptor, 0 to 63
 abbrev pub fd_of : List ℕ → Result ℕ TraceReason
 fd_of word = number_in 0 63 word
 
--- a name, attribute or value: behind the test of forms only its length, 1 to 255 bytes, can be at fault
+-- a name, attribute or value: behind the test of forms only its length can be at fault
 unfoldable pub name_of : List ℕ → Result (List ℕ) TraceReason
 name_of word = if is_name word then Ok word else Err reason.Length
 
@@ -46,9 +48,9 @@ name_of word = if is_name word then Ok word else Err reason.Length
 unfoldable pub mode_of : List ℕ → entry.Mode
 mode_of word = if is_text word (codes "r") then mode.Read else if is_text word (codes "w") then mode.Write else mode.Both
 
--- bytes to write, at most 4,096
+-- bytes to write, as many as one call may
 abbrev pub given : List ℕ → Result Payload TraceReason
-given bytes = if nat_le (length bytes) 4096 then Ok (Given bytes) else Err reason.Length
+given bytes = if nat_le (length bytes) transfer_limit then Ok (Given bytes) else Err reason.Length
 
 -- the bytes that pairs of digits write; behind the test of forms they do
 abbrev pub decoded : Result (List ℕ) FromHexError → Result (List ℕ) TraceReason
@@ -58,7 +60,7 @@ decoded (Err fault) = Err reason.Form
 -- N:HH is the byte of HH, N times
 unfoldable pub repeated_of : List ℕ → Result Payload TraceReason
 repeated_of bytes = do
-  count ← number_in 0 4096 (take (length bytes - 3) bytes)
+  count ← number_in 0 transfer_limit (take (length bytes - 3) bytes)
   byte ← decoded (decode_sized (drop (length bytes - 2) bytes) 1)
   given (replicate count (slice_index byte 0))
 
@@ -77,7 +79,7 @@ payload_of word =
     else if is_text (take 2 word) (codes "r:") then repeated_of (drop 2 word)
     else Err reason.Form
 
--- words joined by single spaces, at most 1,024 bytes
+-- words joined by single spaces, no longer than a line of text
 unfoldable pub args_of : List (List ℕ) → Result (List ℕ) TraceReason
 args_of words = if is_line (join_with_byte 32 words) then Ok (join_with_byte 32 words) else Err reason.Length
 
@@ -101,11 +103,11 @@ close_of words = do
   fd ← fd_of (word_at words 0)
   Ok (command.Close fd)
 
--- read FD LEN, 1 to 4,096 bytes
+-- read FD LEN, of at least one byte
 unfoldable pub read_of : List (List ℕ) → Result Command TraceReason
 read_of words = do
   fd ← fd_of (word_at words 0)
-  len ← number_in 1 4096 (word_at words 1)
+  len ← number_in 1 transfer_limit (word_at words 1)
   Ok (command.Read fd len)
 
 -- write FD DATA
@@ -119,14 +121,14 @@ write_of words = do
 unfoldable pub seek_of : List (List ℕ) → Result Command TraceReason
 seek_of words = do
   fd ← fd_of (word_at words 0)
-  off ← number_in 0 4294967295 (word_at words 1)
+  off ← number_in 0 greatest_offset (word_at words 1)
   Ok (command.Seek fd off)
 
 -- truncate FD SIZE
 unfoldable pub truncate_of : List (List ℕ) → Result Command TraceReason
 truncate_of words = do
   fd ← fd_of (word_at words 0)
-  size ← number_in 0 4294967295 (word_at words 1)
+  size ← number_in 0 greatest_offset (word_at words 1)
   Ok (command.Truncate fd size)
 
 -- pipe FD FD, the reader first
@@ -178,7 +180,7 @@ mkobj_of words = do
 unfoldable pub revive_of : List (List ℕ) → Result Command TraceReason
 revive_of words = do
   fd ← fd_of (word_at words 0)
-  pnode ← number_in 1 (2 ^ 48 - 1) (word_at words 1)
+  pnode ← number_in 1 (number_limit - 1) (word_at words 1)
   Ok (command.Revive fd pnode)
 
 -- freeze FD
@@ -210,23 +212,25 @@ sync_of words = do
 
 -- The command of a call and the words behind it, which have their forms, or the first reason why it is none.
 -- In each row the numbers stand before the names, so a number outside its range comes before a length.
-abbrev pub command_of : Call → List (List ℕ) → Result Command TraceReason
-command_of Creat words = creat_of words
-command_of Open words = open_of words
-command_of Close words = close_of words
-command_of Read words = read_of words
-command_of Write words = write_of words
-command_of Seek words = seek_of words
-command_of Truncate words = truncate_of words
-command_of Pipe words = pipe_of words
-command_of Fork words = fork_of words
-command_of Exec words = exec_of words
-command_of Wait words = wait_of words
-command_of Rename words = rename_of words
-command_of Unlink words = unlink_of words
-command_of MkObj words = mkobj_of words
-command_of Revive words = revive_of words
-command_of Freeze words = freeze_of words
-command_of Disclose words = disclose_of words
-command_of Tag words = tag_of words
-command_of Sync words = sync_of words
+abbrev pub command_of : CallName → List (List ℕ) → Result Command TraceReason
+command_of call.Start words = Err reason.Form
+command_of call.Creat words = creat_of words
+command_of call.OpenName words = open_of words
+command_of call.CloseFd words = close_of words
+command_of call.Read words = read_of words
+command_of call.Write words = write_of words
+command_of call.Seek words = seek_of words
+command_of call.Truncate words = truncate_of words
+command_of call.MakePipe words = pipe_of words
+command_of call.Fork words = fork_of words
+command_of call.Exec words = exec_of words
+command_of call.WaitChild words = wait_of words
+command_of call.Exit words = Err reason.Form
+command_of call.Rename words = rename_of words
+command_of call.Unlink words = unlink_of words
+command_of call.MakeObj words = mkobj_of words
+command_of call.Revive words = revive_of words
+command_of call.FreezeObj words = freeze_of words
+command_of call.Disclose words = disclose_of words
+command_of call.TagObj words = tag_of words
+command_of call.Sync words = sync_of words

@@ -1,6 +1,7 @@
 pub mod Calls
 pub mod Commands
 pub mod Gives
+pub mod Limits
 pub mod Lines
 pub mod Reasons
 pub mod Rules

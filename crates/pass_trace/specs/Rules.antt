@@ -1,6 +1,7 @@
 -- The rules that look at the earlier lines of a trace. All of them are this project's own.
 use Rattle.std.specs.Prelude.{ℕ, ◌&&◌, ◌||◌, ◌==◌, nat_le, Bool, true, false, not, List, if◌then◌else◌, Option, Some, None, count_by}
 use Rattle.std.specs.List.{list_any}
+use Rattle.pass_trace.specs.Limits.{most_created}
 use Rattle.pass_trace.specs.declared.trace.Command.{Command}
 use Rattle.pass_trace.specs.declared.trace.Command.TheVariants.{Creat, Pipe, Fork, Wait, MkObj}
 use Rattle.pass_trace.specs.declared.trace.TraceLine.{TraceLine}
@@ -42,12 +43,12 @@ creates _ = false
 abbrev pub count_created : List TraceLine → ℕ
 count_created lines = count_by (λ line. creates line.command) lines
 
--- The first reason why a line may not stand behind the earlier ones. A trace makes at most 8,191 objects
--- beside its first process.
+-- The first reason why a line may not stand behind the earlier ones. The objects that it may make are
+-- counted beside its first process.
 abbrev pub rule_of : List TraceLine → TraceLine → Option TraceReason
 rule_of earlier line =
     if not (is_there earlier line.process && may_call earlier line.process line.command) then Some reason.Process
-    else if creates line.command && nat_le 8191 (count_created earlier) then Some reason.Many
+    else if creates line.command && nat_le most_created (count_created earlier) then Some reason.Many
     else None
 
 -- the process that a command names, or 0

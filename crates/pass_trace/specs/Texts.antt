@@ -2,6 +2,8 @@
 use Rattle.std.specs.Prelude.{ℕ, ◌+◌, List, [], ◌∷◌, ◌++◌, codes, decimal}
 use Rattle.std.specs.List.{flat_map}
 use Rattle.hex.specs.Hex.{encode_lower}
+use Rattle.pass_entry.specs.Words.{call_word}
+use Rattle.pass_entry.specs.declared.entry.CallName.TheVariants as call
 use Rattle.pass_entry.specs.declared.objects.Mode as entry
 use Rattle.pass_entry.specs.declared.objects.Mode.TheVariants as mode
 use Rattle.pass_trace.specs.declared.trace.Command.{Command}
@@ -33,25 +35,25 @@ args_words (b ∷ bs) = (b ∷ bs) ∷ []
 
 -- the words of a command, the call first
 abbrev pub command_words : Command → List (List ℕ)
-command_words (Creat fd name) = codes "creat" ∷ decimal fd ∷ name ∷ []
-command_words (Open fd name mode) = codes "open" ∷ decimal fd ∷ name ∷ mode_word mode ∷ []
-command_words (Close fd) = codes "close" ∷ decimal fd ∷ []
-command_words (Read fd len) = codes "read" ∷ decimal fd ∷ decimal len ∷ []
-command_words (Write fd payload) = codes "write" ∷ decimal fd ∷ payload_word payload ∷ []
-command_words (Seek fd off) = codes "seek" ∷ decimal fd ∷ decimal off ∷ []
-command_words (Truncate fd size) = codes "truncate" ∷ decimal fd ∷ decimal size ∷ []
-command_words (Pipe reader writer) = codes "pipe" ∷ decimal reader ∷ decimal writer ∷ []
-command_words (Fork child) = codes "fork" ∷ decimal child ∷ []
-command_words (Exec name args) = codes "exec" ∷ name ∷ args_words args
-command_words (Wait child) = codes "wait" ∷ decimal child ∷ []
-command_words (Rename from to) = codes "rename" ∷ from ∷ to ∷ []
-command_words (Unlink name) = codes "unlink" ∷ name ∷ []
-command_words (MkObj fd) = codes "mkobj" ∷ decimal fd ∷ []
-command_words (Revive fd pnode) = codes "revive" ∷ decimal fd ∷ decimal pnode ∷ []
-command_words (Freeze fd) = codes "freeze" ∷ decimal fd ∷ []
-command_words (Disclose target source) = codes "disclose" ∷ decimal target ∷ decimal source ∷ []
-command_words (Tag fd attr value) = codes "tag" ∷ decimal fd ∷ attr ∷ value ∷ []
-command_words (Sync fd) = codes "sync" ∷ decimal fd ∷ []
+command_words (Creat fd name) = call_word call.Creat ∷ decimal fd ∷ name ∷ []
+command_words (Open fd name mode) = call_word call.OpenName ∷ decimal fd ∷ name ∷ mode_word mode ∷ []
+command_words (Close fd) = call_word call.CloseFd ∷ decimal fd ∷ []
+command_words (Read fd len) = call_word call.Read ∷ decimal fd ∷ decimal len ∷ []
+command_words (Write fd payload) = call_word call.Write ∷ decimal fd ∷ payload_word payload ∷ []
+command_words (Seek fd off) = call_word call.Seek ∷ decimal fd ∷ decimal off ∷ []
+command_words (Truncate fd size) = call_word call.Truncate ∷ decimal fd ∷ decimal size ∷ []
+command_words (Pipe reader writer) = call_word call.MakePipe ∷ decimal reader ∷ decimal writer ∷ []
+command_words (Fork child) = call_word call.Fork ∷ decimal child ∷ []
+command_words (Exec name args) = call_word call.Exec ∷ name ∷ args_words args
+command_words (Wait child) = call_word call.WaitChild ∷ decimal child ∷ []
+command_words (Rename from to) = call_word call.Rename ∷ from ∷ to ∷ []
+command_words (Unlink name) = call_word call.Unlink ∷ name ∷ []
+command_words (MkObj fd) = call_word call.MakeObj ∷ decimal fd ∷ []
+command_words (Revive fd pnode) = call_word call.Revive ∷ decimal fd ∷ decimal pnode ∷ []
+command_words (Freeze fd) = call_word call.FreezeObj ∷ decimal fd ∷ []
+command_words (Disclose target source) = call_word call.Disclose ∷ decimal target ∷ decimal source ∷ []
+command_words (Tag fd attr value) = call_word call.TagObj ∷ decimal fd ∷ attr ∷ value ∷ []
+command_words (Sync fd) = call_word call.Sync ∷ decimal fd ∷ []
 
 -- the process, and behind it each word of the command
 abbrev pub line_text : TraceLine → List ℕ

@@ -3,26 +3,28 @@ use Rattle.std.specs.Prelude.{◌≡◌, ℕ, ◌+◌, ◌-◌, ◌<◌, ◌≤�
 use Rattle.pass_trace.specs.declared.trace.TraceLine.{TraceLine}
 use Rattle.pass_trace.specs.declared.trace.TraceReason.{TraceReason}
 use Rattle.pass_trace.specs.declared.trace.TraceReason.TheVariants as reason
-use Rattle.pass_trace.specs.declared.call.Call.{Call}
-use Rattle.pass_trace.specs.Calls.{call_of, forms_of}
-use Rattle.pass_trace.specs.Words.{is_number, have_forms}
+use Rattle.pass_entry.specs.Words.{call_of}
+use Rattle.pass_entry.specs.declared.entry.CallName.{CallName}
+use Rattle.pass_trace.specs.Calls.{forms_of}
+use Rattle.pass_trace.specs.Words.{is_number, have_these}
 use Rattle.pass_trace.specs.Commands.{◌>>=◌, process_of, command_of}
+use Rattle.pass_trace.specs.Limits.{most_lines, longest_line}
 use Rattle.pass_trace.specs.Lines.{lines_of, is_skipped, words_of}
 use Rattle.pass_trace.specs.Rules.{rule_of}
 
 -- what a process number, a call and the words behind it say
-unfoldable pub call_line_of : ℕ → List ℕ → Call → List (List ℕ) → Result TraceLine TraceReason
+unfoldable pub call_line_of : ℕ → List ℕ → CallName → List (List ℕ) → Result TraceLine TraceReason
 call_line_of number process call words = do
   process ← process_of process
   command ← command_of call words
   Ok (record { number = number; process = process; command = command })
 
 -- the words have a row of the table with their call and their number, and each has its form
-abbrev pub has_row : List ℕ → Call → List (List ℕ) → Bool
-has_row process call words = is_number process && have_forms (forms_of call) words
+abbrev pub has_row : List ℕ → CallName → List (List ℕ) → Bool
+has_row process call words = is_number process && have_these (forms_of call) words
 
 -- the line of a row of the table, where the call has one for these words
-abbrev pub row_of : ℕ → List ℕ → Option Call → List (List ℕ) → Result TraceLine TraceReason
+abbrev pub row_of : ℕ → List ℕ → Option CallName → List (List ℕ) → Result TraceLine TraceReason
 row_of number process None words = Err reason.Form
 row_of number process (Some call) words = if has_row process call words then call_line_of number process call words else Err reason.Form
 
@@ -33,11 +35,11 @@ line_of number (process ∷ []) = Err reason.Form
 line_of number (process ∷ call ∷ words) = row_of number process (call_of call) words
 
 -- What a line of a text says by itself: nothing where it is skipped, or a line of a trace, or the first reason
--- why neither. A text has at most 100,000 lines, skipped ones among them, of at most 8,400 bytes.
+-- why neither.
 unfoldable pub text_line_of : ℕ → List ℕ → Result (Option TraceLine) TraceReason
 text_line_of number text =
-    if nat_lt 100000 number then Err reason.Many
-    else if nat_lt 8400 (length text) then Err reason.Length
+    if nat_lt most_lines number then Err reason.Many
+    else if nat_lt longest_line (length text) then Err reason.Length
     else if is_skipped text then Ok None
     else (do
       line ← line_of number (words_of text)

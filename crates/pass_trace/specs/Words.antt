@@ -1,5 +1,5 @@
 -- The forms of words and what words stand for. All rules here are this project's own.
-use Rattle.std.specs.Prelude.{ℕ, ◌+◌, ◌-◌, ◌*◌, ◌%◌, ◌&&◌, ◌||◌, ◌==◌, nat_le, nat_lt, Bool, true, false, not, List, [], ◌∷◌, length, take, drop, fold, slice_index, codes, if◌then◌else◌}
+use Rattle.std.specs.Prelude.{ℕ, ◌+◌, ◌-◌, ◌*◌, ◌%◌, ◌&&◌, ◌||◌, ◌==◌, nat_le, nat_lt, Bool, true, false, not, List, [], ◌∷◌, length, take, drop, fold, slice_index, codes, if◌then◌else◌, Option, Some, None}
 use Rattle.std.specs.List.{list_all}
 use Rattle.std.specs.Cmp.Lexicographic.{pointwise}
 use Rattle.pass_entry.specs.Texts.{is_name_byte}
@@ -58,6 +58,11 @@ have_forms [] (word ∷ words) = false
 have_forms (Rest ∷ forms) words = list_all is_word words
 have_forms (form ∷ forms) [] = false
 have_forms (form ∷ forms) (word ∷ words) = has_form form word && have_forms forms words
+
+-- there are forms, and the words have them
+abbrev pub have_these : Option (List Form) → List (List ℕ) → Bool
+have_these None words = false
+have_these (Some forms) words = have_forms forms words
 
 -- the number that decimal digits write
 abbrev pub value_of : List ℕ → ℕ

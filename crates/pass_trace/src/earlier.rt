@@ -1,16 +1,12 @@
 //! The lines of a trace so far, and what the lines behind them may be.
 ghost use Rattle.std.specs.Prelude.{◌≡◌, ℕ, ◌≤◌, ◌++◌, ◌∷◌, [], length, slice_index, IfOk, OnOk, OnErr, None};
+ghost use Rattle.pass_trace.specs.Limits.{last_process};
 ghost use Rattle.pass_trace.specs.Rules.{creates, is_there, may_call, rule_of, child_of};
 
+use crate::limits::{LAST_PROCESS, MOST_CREATED};
 use crate::trace::{Command, TraceLine, TraceReason};
 use std::alloc::{AllocError, Global};
 use std::marker::Model;
-
-/// The greatest number of a process of a trace.
-const LAST_PROCESS: usize = 8192;
-
-/// The greatest number of lines that make an object, beside the first process.
-const MOST_CREATED: u32 = 8191;
 
 /// The earlier lines, seen as their list, with the parent of each process that they fork.
 #[derive(Drop)]
@@ -52,7 +48,7 @@ impl Earlier {
     pub(crate) fn new(alloc: Global) -> Result<Earlier, AllocError>
         ensures { IfOk result (λ e. e ≡ []) }
     {
-        let parents = zeros(alloc, LAST_PROCESS + 1)?;
+        let parents = zeros(alloc, LAST_PROCESS as usize + 1)?;
         Ok(Earlier {
             lines: Vec::new(alloc),
             parents,
@@ -61,7 +57,7 @@ impl Earlier {
     }
 
     fn is_there(&self, process: u32) -> bool
-        requires { process ≤ 8192 }
+        requires { process ≤ last_process }
         ensures { result ≡ is_there self.now process }
     {
         process == 1 || self.parents[process as usize] > 0
@@ -69,7 +65,7 @@ impl Earlier {
 
     fn may_call(&self, process: u32, command: &Command) -> bool
         requires parent { 1 ≤ process }
-        requires child { child_of command.now ≤ 8192 }
+        requires child { child_of command.now ≤ last_process }
         ensures { result ≡ may_call self.now process command.now }
     {
         match command {
@@ -82,8 +78,8 @@ impl Earlier {
     /// The first reason why the line may not come next.
     pub(crate) fn rule_of(&self, line: &TraceLine) -> Option<TraceReason>
         requires process { 1 ≤ line.now.process }
-        requires process_end { line.now.process ≤ 8192 }
-        requires child { child_of line.now.command ≤ 8192 }
+        requires process_end { line.now.process ≤ last_process }
+        requires child { child_of line.now.command ≤ last_process }
         ensures { result ≡ rule_of self.now line.now }
     {
         if !(self.is_there(line.process) && self.may_call(line.process, &line.command)) {
@@ -98,7 +94,7 @@ impl Earlier {
     /// Puts a line behind the others.
     pub(crate) fn push(&mut self, line: TraceLine) -> Result<(), AllocError>
         requires process { 1 ≤ line.process }
-        requires child { child_of line.command ≤ 8192 }
+        requires child { child_of line.command ≤ last_process }
         requires fits { rule_of self.old line ≡ None }
         ensures ok { OnOk result (self.new ≡ self.old ++ line ∷ []) }
         ensures err { OnErr result (self.new ≡ self.old) }

@@ -1,14 +1,16 @@
 //! What single words stand for.
 ghost use Rattle.std.specs.Prelude.{◌≡◌, ◌<◌, ◌≤◌, [], ◌∷◌, min, map, IfOk};
 ghost use Rattle.std.specs.List.{join_with_byte};
+ghost use Rattle.pass_trace.specs.Limits.{last_process};
 ghost use Rattle.pass_trace.specs.Words.{value_of};
 ghost use Rattle.pass_trace.specs.Commands.{number_in, process_of, fd_of, name_of, mode_of, given, decoded, repeated_of, hex_of, payload_of, args_of};
 ghost use Rattle.pass_trace.specs.Gives.{Gives, fault_at_line};
 ghost use Rattle.hex.specs.Hex.{decode_sized};
 
+use crate::limits::LAST_PROCESS;
 use crate::trace::{Payload, TraceFault, TraceReason};
 use hex::{FromHex, FromHexError};
-use pass_entry::{Bytes, Mode, Text, TextFault};
+use pass_entry::{Bytes, Mode, TRANSFER_LIMIT, Text, TextFault};
 use std::alloc::{AllocError, AllocFailed, Global};
 
 /// Why a line isn't read.
@@ -81,9 +83,9 @@ pub(crate) fn number_in(word: &[u8], low: u64, high: u64) -> Result<u64, LineFau
 /// The number of a process of the trace.
 pub(crate) fn process_of(word: &[u8]) -> Result<u32, LineFault>
     ensures value { Gives (λ n. n) result (process_of word.now) }
-    ensures within { IfOk result (λ n. (1 ≤ n) × (n ≤ 8192)) }
+    ensures within { IfOk result (λ n. (1 ≤ n) × (n ≤ last_process)) }
 {
-    let process = number_in(word, 1, 8192)?;
+    let process = number_in(word, 1, u64::from(LAST_PROCESS))?;
     Ok(process as u32)
 }
 
@@ -120,10 +122,10 @@ pub(crate) fn mode_of(word: &[u8]) -> Mode
     }
 }
 
-fn given(alloc: Global, bytes: &[u8]) -> Result<Payload, LineFault>
-    ensures { Gives (λ p. p) result (given bytes.now) }
+fn given(bytes: Vec<u8>) -> Result<Payload, LineFault>
+    ensures { Gives (λ p. p) result (given bytes.items) }
 {
-    match Bytes::of(alloc, bytes) {
+    match Bytes::from_vec(bytes) {
         Ok(bytes) => Ok(Payload::Given(bytes)),
         Err(TextFault::NoMemory) => Err(LineFault::NoMemory),
         Err(TextFault::BadLength) | Err(TextFault::BadByte) => {
@@ -137,7 +139,7 @@ fn hex_of(alloc: Global, digits: &[u8]) -> Result<Payload, LineFault>
     ensures { Gives (λ p. p) result (hex_of digits.now) }
 {
     match hex::decode(alloc, digits) {
-        Ok(bytes) => given(alloc, bytes.as_slice()),
+        Ok(bytes) => given(bytes),
         Err(FromHexError::OutOfMemory) => Err(LineFault::NoMemory),
         Err(_) => Err(LineFault::Bad(TraceReason::Form)),
     }
@@ -158,10 +160,10 @@ fn repeated_of(alloc: Global, bytes: &[u8]) -> Result<Payload, LineFault>
 {
     let colon = bytes.len().saturating_sub(3);
     let digits = bytes.len().saturating_sub(2);
-    let count = number_in(&bytes[..colon], 0, 4096)?;
+    let count = number_in(&bytes[..colon], 0, TRANSFER_LIMIT as u64)?;
     let byte = byte_of(&bytes[digits..])?;
     let bytes = vec![in alloc; byte; count as usize]?;
-    given(alloc, bytes.as_slice())
+    given(bytes)
 }
 
 #[tactic(auto, unfolding(crate::specs::Commands::payload_of))]
@@ -176,7 +178,7 @@ pub(crate) fn payload_of(alloc: Global, word: &[u8]) -> Result<Payload, LineFaul
     }
     let (kind, bytes) = word.split_at(2);
     if kind == b"t:".as_slice() {
-        given(alloc, bytes)
+        given(Vec::from_slice(alloc, bytes)?)
     } else if kind == b"x:".as_slice() {
         hex_of(alloc, bytes)
     } else if kind == b"r:".as_slice() {

@@ -5,6 +5,7 @@ mod call;
 mod earlier;
 mod fields;
 pub mod laws;
+pub mod limits;
 mod line;
 mod parsing;
 mod printing;
@@ -15,5 +16,3 @@ pub use parsing::parse;
 pub use printing::print;
 pub use trace::{Command, Payload, Trace, TraceFault, TraceLine, TraceReason};
 
-#[cfg(test)]
-mod tests;

@@ -5,15 +5,13 @@ ghost use Rattle.pass_trace.specs.Commands.{args_of, command_of, word_at, creat_
 ghost use Rattle.pass_trace.specs.Gives.{Gives};
 ghost use Rattle.pass_trace.specs.Traces.{line_of};
 
-use crate::call::Call;
+use crate::call::forms_of;
 use crate::fields::{LineFault, fd_of, mode_of, name_of, number_in, payload_of, process_of};
+use crate::limits::GREATEST_OFFSET;
 use crate::trace::{Command, TraceLine, TraceReason};
-use crate::words::{have_forms, is_number};
-use pass_entry::{Text, TextFault};
+use crate::words::{have_these, is_number};
+use pass_entry::{CallName, NUMBER_LIMIT, TRANSFER_LIMIT, Text, TextFault};
 use std::alloc::{AllocError, Global};
-
-/// The greatest number of an object that a record can name.
-const GREATEST_PNODE: u64 = (1 << 48) - 1;
 
 /// The word at a place, or no bytes where there is none.
 fn word_at<'a>(words: &[&'a [u8]], place: usize) -> &'a [u8]
@@ -105,7 +103,7 @@ fn read_of(words: &[&[u8]]) -> Result<Command, LineFault>
     ensures { Gives (λ c. c) result (read_of (map (λ w. w.now) words.now)) }
 {
     let fd = fd_of(word_at(words, 0))?;
-    let len = number_in(word_at(words, 1), 1, 4096)? as u32;
+    let len = number_in(word_at(words, 1), 1, TRANSFER_LIMIT as u64)? as u32;
     Ok(Command::Read { fd, len })
 }
 
@@ -123,7 +121,7 @@ fn seek_of(words: &[&[u8]]) -> Result<Command, LineFault>
     ensures { Gives (λ c. c) result (seek_of (map (λ w. w.now) words.now)) }
 {
     let fd = fd_of(word_at(words, 0))?;
-    let off = number_in(word_at(words, 1), 0, 4294967295)?;
+    let off = number_in(word_at(words, 1), 0, GREATEST_OFFSET)?;
     Ok(Command::Seek { fd, off })
 }
 
@@ -132,7 +130,7 @@ fn truncate_of(words: &[&[u8]]) -> Result<Command, LineFault>
     ensures { Gives (λ c. c) result (truncate_of (map (λ w. w.now) words.now)) }
 {
     let fd = fd_of(word_at(words, 0))?;
-    let size = number_in(word_at(words, 1), 0, 4294967295)?;
+    let size = number_in(word_at(words, 1), 0, GREATEST_OFFSET)?;
     Ok(Command::Truncate { fd, size })
 }
 
@@ -200,7 +198,7 @@ fn revive_of(words: &[&[u8]]) -> Result<Command, LineFault>
     ensures { Gives (λ c. c) result (revive_of (map (λ w. w.now) words.now)) }
 {
     let fd = fd_of(word_at(words, 0))?;
-    let pnode = number_in(word_at(words, 1), 1, GREATEST_PNODE)?;
+    let pnode = number_in(word_at(words, 1), 1, NUMBER_LIMIT - 1)?;
     Ok(Command::Revive { fd, pnode })
 }
 
@@ -240,29 +238,30 @@ fn sync_of(words: &[&[u8]]) -> Result<Command, LineFault>
 }
 
 /// The command of a call and the words behind it, which have their forms.
-fn command_of(alloc: Global, call: Call, words: &[&[u8]]) -> Result<Command, LineFault>
+fn command_of(alloc: Global, call: CallName, words: &[&[u8]]) -> Result<Command, LineFault>
     ensures { Gives (λ c. c) result (command_of call (map (λ w. w.now) words.now)) }
 {
     match call {
-        Call::Creat => creat_of(alloc, words),
-        Call::Open => open_of(alloc, words),
-        Call::Close => close_of(words),
-        Call::Read => read_of(words),
-        Call::Write => write_of(alloc, words),
-        Call::Seek => seek_of(words),
-        Call::Truncate => truncate_of(words),
-        Call::Pipe => pipe_of(words),
-        Call::Fork => fork_of(words),
-        Call::Exec => exec_of(alloc, words),
-        Call::Wait => wait_of(words),
-        Call::Rename => rename_of(alloc, words),
-        Call::Unlink => unlink_of(alloc, words),
-        Call::MkObj => mkobj_of(words),
-        Call::Revive => revive_of(words),
-        Call::Freeze => freeze_of(words),
-        Call::Disclose => disclose_of(words),
-        Call::Tag => tag_of(alloc, words),
-        Call::Sync => sync_of(words),
+        CallName::Start | CallName::Exit => Err(LineFault::Bad(TraceReason::Form)),
+        CallName::Creat => creat_of(alloc, words),
+        CallName::OpenName => open_of(alloc, words),
+        CallName::CloseFd => close_of(words),
+        CallName::Read => read_of(words),
+        CallName::Write => write_of(alloc, words),
+        CallName::Seek => seek_of(words),
+        CallName::Truncate => truncate_of(words),
+        CallName::MakePipe => pipe_of(words),
+        CallName::Fork => fork_of(words),
+        CallName::Exec => exec_of(alloc, words),
+        CallName::WaitChild => wait_of(words),
+        CallName::Rename => rename_of(alloc, words),
+        CallName::Unlink => unlink_of(alloc, words),
+        CallName::MakeObj => mkobj_of(words),
+        CallName::Revive => revive_of(words),
+        CallName::FreezeObj => freeze_of(words),
+        CallName::Disclose => disclose_of(words),
+        CallName::TagObj => tag_of(alloc, words),
+        CallName::Sync => sync_of(words),
     }
 }
 
@@ -274,10 +273,10 @@ pub(crate) fn line_of(alloc: Global, number: u32, words: &[&[u8]]) -> Result<Tra
     let [process, call, words @ ..] = words else {
         return Err(LineFault::Bad(TraceReason::Form));
     };
-    let Some(call) = Call::of(call) else {
+    let Some(call) = CallName::of_word(call) else {
         return Err(LineFault::Bad(TraceReason::Form));
     };
-    if !is_number(process) || !have_forms(call.forms(), words) {
+    if !is_number(process) || !have_these(forms_of(call), words) {
         return Err(LineFault::Bad(TraceReason::Form));
     }
     let process = process_of(process)?;

@@ -2,22 +2,18 @@
 ghost use Rattle.std.specs.Prelude.{◌≡◌, ℕ, ◌<◌, ◌≤◌, ◌++◌, ◌∷◌, ◌==◌, length, IfOk, OnOk, IfErr, None, Err};
 ghost use Rattle.std.specs.List.{position};
 ghost use Rattle.pass_trace.specs.declared.trace.TraceReason.{TraceReason};
+ghost use Rattle.pass_trace.specs.Limits.{most_lines};
 ghost use Rattle.pass_trace.specs.Lines.{lines_of, is_skipped};
 ghost use Rattle.pass_trace.specs.Gives.{Gives, IsReason};
 ghost use Rattle.pass_trace.specs.Traces.{text_line_of, reason_behind, said, trace_of, IsTraceText, IsFirstFault};
 
 use crate::earlier::Earlier;
 use crate::fields::LineFault;
+use crate::limits::{LONGEST_LINE, MOST_LINES};
 use crate::line::line_of;
 use crate::trace::{Trace, TraceFault, TraceLine, TraceReason};
 use crate::words::words_of;
 use std::alloc::Global;
-
-/// The greatest number of lines of a text.
-const MOST_LINES: u32 = 100_000;
-
-/// The greatest number of bytes of a line.
-const LONGEST_LINE: usize = 8400;
 
 fn line_end(bytes: &[u8]) -> Option<usize>
     ensures { result ≡ position (λ b. b == 10) bytes.now }
@@ -50,12 +46,12 @@ fn is_skipped(text: &[u8]) -> bool
 #[tactic(auto, unfolding(crate::specs::Traces::text_line_of))]
 fn text_line_of(alloc: Global, number: u32, text: &[u8]) -> Result<Option<TraceLine>, LineFault>
     ensures value { Gives (λ l. l) result (text_line_of number text.now) }
-    ensures within { OnOk result (number ≤ 100000) }
+    ensures within { OnOk result (number ≤ most_lines) }
 {
     if number > MOST_LINES {
         return Err(LineFault::Bad(TraceReason::Many));
     }
-    if text.len() > LONGEST_LINE {
+    if text.len() > LONGEST_LINE as usize {
         return Err(LineFault::Bad(TraceReason::Length));
     }
     if is_skipped(text) {
@@ -75,7 +71,7 @@ fn read_line(
 ) -> Result<(), LineFault>
     ensures fits { OnOk result (reason_behind earlier.old (text_line_of number text.now) ≡ None) }
     ensures says { OnOk result (earlier.new ≡ earlier.old ++ said (text_line_of number text.now)) }
-    ensures within { OnOk result (number ≤ 100000) }
+    ensures within { OnOk result (number ≤ most_lines) }
     ensures fault { IfErr result (λ f. IsReason f (reason_behind earlier.old (text_line_of number text.now))) }
 {
     let Some(line) = text_line_of(alloc, number, text)? else {

@@ -1,11 +1,12 @@
 //! The text of a trace.
 ghost use Rattle.std.specs.Prelude.{◌≡◌, [], ◌∷◌, ◌++◌, map, decimal, OnOk, IfOk};
 ghost use Rattle.std.specs.List.{flat_map};
+ghost use Rattle.pass_entry.specs.Words.{call_word};
 ghost use Rattle.pass_trace.specs.Texts.{spaced, payload_word, mode_word, args_words, command_words, line_text, text_of};
 
 use crate::trace::{Command, Payload, Trace, TraceLine};
 use itoa::Buffer;
-use pass_entry::{Mode, Text};
+use pass_entry::{CallName, Mode, Text};
 use std::alloc::{AllocError, Global};
 
 fn push_word(out: &mut Vec<u8>, word: &[u8]) -> Result<(), AllocError>
@@ -25,10 +26,10 @@ fn push_decimal(out: &mut Vec<u8>, number: u64) -> Result<(), AllocError>
 }
 
 /// A call and the numbers behind it.
-fn push_numbers(out: &mut Vec<u8>, call: &[u8], numbers: &[u64]) -> Result<(), AllocError>
-    ensures { OnOk result (out.new.items ≡ out.old.items ++ spaced (call.now ∷ map decimal numbers.now)) }
+fn push_numbers(out: &mut Vec<u8>, call: CallName, numbers: &[u64]) -> Result<(), AllocError>
+    ensures { OnOk result (out.new.items ≡ out.old.items ++ spaced (call_word call ∷ map decimal numbers.now)) }
 {
-    push_word(out, call)?;
+    push_word(out, call.word().as_bytes())?;
     for number in numbers {
         out.push(b' ')?;
         push_decimal(out, *number)?;
@@ -37,10 +38,10 @@ fn push_numbers(out: &mut Vec<u8>, call: &[u8], numbers: &[u64]) -> Result<(), A
 }
 
 /// A call and the names behind it.
-fn push_names(out: &mut Vec<u8>, call: &[u8], names: &[&Text]) -> Result<(), AllocError>
-    ensures { OnOk result (out.new.items ≡ out.old.items ++ spaced (call.now ∷ map (λ n. n.now) names.now)) }
+fn push_names(out: &mut Vec<u8>, call: CallName, names: &[&Text]) -> Result<(), AllocError>
+    ensures { OnOk result (out.new.items ≡ out.old.items ++ spaced (call_word call ∷ map (λ n. n.now) names.now)) }
 {
-    push_word(out, call)?;
+    push_word(out, call.word().as_bytes())?;
     for name in names {
         push_word(out, name.as_bytes())?;
     }
@@ -86,49 +87,61 @@ fn push_command(alloc: Global, out: &mut Vec<u8>, command: &Command) -> Result<(
 {
     match command {
         Command::Creat { fd, name } => {
-            push_numbers(out, b"creat", &[u64::from(*fd)])?;
+            push_numbers(out, CallName::Creat, &[u64::from(*fd)])?;
             push_word(out, name.as_bytes())
         }
         Command::Open { fd, name, mode } => {
-            push_numbers(out, b"open", &[u64::from(*fd)])?;
+            push_numbers(out, CallName::OpenName, &[u64::from(*fd)])?;
             push_word(out, name.as_bytes())?;
             push_word(out, word_of_mode(*mode))
         }
-        Command::Close { fd } => push_numbers(out, b"close", &[u64::from(*fd)]),
+        Command::Close { fd } => push_numbers(out, CallName::CloseFd, &[u64::from(*fd)]),
         Command::Read { fd, len } => {
-            push_numbers(out, b"read", &[u64::from(*fd), u64::from(*len)])
+            push_numbers(out, CallName::Read, &[u64::from(*fd), u64::from(*len)])
         }
         Command::Write { fd, payload } => {
-            push_numbers(out, b"write", &[u64::from(*fd)])?;
+            push_numbers(out, CallName::Write, &[u64::from(*fd)])?;
             push_payload(alloc, out, payload)
         }
-        Command::Seek { fd, off } => push_numbers(out, b"seek", &[u64::from(*fd), *off]),
+        Command::Seek { fd, off } => push_numbers(out, CallName::Seek, &[u64::from(*fd), *off]),
         Command::Truncate { fd, size } => {
-            push_numbers(out, b"truncate", &[u64::from(*fd), *size])
+            push_numbers(out, CallName::Truncate, &[u64::from(*fd), *size])
         }
         Command::Pipe { reader, writer } => {
-            push_numbers(out, b"pipe", &[u64::from(*reader), u64::from(*writer)])
+            push_numbers(
+                out,
+                CallName::MakePipe,
+                &[u64::from(*reader), u64::from(*writer)],
+            )
         }
-        Command::Fork { child } => push_numbers(out, b"fork", &[u64::from(*child)]),
+        Command::Fork { child } => push_numbers(out, CallName::Fork, &[u64::from(*child)]),
         Command::Exec { name, args } => {
-            push_names(out, b"exec", &[name])?;
+            push_names(out, CallName::Exec, &[name])?;
             push_args(out, args.as_bytes())
         }
-        Command::Wait { child } => push_numbers(out, b"wait", &[u64::from(*child)]),
-        Command::Rename { from, to } => push_names(out, b"rename", &[from, to]),
-        Command::Unlink { name } => push_names(out, b"unlink", &[name]),
-        Command::MkObj { fd } => push_numbers(out, b"mkobj", &[u64::from(*fd)]),
-        Command::Revive { fd, pnode } => push_numbers(out, b"revive", &[u64::from(*fd), *pnode]),
-        Command::Freeze { fd } => push_numbers(out, b"freeze", &[u64::from(*fd)]),
+        Command::Wait { child } => push_numbers(out, CallName::WaitChild, &[u64::from(*child)]),
+        Command::Rename { from, to } => push_names(out, CallName::Rename, &[from, to]),
+        Command::Unlink { name } => push_names(out, CallName::Unlink, &[name]),
+        Command::MkObj { fd } => push_numbers(out, CallName::MakeObj, &[u64::from(*fd)]),
+        Command::Revive { fd, pnode } => push_numbers(
+            out,
+            CallName::Revive,
+            &[u64::from(*fd), *pnode],
+        ),
+        Command::Freeze { fd } => push_numbers(out, CallName::FreezeObj, &[u64::from(*fd)]),
         Command::Disclose { target, source } => {
-            push_numbers(out, b"disclose", &[u64::from(*target), u64::from(*source)])
+            push_numbers(
+                out,
+                CallName::Disclose,
+                &[u64::from(*target), u64::from(*source)],
+            )
         }
         Command::Tag { fd, attr, value } => {
-            push_numbers(out, b"tag", &[u64::from(*fd)])?;
+            push_numbers(out, CallName::TagObj, &[u64::from(*fd)])?;
             push_word(out, attr.as_bytes())?;
             push_word(out, value.as_bytes())
         }
-        Command::Sync { fd } => push_numbers(out, b"sync", &[u64::from(*fd)]),
+        Command::Sync { fd } => push_numbers(out, CallName::Sync, &[u64::from(*fd)]),
     }
 }
 

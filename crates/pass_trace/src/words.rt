@@ -1,14 +1,14 @@
 //! The words of a line and their forms.
-ghost use Rattle.std.specs.Prelude.{◌≡◌, map, IfOk};
+ghost use Rattle.std.specs.Prelude.{◌≡◌, map, option_map, IfOk};
 ghost use Rattle.std.specs.List.{list_all};
 ghost use Rattle.pass_entry.specs.Texts.{is_name_byte};
 ghost use Rattle.pass_trace.specs.Lines.{words_of};
-ghost use Rattle.pass_trace.specs.Words.{is_digit, is_hex, is_number, is_word, is_mode, is_repeated, is_payload, has_form, have_forms};
+ghost use Rattle.pass_trace.specs.Words.{is_digit, is_hex, is_number, is_word, is_mode, is_repeated, is_payload, has_form, have_forms, have_these};
 
 use crate::call::Form;
 use std::alloc::{AllocError, Global};
 
-/// The words of a line, between which one space stands.
+// The words of a line, between which one space stands.
 pub(crate) fn words_of(alloc: Global, line: &[u8]) -> Result<Vec<&[u8]>, AllocError>
     ensures { IfOk result (λ words. map (λ w. w.now) words.items ≡ words_of line.now) }
 {
@@ -57,7 +57,7 @@ fn is_mode(word: &[u8]) -> bool
     word == b"r".as_slice() || word == b"w".as_slice() || word == b"rw".as_slice()
 }
 
-/// A number, a colon and two digits in base 16.
+// A number, a colon and two digits in base 16.
 fn is_repeated(bytes: &[u8]) -> bool
     ensures { result ≡ is_repeated bytes.now }
 {
@@ -106,8 +106,18 @@ fn are_words(words: &[&[u8]]) -> bool
     words.iter().all(|word| is_word(word))
 }
 
-/// Whether the words have the forms, one each.
-pub(crate) fn have_forms(forms: &[Form], words: &[&[u8]]) -> bool
+// There are forms, and the words have them.
+pub(crate) fn have_these(forms: Option<&[Form]>, words: &[&[u8]]) -> bool
+    ensures { result ≡ have_these (option_map (λ f. f.now) forms.entry) (map (λ w. w.now) words.now) }
+{
+    match forms {
+        Some(forms) => have_forms(forms, words),
+        None => false,
+    }
+}
+
+// Whether the words have the forms, one each.
+fn have_forms(forms: &[Form], words: &[&[u8]]) -> bool
     ensures { result ≡ have_forms forms.now (map (λ w. w.now) words.now) }
 {
     let mut left = words;

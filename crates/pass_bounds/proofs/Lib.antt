@@ -1,6 +1,5 @@
 mod Arguments
 mod Charged
-mod Created
 mod Digested
 pub mod Images
 mod Lengths

@@ -12,8 +12,6 @@ use Rattle.pass_plain.specs.Records.{records_of}
 use Rattle.pass_plain.specs.WellLogged.{ceiling_of, current_of, IsWellLogged}
 use Rattle.pass_graph.specs.Bounds.{records_length}
 use Rattle.pass_graph.specs.Openings.{Opens}
-use Rattle.pass_trace.specs.Rules.{count_created}
-use Rattle.pass_trace.specs.Traces.{trace_of, IsTraceText}
 use Rattle.pass_log.specs.Records.{Held, image_of, spellings}
 
 -- Logs
@@ -53,7 +51,3 @@ abbrev pub FrameLaw : Type 0
 FrameLaw = (bytes : List ℕ) (log : Held) → image_of bytes ≡ Ok log → log.end ≤ 2 ^ 38 → (session : Session) → Opens log.list session
     → (trace : List Line) (history : List Entry) → IsRun session trace history → length trace ≤ 100000
     → All IsInRange (records_of session history) × (length (spellings (records_of session history)) < 2 ^ 32)
-
--- the trace of a text makes at most 8,191 objects beside its first process
-abbrev pub ObjectsLaw : Type 0
-ObjectsLaw = (bytes : List ℕ) → IsTraceText bytes → count_created (trace_of bytes) ≤ 8191

@@ -1,6 +1,6 @@
-//! What holds of the records of every log, of every legal history and of every trace. Each function carries laws in its contract and
+//! What holds of the records of every log and of every legal history. Each function carries laws in its contract and
 //! does nothing.
-ghost use Rattle.pass_bounds.specs.Lawful.{FrameLaw, ImageLaw, InRangeLaw, LengthLaw, ObjectsLaw, OpenedLaw, RunLaw};
+ghost use Rattle.pass_bounds.specs.Lawful.{FrameLaw, ImageLaw, InRangeLaw, LengthLaw, OpenedLaw, RunLaw};
 
 use pass_graph::bounds::lists;
 
@@ -25,8 +25,3 @@ pub fn runs()
 {
     lists();
 }
-
-/// A trace makes no more objects than one session may.
-pub fn traces()
-    ensures { ObjectsLaw }
-{}

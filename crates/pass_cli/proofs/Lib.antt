@@ -1,6 +1,5 @@
 pub mod Counted
 pub mod Checking
-pub mod StoppedTexts
 pub mod Judging
 pub mod OneWord
 pub mod Written

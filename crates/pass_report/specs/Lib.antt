@@ -1,4 +1,3 @@
-pub mod TraceLines
 pub mod Reports
 pub mod Passing
 pub mod Trails

@@ -33,7 +33,7 @@ use Rattle.pass_plain.specs.Records.{records_of}
 use Rattle.pass_plain.specs.Traces.{Line, LineCall, fork_as, lines_of}
 use Rattle.pass_plain.specs.Runs.{IsRun, pnode_of_process, is_open}
 use Rattle.pass_trace.specs.declared.trace.TraceLine.{TraceLine}
-use Rattle.pass_report.specs.TraceLines.{plain_trace, session_of_trace}
+use Rattle.pass_trace.specs.TraceLines.{plain_trace, session_of_trace}
 
 -- each value once, in ascending order
 abbrev pub ascending : {K : Type 0} (R : K → K → Ordering) → List K → List K

@@ -8,17 +8,13 @@ mod kinds;
 mod lines;
 mod logged;
 mod names;
-mod objects;
 mod opening;
 mod processes;
 mod recorder;
 mod recording;
 mod reporting;
 mod standing;
-#[cfg(test)]
-mod tests;
 mod trail;
 
-pub use objects::objects_of;
 pub use recording::recorded;
 pub use reporting::report;

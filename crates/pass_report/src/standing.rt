@@ -8,7 +8,7 @@ ghost use Rattle.pass_entry.specs.declared.entry.Entry.{Entry as AnyEntry};
 ghost use Rattle.pass_plain.specs.Sessions.{Session};
 ghost use Rattle.pass_plain.specs.Traces.{fork_as};
 ghost use Rattle.pass_plain.specs.Runs.{IsRun, pnode_in, first_begun, is_open as is_open_in};
-ghost use Rattle.pass_report.specs.TraceLines.{plain_line, plain_trace, call_of};
+ghost use Rattle.pass_trace.specs.TraceLines.{plain_line, plain_trace, call_of};
 ghost use Rattle.pass_report.specs.Reports.{forked_by, next_line as next_line_of};
 ghost use Rattle.pass_report.specs.CallTables.{IsCallTable};
 ghost use Rattle.pass_report.specs.Standings.{lines_in, begun_from, ReadsLine, LooksAtLine, HasRead, HasLooked, done_by};
@@ -29,7 +29,7 @@ pub struct Standing {
     next: BTreeMap<u32, u32>,
 }
 
-/// The process that a command forks.
+// The process that a command forks.
 fn forked(command: &Command) -> Option<u32>
     ensures { result ≡ forked_by (call_of command.now) }
 {
@@ -58,7 +58,7 @@ impl Standing {
         Ok(standing)
     }
 
-    /// Before the first line.
+    // Before the first line.
     fn new(alloc: Global, first: Option<Pnode>) -> Result<Standing, AllocError>
         ensures processes { IfOk result (λ s. s.processes.keys ≡ 1 ∷ []) }
         ensures begun { IfOk result (λ s. (process : ℕ) → get nat_cmp s.begun process ≡ (if 1 == process then first else None)) }
@@ -79,7 +79,7 @@ impl Standing {
         })
     }
 
-    /// Finds which processes there are, and which have begun.
+    // Finds which processes there are, and which have begun.
     fn read(&mut self, lines: &[TraceLine], calls: &Calls) -> Result<(), AllocError>
         requires { (process : ℕ) → lines_in self.old process ≡ 0 }
         ensures read { OnOk result ((session : Session) (history : List AnyEntry) → IsRun session (plain_trace lines.now) history → IsCallTable history calls.now
@@ -92,7 +92,7 @@ impl Standing {
         Ok(())
     }
 
-    /// One more line.
+    // One more line.
     fn read_line(&mut self, line: &TraceLine, calls: &Calls) -> Result<(), AllocError>
         requires { lines_in self.old line.now.process < 2 ^ 63 }
         ensures reads { OnOk result (ReadsLine calls.now (plain_line line.now) self.old self.new) }
@@ -106,7 +106,7 @@ impl Standing {
         Ok(())
     }
 
-    /// One more line of the process: the answer is its number among them, from 1.
+    // One more line of the process: the answer is its number among them, from 1.
     fn count(&mut self, process: u32) -> Result<u64, AllocError>
         requires { lines_in self.old process < 2 ^ 63 }
         ensures number { IfOk result (λ n. n ≡ lines_in self.old process + 1) }
@@ -129,7 +129,7 @@ impl Standing {
         }
     }
 
-    /// A fork of the parent's, its call of this number, begins the child where it is answered.
+    // A fork of the parent's, its call of this number, begins the child where it is answered.
     fn fork(
         &mut self,
         child: u32,
@@ -154,7 +154,7 @@ impl Standing {
         }
     }
 
-    /// Finds the first line of each process that isn't answered.
+    // Finds the first line of each process that isn't answered.
     fn look(&mut self, lines: &[TraceLine], calls: &Calls) -> Result<(), AllocError>
         requires { (process : ℕ) → lines_in self.old process ≡ 0 }
         ensures few { OnOk result ((process : ℕ) → lines_in self.new process ≤ length lines.now) }
@@ -178,7 +178,7 @@ impl Standing {
         Ok(())
     }
 
-    /// The call of this number of a process is answered.
+    // The call of this number of a process is answered.
     fn is_done(&self, calls: &Calls, process: u32, number: u64) -> bool
         ensures { result ≡ done_by calls.now self.now process number }
     {

@@ -1,11 +1,13 @@
 pub mod Calls
 pub mod Commands
 pub mod Gives
+pub mod Lawful
 pub mod Limits
 pub mod Lines
 pub mod Reasons
 pub mod Rules
 pub mod Tables
 pub mod Texts
+pub mod TraceLines
 pub mod Traces
 pub mod Words

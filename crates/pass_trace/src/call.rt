@@ -4,7 +4,7 @@ ghost use Rattle.pass_trace.specs.Calls.{forms_of};
 
 use pass_entry::CallName;
 
-/// The form of a word behind a call.
+// The form of a word behind a call.
 #[derive(Clone, Copy, Debug, PartialEq, Eq)]
 pub(crate) enum Form {
     Number,
@@ -15,7 +15,7 @@ pub(crate) enum Form {
     Rest,
 }
 
-/// The forms of the words behind a call; None where no line of a trace has the call.
+// The forms of the words behind a call; None where no line of a trace has the call.
 pub(crate) fn forms_of(call: CallName) -> Option<&'static [Form]>
     ensures { option_map (λ f. f.now) result ≡ forms_of call }
 {

@@ -1,14 +1,15 @@
 //! The lines of a trace so far, and what the lines behind them may be.
 ghost use Rattle.std.specs.Prelude.{◌≡◌, ℕ, ◌≤◌, ◌++◌, ◌∷◌, [], length, slice_index, IfOk, OnOk, OnErr, None};
 ghost use Rattle.pass_trace.specs.Limits.{last_process};
-ghost use Rattle.pass_trace.specs.Rules.{creates, is_there, may_call, rule_of, child_of};
+ghost use Rattle.pass_trace.specs.Rules.{is_there, may_call, rule_of, child_of};
 
 use crate::limits::{LAST_PROCESS, MOST_CREATED};
+use crate::objects::creates;
 use crate::trace::{Command, TraceLine, TraceReason};
 use std::alloc::{AllocError, Global};
 use std::marker::Model;
 
-/// The earlier lines, seen as their list, with the parent of each process that they fork.
+// The earlier lines, seen as their list, with the parent of each process that they fork.
 #[derive(Drop)]
 pub(crate) struct Earlier {
     lines: Vec<TraceLine>,
@@ -26,15 +27,6 @@ impl Model for Earlier {
     ghost view = { λ e. e.lines.items };
 
     ghost invariant = { λ e. IsTable e.lines.items e.parents.items e.created };
-}
-
-fn creates(command: &Command) -> bool
-    ensures { result ≡ creates command.now }
-{
-    matches!(
-        command,
-        Command::Creat { .. } | Command::Pipe { .. } | Command::Fork { .. } | Command::MkObj { .. }
-    )
 }
 
 fn zeros(alloc: Global, count: usize) -> Result<Vec<u32>, AllocError>
@@ -75,7 +67,7 @@ impl Earlier {
         }
     }
 
-    /// The first reason why the line may not come next.
+    // The first reason why the line may not come next.
     pub(crate) fn rule_of(&self, line: &TraceLine) -> Option<TraceReason>
         requires process { 1 ≤ line.now.process }
         requires process_end { line.now.process ≤ last_process }
@@ -91,7 +83,7 @@ impl Earlier {
         None
     }
 
-    /// Puts a line behind the others.
+    // Puts a line behind the others.
     pub(crate) fn push(&mut self, line: TraceLine) -> Result<(), AllocError>
         requires process { 1 ≤ line.process }
         requires child { child_of line.command ≤ last_process }

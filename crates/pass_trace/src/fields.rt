@@ -13,7 +13,7 @@ use hex::{FromHex, FromHexError};
 use pass_entry::{Bytes, Mode, TRANSFER_LIMIT, Text, TextFault};
 use std::alloc::{AllocError, AllocFailed, Global};
 
-/// Why a line isn't read.
+// Why a line isn't read.
 #[derive(Drop)]
 pub(crate) enum LineFault {
     Bad(TraceReason),
@@ -21,7 +21,7 @@ pub(crate) enum LineFault {
 }
 
 impl LineFault {
-    /// The fault of the whole text, where the line with this number is the first at fault.
+    // The fault of the whole text, where the line with this number is the first at fault.
     pub(crate) fn at_line(self, line: u32) -> TraceFault
         ensures { result ≡ fault_at_line line self }
     {
@@ -54,7 +54,7 @@ impl<T: Drop> From<AllocFailed<T>> for LineFault {
     }
 }
 
-/// The number that decimal digits write, or the greatest one where it is greater.
+// The number that decimal digits write, or the greatest one where it is greater.
 fn value_of(word: &[u8]) -> u64
     ensures { result ≡ min (value_of word.now) u64.MAX }
 {
@@ -80,7 +80,7 @@ pub(crate) fn number_in(word: &[u8], low: u64, high: u64) -> Result<u64, LineFau
     }
 }
 
-/// The number of a process of the trace.
+// The number of a process of the trace.
 pub(crate) fn process_of(word: &[u8]) -> Result<u32, LineFault>
     ensures value { Gives (λ n. n) result (process_of word.now) }
     ensures within { IfOk result (λ n. (1 ≤ n) × (n ≤ last_process)) }

@@ -1,6 +1,7 @@
 //! What holds of texts and traces.
 ghost use Rattle.std.specs.Prelude.{◌≡◌, ◌⊎◌, ℕ, List};
 ghost use Rattle.pass_trace.specs.declared.trace.TraceReason.{TraceReason};
+ghost use Rattle.pass_trace.specs.Lawful.{ObjectsLaw, StaysLaw, TooLongLaw};
 ghost use Rattle.pass_trace.specs.Traces.{trace_of, IsTraceText, IsFirstFault};
 ghost use Rattle.pass_trace.specs.Texts.{text_of, renumbered_from};
 
@@ -21,4 +22,15 @@ pub fn written_is_read_again()
     ensures text { (bytes : List ℕ) → IsTraceText bytes → IsTraceText (text_of (trace_of bytes)) }
     ensures trace { (bytes : List ℕ) → IsTraceText bytes →
         trace_of (text_of (trace_of bytes)) ≡ renumbered_from 1 (trace_of bytes) }
+{}
+
+/// A trace makes no more objects than one session may.
+pub fn traces()
+    ensures { ObjectsLaw }
+{}
+
+/// A text that is too long is none of a trace, so that a reader may stop within it: its first fault is known.
+pub fn long_texts()
+    ensures apart { TooLongLaw }
+    ensures stays { StaysLaw }
 {}

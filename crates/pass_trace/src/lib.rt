@@ -7,12 +7,13 @@ mod fields;
 pub mod laws;
 pub mod limits;
 mod line;
+mod objects;
 mod parsing;
 mod printing;
 mod trace;
 mod words;
 
+pub use objects::objects_of;
 pub use parsing::parse;
 pub use printing::print;
 pub use trace::{Command, Payload, Trace, TraceFault, TraceLine, TraceReason};
-

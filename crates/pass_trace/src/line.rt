@@ -13,7 +13,7 @@ use crate::words::{have_these, is_number};
 use pass_entry::{CallName, NUMBER_LIMIT, TRANSFER_LIMIT, Text, TextFault};
 use std::alloc::{AllocError, Global};
 
-/// The word at a place, or no bytes where there is none.
+// The word at a place, or no bytes where there is none.
 fn word_at<'a>(words: &[&'a [u8]], place: usize) -> &'a [u8]
     ensures { result.now ≡ word_at (map (λ w. w.now) words.now) place }
 {
@@ -33,7 +33,7 @@ fn behind_first<'a, 'b>(words: &'b [&'a [u8]]) -> &'b [&'a [u8]]
     }
 }
 
-/// Puts each word behind a space.
+// Puts each word behind a space.
 fn push_words(out: &mut Vec<u8>, words: &[&[u8]]) -> Result<(), AllocError>
     ensures { OnOk result (out.new.items ≡ out.old.items ++ flat_map (λ w. 32 ∷ w.now) words.now) }
 {
@@ -56,7 +56,7 @@ fn joined(alloc: Global, words: &[&[u8]]) -> Result<Vec<u8>, AllocError>
     Ok(bytes)
 }
 
-/// Words joined by single spaces.
+// Words joined by single spaces.
 #[tactic(auto, unfolding(crate::specs::Commands::args_of))]
 fn args_of(alloc: Global, words: &[&[u8]]) -> Result<Text, LineFault>
     ensures { Gives (λ t. t) result (args_of (map (λ w. w.now) words.now)) }
@@ -237,7 +237,7 @@ fn sync_of(words: &[&[u8]]) -> Result<Command, LineFault>
     Ok(Command::Sync { fd })
 }
 
-/// The command of a call and the words behind it, which have their forms.
+// The command of a call and the words behind it, which have their forms.
 fn command_of(alloc: Global, call: CallName, words: &[&[u8]]) -> Result<Command, LineFault>
     ensures { Gives (λ c. c) result (command_of call (map (λ w. w.now) words.now)) }
 {
@@ -265,7 +265,7 @@ fn command_of(alloc: Global, call: CallName, words: &[&[u8]]) -> Result<Command,
     }
 }
 
-/// What the words of a line say.
+// What the words of a line say.
 #[tactic(auto, unfolding(crate::specs::Traces::line_of, crate::specs::Traces::call_line_of))]
 pub(crate) fn line_of(alloc: Global, number: u32, words: &[&[u8]]) -> Result<TraceLine, LineFault>
     ensures { Gives (λ l. l) result (line_of number (map (λ w. w.now) words.now)) }

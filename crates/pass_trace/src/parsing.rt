@@ -21,7 +21,7 @@ fn line_end(bytes: &[u8]) -> Option<usize>
     bytes.iter().position(|byte| *byte == b'\n')
 }
 
-/// The first line, and the bytes behind its end.
+// The first line, and the bytes behind its end.
 fn first_line(bytes: &[u8]) -> (&[u8], &[u8])
     requires { 0 < length bytes.now }
     ensures lines { lines_of bytes.now ≡ result.0.now ∷ lines_of result.1.now }
@@ -42,7 +42,7 @@ fn is_skipped(text: &[u8]) -> bool
     }
 }
 
-/// What a line of the text says by itself.
+// What a line of the text says by itself.
 #[tactic(auto, unfolding(crate::specs::Traces::text_line_of))]
 fn text_line_of(alloc: Global, number: u32, text: &[u8]) -> Result<Option<TraceLine>, LineFault>
     ensures value { Gives (λ l. l) result (text_line_of number text.now) }
@@ -62,7 +62,7 @@ fn text_line_of(alloc: Global, number: u32, text: &[u8]) -> Result<Option<TraceL
     Ok(Some(line))
 }
 
-/// Puts what a line of the text says behind the earlier lines.
+// Puts what a line of the text says behind the earlier lines.
 fn read_line(
     alloc: Global,
     earlier: &mut Earlier,

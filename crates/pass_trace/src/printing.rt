@@ -25,7 +25,7 @@ fn push_decimal(out: &mut Vec<u8>, number: u64) -> Result<(), AllocError>
     Ok(())
 }
 
-/// A call and the numbers behind it.
+// A call and the numbers behind it.
 fn push_numbers(out: &mut Vec<u8>, call: CallName, numbers: &[u64]) -> Result<(), AllocError>
     ensures { OnOk result (out.new.items ≡ out.old.items ++ spaced (call_word call ∷ map decimal numbers.now)) }
 {
@@ -37,7 +37,7 @@ fn push_numbers(out: &mut Vec<u8>, call: CallName, numbers: &[u64]) -> Result<()
     Ok(())
 }
 
-/// A call and the names behind it.
+// A call and the names behind it.
 fn push_names(out: &mut Vec<u8>, call: CallName, names: &[&Text]) -> Result<(), AllocError>
     ensures { OnOk result (out.new.items ≡ out.old.items ++ spaced (call_word call ∷ map (λ n. n.now) names.now)) }
 {

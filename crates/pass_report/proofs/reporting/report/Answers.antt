@@ -8,7 +8,7 @@ use Rattle.pass_plain.specs.Versions.{nodes_of}
 use Rattle.pass_plain.specs.Traces.{Line}
 use Rattle.pass_plain.specs.Runs.{IsRun, pnode_in, first_begun}
 use Rattle.pass_trace.specs.declared.trace.TraceLine.{TraceLine}
-use Rattle.pass_report.specs.TraceLines.{plain_trace, session_of_trace}
+use Rattle.pass_trace.specs.TraceLines.{plain_trace, session_of_trace}
 use Rattle.pass_report.specs.Reports.{IsLegalFrom, edge_line, object_line}
 use Rattle.pass_report.specs.Trails.{IsTrail}
 use Rattle.pass_report.specs.CallTables.{IsCallTable}

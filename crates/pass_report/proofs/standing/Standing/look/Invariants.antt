@@ -2,7 +2,7 @@ use Rattle.std.proofs.Common.{◌≤◌, ℕ, List, [], take}
 use Rattle.pass_entry.specs.declared.entry.Entry.{Entry}
 use Rattle.pass_plain.specs.Sessions.{Session}
 use Rattle.pass_plain.specs.Runs.{IsRun}
-use Rattle.pass_report.specs.TraceLines.{plain_trace}
+use Rattle.pass_trace.specs.TraceLines.{plain_trace}
 use Rattle.pass_report.specs.CallTables.{IsCallTable}
 use Rattle.pass_report.specs.Standings.{lines_in, HasLooked}
 use Rattle.pass_report.proofs.standing.Standing.look.Given as goal

@@ -3,7 +3,7 @@ use Rattle.std.specs.Option.{option_map_or}
 use Rattle.std.specs.Ordering.{nat_cmp}
 use Rattle.std.specs.BTreeMap.{get}
 use Rattle.pass_plain.specs.Traces.{Line}
-use Rattle.pass_report.specs.TraceLines.{plain_trace}
+use Rattle.pass_trace.specs.TraceLines.{plain_trace}
 use Rattle.pass_report.specs.Standings.{HasRead}
 use Rattle.pass_report.proofs.Filling.{nothing_in}
 use Rattle.pass_report.proofs.Reading.{first_in}

@@ -2,7 +2,7 @@ use Rattle.std.proofs.Common.{◌≡◌, ◌+◌, ◌≤◌, ◌==◌, ℕ, suc,
 use Rattle.std.specs.Prelude.{if◌then◌else◌}
 use Rattle.std.proofs.lemmas.List.{take_all, length-map}
 use Rattle.pass_plain.specs.Traces.{Line}
-use Rattle.pass_report.specs.TraceLines.{plain_line, plain_trace}
+use Rattle.pass_trace.specs.TraceLines.{plain_line, plain_trace}
 use Rattle.pass_report.specs.Standings.{lines_in, HasRead}
 use Rattle.pass_report.proofs.Reading.{read_next, line_at, parted, one_line}
 use Rattle.pass_report.proofs.standing.Standing.read.Goals as goal

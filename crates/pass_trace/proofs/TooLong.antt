@@ -7,9 +7,8 @@ use Rattle.std.proofs.lemmas.Bool.{cases_order}
 use Rattle.std.proofs.lemmas.Bool.Decides.{nat_tests}
 use Rattle.pass_trace.specs.declared.trace.TraceReason.{TraceReason}
 use Rattle.pass_trace.specs.declared.trace.TraceReason.TheVariants as reason
-use Rattle.pass_trace.specs.Lines.{lines_of}
+use Rattle.pass_trace.specs.Lines.{lines_of, is_too_long}
 use Rattle.pass_trace.specs.Traces.{text_line_of, lines_from, reason_behind, fault_at, IsTraceText, IsFirstFault}
-use Rattle.pass_run.specs.Reading.{is_too_long}
 
 -- the lines of a text, and those of one that begins with it: they part in the text's last line, which may go on
 record Parts (texts more : List (List ℕ)) : Type 0 where

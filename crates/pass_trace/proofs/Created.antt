@@ -1,5 +1,5 @@
 -- The trace of a text makes few objects.
-use Rattle.std.proofs.Common.{◌≡◌, ◌∙◌, ◌+◌, ◌<◌, ◌≤◌, ℕ, Bool, true, false, cond, not, ◌&&◌, List, [], ◌∷◌, ◌++◌, length, take, Result, Ok, Err, refl, ap, sym, subst, arith, append_assoc, length-append}
+use Rattle.std.proofs.Common.{◌≡◌, ◌∙◌, ◌+◌, ◌<◌, ◌≤◌, ℕ, Bool, true, false, cond, not, ◌&&◌, List, [], ◌∷◌, ◌++◌, length, take, Result, Ok, Err, refl, ap, sym, subst, arith, append_assoc, append-nil, length-append}
 use Rattle.std.specs.Prelude.{Option, Some, None, slice_index_or, nat_le}
 use Rattle.std.proofs.lemmas.Bool.Decides.{nat_tests}
 use Rattle.std.proofs.lemmas.List.Sums.{sum_by_push}
@@ -10,8 +10,7 @@ use Rattle.pass_trace.specs.Lines.{lines_of}
 use Rattle.pass_trace.specs.Rules.{is_there, may_call, creates, count_created}
 use Rattle.pass_trace.specs.Traces.{text_line_of, said, lines_from, reason_behind, fault_at}
 use Rattle.pass_trace.proofs.LinesLemmas.{lines_from-push}
-use Rattle.pass_plain.proofs.Replays.{append-nil}
-use Rattle.pass_bounds.specs.Lawful.{ObjectsLaw}
+use Rattle.pass_trace.specs.Lawful.{ObjectsLaw}
 
 place_of_front : (seen rest : List (List ℕ)) (text : List ℕ) → slice_index_or (seen ++ text ∷ rest) (length seen) [] ≡ text
 place_of_front [] rest text = refl

@@ -29,7 +29,8 @@ use Rattle.pass_plain.proofs.LastCalls.{before_kept}
 use Rattle.pass_plain.proofs.Playing.{before_hit}
 use Rattle.pass_plain.proofs.Sources.{source_law}
 use Rattle.pass_plain.proofs.Versioned.{nodes_of-append, length-nodes_of, short_get}
-use Rattle.pass_report.specs.Reports.{IsLegalFrom, act_answer, answer_of, call_line, is_answered, bytes_text, node_text}
+use Rattle.pass_report.specs.Reports.{IsLegalFrom, act_answer, answer_of, call_line, is_answered, bytes_text}
+use Rattle.pass_entry.specs.Words.{node_text}
 use Rattle.pass_report.specs.Passing.{IsNext}
 use Rattle.pass_report.specs.Recorders.{entry_line}
 

@@ -4,6 +4,7 @@ use Rattle.std.specs.Option.{option_map_or}
 use Rattle.std.specs.List.{list_any}
 use Rattle.std.specs.Ordering.{nat_cmp}
 use Rattle.std.specs.BTreeMap.{get}
+use Rattle.pass_entry.specs.Limits.{block_count}
 use Rattle.pass_entry.specs.declared.entry.Entry.{Entry}
 use Rattle.pass_entry.specs.declared.entry.Act.{Act}
 use Rattle.pass_entry.specs.declared.entry.Act.TheVariants as act
@@ -24,12 +25,12 @@ row_in start f file block =
 -- the file has the same size and the same rows
 pub record IsSameFile (start : Start) (old new : Files) (file : ℕ) : Type 0 where
   pub size : size_in start new file ≡ size_in start old file
-  pub rows : (block : ℕ) → block < 1024 → row_in start new file block ≡ row_in start old file block
+  pub rows : (block : ℕ) → block < block_count → row_in start new file block ≡ row_in start old file block
 
 -- each file has its size and its rows
 pub record AreFiles (start : Start) (session : Session) (history : List Entry) (f : Files) : Type 0 where
   pub sizes : (file : ℕ) → size_in start f file ≡ length (file_after session history file)
-  pub rows : (file block : ℕ) → block < 1024 → row_in start f file block ≡ has_row session history file block
+  pub rows : (file block : ℕ) → block < block_count → row_in start f file block ≡ has_row session history file block
 
 -- how many records an entry has of the content of its file
 abbrev pub content_count : Session → List Entry → Entry → Act → ℕ

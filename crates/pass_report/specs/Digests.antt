@@ -1,6 +1,7 @@
 -- The blocks of one file that get a digest.
 use Rattle.std.specs.Prelude.{ℕ, ◌+◌, ◌*◌, ◌==◌, Bool, false, not, ◌&&◌, ◌||◌, List, length, filter, get_or, max, nat_lt, if◌then◌else◌}
 use Rattle.std.specs.List.{range_with_len}
+use Rattle.pass_entry.specs.Limits.{block_size}
 use Rattle.pass_plain.specs.Records.{touches, range_len}
 
 -- how many of the first blocks pass
@@ -13,7 +14,7 @@ put_size size at len = if len == 0 then size else max size (at + len)
 
 -- a block has a digest, as `had` says, and its part of the file gets another length
 abbrev pub is_stretched : (ℕ → Bool) → ℕ → ℕ → ℕ → Bool
-is_stretched had old new block = had block && nat_lt (block * 4096) new && not (range_len old block == range_len new block)
+is_stretched had old new block = had block && nat_lt (block * block_size) new && not (range_len old block == range_len new block)
 
 -- a block gets a digest: a byte of it is written, or it is stretched
 abbrev pub gets_digest : (ℕ → Bool) → ℕ → ℕ → ℕ → ℕ → ℕ → Bool

@@ -10,7 +10,7 @@ use Rattle.std.specs.BTreeSet.{insert_key}
 use Rattle.std.specs.Fmt.{decimal}
 use Rattle.md5.specs.Md5.{md5}
 use Rattle.hex.specs.Hex.{encode_lower}
-use Rattle.pass_entry.specs.Words.{call_word, fault_word, kind_word}
+use Rattle.pass_entry.specs.Words.{call_word, fault_word, kind_word, node_text}
 use Rattle.pass_entry.specs.declared.entry.Entry.{Entry}
 use Rattle.pass_entry.specs.declared.entry.Act.{Act}
 use Rattle.pass_entry.specs.declared.entry.Act.TheVariants as act
@@ -38,10 +38,6 @@ use Rattle.pass_trace.specs.TraceLines.{plain_trace, session_of_trace}
 -- each value once, in ascending order
 abbrev pub ascending : {K : Type 0} (R : K → K → Ordering) → List K → List K
 ascending R ks = fold (insert_key R) [] ks
-
--- a node, as a report names it
-abbrev pub node_text : Node → List ℕ
-node_text n = decimal n.pnode ++ codes "." ++ decimal n.version
 
 -- the node of the entry at a place, if there is one
 abbrev pub text_at : List Node → ℕ → List ℕ

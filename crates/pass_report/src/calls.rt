@@ -11,7 +11,7 @@ use pass_plain::steps::pnode_of;
 use std::alloc::{AllocError, Global};
 use std::collections::BTreeMap;
 
-/// The last call of a process, and whether it has ended.
+// The last call of a process, and whether it has ended.
 #[derive(Clone, Copy)]
 struct LastCall {
     number: u64,
@@ -68,7 +68,7 @@ impl Calls {
         self.note_child(entry)
     }
 
-    /// What the first entry of a call makes stays noted.
+    // What the first entry of a call makes stays noted.
     fn note_child(&mut self, entry: &Entry) -> Result<(), AllocError>
         ensures last { self.new.last ≡ self.old.last }
         ensures made { OnOk result (makes_process_of entry.now.act ≡ true → child_in self.old entry.now.who entry.now.number ≡ None → child_in self.new entry.now.who entry.now.number ≡ Some (pnode_of_reply entry.now.reply)) }

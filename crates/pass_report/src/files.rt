@@ -3,6 +3,7 @@ ghost use Rattle.std.specs.Prelude.{ℕ, List, [], ◌∷◌, ◌++◌, ◌≡�
 ghost use Rattle.std.specs.Ordering.{nat_cmp};
 ghost use Rattle.std.specs.BTreeMap.{get};
 ghost use Rattle.pass_entry.specs.declared.entry.Entry.{Entry as AnyEntry};
+ghost use Rattle.pass_entry.specs.Limits.{block_count, block_size};
 ghost use Rattle.pass_plain.specs.declared.start.Start.{Start as AnyStart};
 ghost use Rattle.pass_plain.specs.Histories.{is_fault as is_fault_of};
 ghost use Rattle.pass_plain.specs.Sessions.{Session};
@@ -52,25 +53,25 @@ impl Files {
         }
     }
 
-    /// Bytes are written to a file.
+    // Bytes are written to a file.
     fn put(&mut self, start: &Start, file: Pnode, at: u64, len: usize) -> Result<u64, AllocError>
         requires { 0 < len → at + len < 2 ^ 63 }
         ensures few { IfOk result (λ n. n ≤ 1025) }
-        ensures count { IfOk result (λ n. n ≡ 1 + passing (gets_digest (row_in start.now self.old file) (size_in start.now self.old file) at len (put_size (size_in start.now self.old file) at len)) 1024) }
+        ensures count { IfOk result (λ n. n ≡ 1 + passing (gets_digest (row_in start.now self.old file) (size_in start.now self.old file) at len (put_size (size_in start.now self.old file) at len)) block_count) }
         ensures size { OnOk result (size_in start.now self.new file ≡ put_size (size_in start.now self.old file) at len) }
-        ensures rows { OnOk result ((block : ℕ) → block < 1024 → row_in start.now self.new file block ≡ (row_in start.now self.old file block || touches at len block)) }
+        ensures rows { OnOk result ((block : ℕ) → block < block_count → row_in start.now self.new file block ≡ (row_in start.now self.old file block || touches at len block)) }
         ensures others { OnOk result ((q : ℕ) → (file == q) ≡ false → IsSameFile start.now self.old self.new q) }
     {
         self.meet(start, file)?;
         Ok(1 + self.put_met(start, file, at, len as u64))
     }
 
-    /// A file gets a size.
+    // A file gets a size.
     fn cut(&mut self, start: &Start, file: Pnode, size: u64) -> Result<u64, AllocError>
         ensures few { IfOk result (λ n. n ≤ 1025) }
-        ensures count { IfOk result (λ n. n ≡ 1 + passing (gets_digest (row_in start.now self.old file) (size_in start.now self.old file) 0 0 size) 1024) }
+        ensures count { IfOk result (λ n. n ≡ 1 + passing (gets_digest (row_in start.now self.old file) (size_in start.now self.old file) 0 0 size) block_count) }
         ensures size { OnOk result (size_in start.now self.new file ≡ size) }
-        ensures rows { OnOk result ((block : ℕ) → block < 1024 → row_in start.now self.new file block ≡ (row_in start.now self.old file block && nat_lt (block * 4096) size)) }
+        ensures rows { OnOk result ((block : ℕ) → block < block_count → row_in start.now self.new file block ≡ (row_in start.now self.old file block && nat_lt (block * block_size) size)) }
         ensures others { OnOk result ((q : ℕ) → (file == q) ≡ false → IsSameFile start.now self.old self.new q) }
     {
         self.meet(start, file)?;
@@ -80,10 +81,10 @@ impl Files {
     fn put_met(&mut self, start: &Start, file: Pnode, at: u64, len: u64) -> u64
         requires met { is_some (get nat_cmp self.old.files file) ≡ true }
         requires fits { 0 < len → at + len < 2 ^ 63 }
-        ensures few { result ≤ 1024 }
-        ensures count { result ≡ passing (gets_digest (row_in start.now self.old file) (size_in start.now self.old file) at len (put_size (size_in start.now self.old file) at len)) 1024 }
+        ensures few { result ≤ block_count }
+        ensures count { result ≡ passing (gets_digest (row_in start.now self.old file) (size_in start.now self.old file) at len (put_size (size_in start.now self.old file) at len)) block_count }
         ensures size { size_in start.now self.new file ≡ put_size (size_in start.now self.old file) at len }
-        ensures rows { (block : ℕ) → block < 1024 → row_in start.now self.new file block ≡ (row_in start.now self.old file block || touches at len block) }
+        ensures rows { (block : ℕ) → block < block_count → row_in start.now self.new file block ≡ (row_in start.now self.old file block || touches at len block) }
         ensures others { (q : ℕ) → (file == q) ≡ false → IsSameFile start.now self.old self.new q }
     {
         match self.files.get_mut(&file) {
@@ -94,10 +95,10 @@ impl Files {
 
     fn cut_met(&mut self, start: &Start, file: Pnode, size: u64) -> u64
         requires met { is_some (get nat_cmp self.old.files file) ≡ true }
-        ensures few { result ≤ 1024 }
-        ensures count { result ≡ passing (gets_digest (row_in start.now self.old file) (size_in start.now self.old file) 0 0 size) 1024 }
+        ensures few { result ≤ block_count }
+        ensures count { result ≡ passing (gets_digest (row_in start.now self.old file) (size_in start.now self.old file) 0 0 size) block_count }
         ensures size { size_in start.now self.new file ≡ size }
-        ensures rows { (block : ℕ) → block < 1024 → row_in start.now self.new file block ≡ (row_in start.now self.old file block && nat_lt (block * 4096) size) }
+        ensures rows { (block : ℕ) → block < block_count → row_in start.now self.new file block ≡ (row_in start.now self.old file block && nat_lt (block * block_size) size) }
         ensures others { (q : ℕ) → (file == q) ≡ false → IsSameFile start.now self.old self.new q }
     {
         match self.files.get_mut(&file) {
@@ -106,7 +107,7 @@ impl Files {
         }
     }
 
-    /// The file has a place among those that have changed.
+    // The file has a place among those that have changed.
     fn meet(&mut self, start: &Start, file: Pnode) -> Result<(), AllocError>
         ensures met { OnOk result (is_some (get nat_cmp self.new.files file) ≡ true) }
         ensures same { OnOk result ((q : ℕ) → IsSameFile start.now self.old self.new q) }

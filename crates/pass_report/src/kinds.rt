@@ -24,7 +24,7 @@ pub struct Kinds {
     pub touched: BTreeSet<Pnode>,
 }
 
-/// The kind of object that an act makes.
+// The kind of object that an act makes.
 fn made_kind(act: &Act) -> Option<Kind>
     ensures { result ≡ made_kind_of act.now }
 {
@@ -35,7 +35,7 @@ fn made_kind(act: &Act) -> Option<Kind>
     }
 }
 
-/// The object that an entry makes, with its kind.
+// The object that an entry makes, with its kind.
 fn made_by(entry: &Entry) -> Option<(Pnode, Kind)>
     ensures { result ≡ made_by_entry entry.now.act entry.now.reply }
 {

@@ -2,7 +2,7 @@
 ghost use Rattle.std.specs.Prelude.{◌≡◌, [], ◌∷◌, ◌++◌, OnOk, codes, string_bytes, if◌then◌else◌};
 ghost use Rattle.std.specs.Option.{option_map_or};
 ghost use Rattle.std.specs.Fmt.{decimal};
-ghost use Rattle.pass_entry.specs.Words.{kind_word};
+ghost use Rattle.pass_entry.specs.Words.{kind_word, node_text};
 ghost use Rattle.pass_report.specs.Reports as reports;
 
 use crate::processes::bytes_at;
@@ -59,55 +59,41 @@ fn write_done(
     ensures { OnOk result (string_bytes text.new ≡ string_bytes text.old ++ reports.act_answer history.now trail.now.nodes.items node act.now) }
 {
     match act {
-        Act::Attach { descriptor, .. } => write!(text, "pnode {}", descriptor.pnode.0),
-        Act::AttachPipe { pnode, .. } => write!(text, "pnode {}", pnode.0),
-        Act::Born { .. } => write!(text, "pnode {}", node.pnode.0),
+        Act::Attach { descriptor, .. } => write!(text, "pnode {}", descriptor.pnode),
+        Act::AttachPipe { pnode, .. } => write!(text, "pnode {pnode}"),
+        Act::Born { .. } => write!(text, "pnode {}", node.pnode),
         Act::Gain { out, .. } => write_read(text, bytes_at(history, *out), trail.node_at(*out)),
         Act::Put { bytes, .. } => write_written(text, bytes.as_bytes().len(), node),
         Act::Push { bytes, .. } => write_written(text, bytes.as_bytes().len(), node),
-        Act::Freeze => {
-            text.push_str("node ")?;
-            write_node(text, node)
-        }
+        Act::Freeze => write!(text, "node {node}"),
         _ => text.push_str("ok"),
     }
 }
 
-/// How many bytes were read, their MD5, and the node from which they came.
+// How many bytes were read, their MD5, and the node from which they came.
 fn write_read(text: &mut String, bytes: &[u8], source: Option<Node>) -> Result<(), AllocError>
-    ensures { OnOk result (string_bytes text.new ≡ string_bytes text.old ++ (reports.bytes_text bytes.now ++ codes " from " ++ option_map_or reports.node_text source [])) }
+    ensures { OnOk result (string_bytes text.new ≡ string_bytes text.old ++ (reports.bytes_text bytes.now ++ codes " from " ++ option_map_or node_text source [])) }
 {
     let digest = hex::encode(*text.allocator(), Md5::digest(bytes).as_slice())?;
     write!(text, "{} {digest} from ", bytes.len())?;
     match source {
-        Some(source) => write_node(text, source),
+        Some(source) => write!(text, "{source}"),
         None => Ok(()),
     }
 }
 
-/// How many bytes were written, and the node that they are in.
+// How many bytes were written, and the node that they are in.
 fn write_written(text: &mut String, len: usize, target: Node) -> Result<(), AllocError>
-    ensures { OnOk result (string_bytes text.new ≡ string_bytes text.old ++ (decimal len ++ codes " to " ++ reports.node_text target)) }
+    ensures { OnOk result (string_bytes text.new ≡ string_bytes text.old ++ (decimal len ++ codes " to " ++ node_text target)) }
 {
-    write!(text, "{len} to ")?;
-    write_node(text, target)
-}
-
-fn write_node(text: &mut String, node: Node) -> Result<(), AllocError>
-    ensures { OnOk result (string_bytes text.new ≡ string_bytes text.old ++ reports.node_text node) }
-{
-    write!(text, "{}.{}", node.pnode.0, node.version)
+    write!(text, "{len} to {target}")
 }
 
 /// Adds the line of an edge.
 pub fn write_edge(text: &mut String, edge: &Edge) -> Result<(), AllocError>
     ensures { OnOk result (string_bytes text.new ≡ string_bytes text.old ++ reports.edge_line edge.now) }
 {
-    text.push_str("edge ")?;
-    write_node(text, edge.0)?;
-    text.push_str(" ")?;
-    write_node(text, edge.1)?;
-    text.push_str("\n")
+    writeln!(text, "edge {} {}", edge.0, edge.1)
 }
 
 /// Adds the line of an object with its last version.
@@ -119,7 +105,7 @@ pub fn write_object(
 ) -> Result<(), AllocError>
     ensures { OnOk result (string_bytes text.new ≡ string_bytes text.old ++ (codes "object " ++ decimal pnode ++ codes " " ++ kind_word kind ++ codes " " ++ decimal version ++ 10 ∷ [])) }
 {
-    writeln!(text, "object {} {} {}", pnode.0, kind, version)
+    writeln!(text, "object {pnode} {kind} {version}")
 }
 
 /// Adds the line of a process with the number of its next line.

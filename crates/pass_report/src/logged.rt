@@ -29,43 +29,43 @@ pub struct Logged {
     names: Names,
 }
 
-/// How many records tell of a new version and of an input.
+// How many records tell of a new version and of an input.
 fn version_records(turn: &Turn) -> u64
     ensures { result ≡ version_count turn.now }
 {
     u64::from(turn.freezes) + u64::from(turn.source.is_some())
 }
 
-/// How many records tell of a program's arguments.
+// How many records tell of a program's arguments.
 fn args_records(args: &Text) -> u64
     ensures { result ≡ args_count args.now }
 {
     u64::from(!args.as_bytes().is_empty())
 }
 
-/// How many records a rename has.
-fn move_records(names: &Names, from: &Text, to: &Text) -> Result<u64, AllocError>
-    ensures count { IfOk result (λ n. n ≡ (if bytes_eq from.now to.now then 0 else 1 + one_if (holds names.now to.now))) }
-    ensures few { IfOk result (λ n. n ≤ 2) }
+// How many records a rename has.
+fn move_records(names: &Names, from: &Text, to: &Text) -> u64
+    ensures count { result ≡ (if bytes_eq from.now to.now then 0 else 1 + one_if (holds names.now to.now)) }
+    ensures few { result ≤ 2 }
 {
     if from == to {
-        return Ok(0);
+        0
+    } else {
+        1 + u64::from(names.contains(to))
     }
-    let taken = names.contains(to)?;
-    Ok(1 + u64::from(taken))
 }
 
-/// How many records an entry has beside those of a file's content. `names` are those before it.
-fn own_records(names: &Names, act: &Act, turn: &Turn) -> Result<u64, AllocError>
-    ensures count { IfOk result (λ n. n ≡ own_count names.now turn.now act.now) }
-    ensures few { IfOk result (λ n. n ≤ 4) }
+// How many records an entry has beside those of a file's content. `names` are those before it.
+fn own_records(names: &Names, act: &Act, turn: &Turn) -> u64
+    ensures count { result ≡ own_count names.now turn.now act.now }
+    ensures few { result ≤ 4 }
 {
     match act {
-        Act::Bind { .. } => Ok(2),
-        Act::Mint { .. } | Act::Unbind { .. } | Act::Tag { .. } => Ok(1),
+        Act::Bind { .. } => 2,
+        Act::Mint { .. } | Act::Unbind { .. } | Act::Tag { .. } => 1,
         Act::Move { from, to } => move_records(names, from, to),
-        Act::Exec { args, .. } => Ok(version_records(turn) + (1 + args_records(args))),
-        _ => Ok(version_records(turn)),
+        Act::Exec { args, .. } => version_records(turn) + (1 + args_records(args)),
+        _ => version_records(turn),
     }
 }
 
@@ -95,14 +95,14 @@ impl Logged {
         }
     }
 
-    /// One more entry that is no fault.
+    // One more entry that is no fault.
     fn add(&mut self, start: &Start, entry: &Entry, turn: &Turn) -> Result<(), AllocError>
         requires fine { is_fault_of entry.now.reply ≡ false }
         requires known { (session : Session) × (past : List AnyEntry) × IsNext start.now session past entry.now × IsTurn session past entry.now turn.now × IsLogged start.now session past self.old }
         ensures { OnOk result ((session : Session) (past : List AnyEntry) → IsNext start.now session past entry.now → IsTurn session past entry.now turn.now
             → IsLogged start.now session past self.old → IsLogged start.now session (past ++ entry.now ∷ []) self.new) }
     {
-        let own = own_records(&self.names, &entry.act, turn)?;
+        let own = own_records(&self.names, &entry.act, turn);
         let content = self.files.note(start, entry)?;
         self.names.note(entry)?;
         self.records += own + content;
@@ -110,7 +110,7 @@ impl Logged {
     }
 }
 
-/// The edges of the records of an entry.
+// The edges of the records of an entry.
 fn join(edges: &mut BTreeSet<Edge>, turn: &Turn) -> Result<(), AllocError>
     requires { turn.now.freezes ≡ true → 1 ≤ turn.now.node.version }
     ensures { OnOk result (edges.new.keys ≡ fold (insert_key edge_cmp) edges.old.keys (turn_edges turn.now)) }

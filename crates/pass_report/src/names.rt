@@ -12,87 +12,12 @@ ghost use Rattle.pass_report.specs.Names.{holds, AreNames};
 use pass_entry::{Act, Entry, Text};
 use pass_plain::Start;
 use std::alloc::{AllocError, Global};
-use std::cmp::Ordering;
 use std::collections::BTreeSet;
-use std::marker::Model;
-
-/// A name as a key, seen as its bytes.
-#[derive(Drop)]
-struct Name {
-    text: Text,
-}
-
-impl Model for Name {
-    ghost use Rattle.std.specs.Prelude.{List, ℕ};
-
-    ghost Value = { List ℕ };
-
-    ghost view = { λ n. n.text };
-}
-
-impl PartialEq for Name {
-    ghost use Rattle.std.specs.Prelude.{◌==◌};
-    ghost use Rattle.std.specs.Cmp.{partial_equiv_from_equiv};
-    ghost use Rattle.std.specs.Cmp.Lexicographic.{pointwise, nat_list_eq_equiv};
-
-    ghost eq = { pointwise ◌==◌ };
-
-    ghost laws = { partial_equiv_from_equiv nat_list_eq_equiv };
-
-    fn eq(&self, other: &Name) -> bool {
-        self.text.as_bytes() == other.text.as_bytes()
-    }
-}
-
-impl Eq for Name {
-    ghost use Rattle.std.specs.Cmp.Lexicographic.{nat_list_eq_equiv};
-
-    ghost laws = { nat_list_eq_equiv };
-}
-
-impl PartialOrd for Name {
-    ghost use Rattle.std.specs.Prelude.{Some};
-    ghost use Rattle.std.specs.Ordering.{nat_cmp};
-    ghost use Rattle.std.specs.Cmp.Lexicographic.{slice_cmp, texts_po};
-
-    ghost partial_cmp = { λ x y. Some (slice_cmp nat_cmp x y) };
-
-    ghost laws = { texts_po };
-
-    fn partial_cmp(&self, other: &Name) -> Option<Ordering> {
-        Some(self.cmp(other))
-    }
-}
-
-impl Ord for Name {
-    ghost use Rattle.std.specs.Prelude.{refl};
-    ghost use Rattle.std.specs.Ordering.{nat_cmp};
-    ghost use Rattle.std.specs.Cmp.Lexicographic.{slice_cmp, nat_list_cmp_total, texts_ties};
-
-    ghost cmp = { slice_cmp nat_cmp };
-
-    ghost total = { nat_list_cmp_total };
-
-    ghost matches_partial_cmp = { λ x y. refl };
-
-    ghost matches_eq = { λ x y. texts_ties x y };
-
-    fn cmp(&self, other: &Name) -> Ordering {
-        self.text.as_bytes().cmp(other.text.as_bytes())
-    }
-}
 
 /// The names that some file has.
 #[derive(Drop)]
 pub struct Names {
-    set: BTreeSet<Name>,
-}
-
-fn key(name: &Text) -> Result<Name, AllocError>
-    ensures { IfOk result (λ n. n ≡ name.now) }
-{
-    let text = name.clone()?;
-    Ok(Name { text })
+    set: BTreeSet<Text>,
 }
 
 impl Names {
@@ -113,36 +38,33 @@ impl Names {
     }
 
     /// Some file has the name.
-    pub fn contains(&self, name: &Text) -> Result<bool, AllocError>
-        ensures { IfOk result (λ b. b ≡ holds self.now name.now) }
+    pub fn contains(&self, name: &Text) -> bool
+        ensures { result ≡ holds self.now name.now }
     {
-        let name = key(name)?;
-        Ok(self.set.contains(&name))
+        self.set.contains(name)
     }
 
     fn add(&mut self, name: &Text) -> Result<(), AllocError>
         ensures { OnOk result ((q : List ℕ) → holds self.new q ≡ (eq_by_cmp (slice_cmp nat_cmp) name.now q || holds self.old q)) }
     {
-        let name = key(name)?;
+        let name = name.clone()?;
         self.set.insert(name)?;
         Ok(())
     }
 
-    fn remove(&mut self, name: &Text) -> Result<(), AllocError>
-        ensures { OnOk result ((q : List ℕ) → holds self.new q ≡ (not (eq_by_cmp (slice_cmp nat_cmp) name.now q) && holds self.old q)) }
+    fn remove(&mut self, name: &Text)
+        ensures { (q : List ℕ) → holds self.new q ≡ (not (eq_by_cmp (slice_cmp nat_cmp) name.now q) && holds self.old q) }
     {
-        let name = key(name)?;
-        self.set.remove(&name);
-        Ok(())
+        self.set.remove(name);
     }
 
-    /// The file of one name gets another, which any other file loses.
+    // The file of one name gets another, which any other file loses.
     fn rename(&mut self, from: &Text, to: &Text) -> Result<(), AllocError>
         ensures { OnOk result ((q : List ℕ) → holds self.new q ≡ (if holds self.old from.now
             then eq_by_cmp (slice_cmp nat_cmp) to.now q || not (eq_by_cmp (slice_cmp nat_cmp) from.now q) && holds self.old q else holds self.old q)) }
     {
-        if self.contains(from)? {
-            self.remove(from)?;
+        if self.contains(from) {
+            self.remove(from);
             self.add(to)?;
         }
         Ok(())
@@ -157,7 +79,10 @@ impl Names {
         match &entry.act {
             Act::Bind { name } => self.add(name),
             Act::Move { from, to } => self.rename(from, to),
-            Act::Unbind { name } => self.remove(name),
+            Act::Unbind { name } => {
+                self.remove(name);
+                Ok(())
+            }
             _ => Ok(()),
         }
     }

@@ -3,6 +3,7 @@ ghost use Rattle.std.specs.Prelude.{ℕ, List, [], ◌∷◌, ◌++◌, ◌≡�
 ghost use Rattle.std.specs.Bool.{OnFalse};
 ghost use Rattle.std.specs.Ordering.{nat_cmp};
 ghost use Rattle.std.specs.BTreeMap.{get};
+ghost use Rattle.pass_entry.specs.Limits.{transfer_limit};
 ghost use Rattle.pass_entry.specs.declared.entry.Entry.{Entry as AnyEntry};
 ghost use Rattle.pass_plain.specs.Histories.{bytes_at as bytes_at_place, is_fault as is_fault_of};
 ghost use Rattle.pass_plain.specs.Sessions.{Session};
@@ -28,7 +29,7 @@ pub struct Processes {
 /// The bytes that the entry at a place gave.
 pub fn bytes_at(history: &[Entry], place: u64) -> &[u8]
     ensures bytes { result.now ≡ bytes_at_place history.now place }
-    ensures short { length result.now ≤ 4096 }
+    ensures short { length result.now ≤ transfer_limit }
 {
     match history.get(place as usize) {
         Some(
@@ -41,10 +42,10 @@ pub fn bytes_at(history: &[Entry], place: u64) -> &[u8]
     }
 }
 
-/// The bytes that an act gains from the entry that it names.
+// The bytes that an act gains from the entry that it names.
 fn gained_by<'a>(past: &'a [Entry], act: &Act) -> &'a [u8]
     ensures bytes { Gains past.now act.now result.now }
-    ensures short { length result.now ≤ 4096 }
+    ensures short { length result.now ≤ transfer_limit }
 {
     match act {
         Act::Gain { out, .. } => bytes_at(past, *out),
@@ -58,7 +59,7 @@ fn is_fault(reply: &Reply) -> bool
     matches!(reply, Reply::Fault(_))
 }
 
-/// The act is one on a process that changes its state.
+// The act is one on a process that changes its state.
 fn changes(act: &Act) -> bool
     ensures { OnFalse result ((past : List AnyEntry) (p : Process) → process_act past p act.now ≡ p) }
 {
@@ -133,7 +134,7 @@ impl Processes {
         }
     }
 
-    /// The object has a place among those that have entries.
+    // The object has a place among those that have entries.
     fn meet(&mut self, pnode: Pnode) -> Result<(), AllocError>
         ensures met { OnOk result (is_some (get nat_cmp self.new.states pnode) ≡ true) }
         ensures same { OnOk result ((who : ℕ) → state_in self.new who ≡ state_in self.old who) }

@@ -28,7 +28,7 @@ pub struct Recorder {
     processes: Processes,
 }
 
-/// Adds the line of the call that an entry ends, if it ends one.
+// Adds the line of the call that an entry ends, if it ends one.
 fn write_ended(
     text: &mut String,
     history: &[Entry],

@@ -9,7 +9,7 @@ use pass_entry::Entry;
 use pass_plain::{Recording, Start, VersionStep};
 use std::alloc::{AllocError, Global};
 
-/// A turn as the step that a recording takes.
+// A turn as the step that a recording takes.
 fn step_of(turn: &Turn) -> VersionStep
     ensures { result ≡ record { node = turn.now.node; freezes = turn.now.freezes; source = turn.now.source } }
 {

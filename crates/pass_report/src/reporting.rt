@@ -55,7 +55,7 @@ pub fn report(
     Ok(text.into_bytes())
 }
 
-/// What all entries of a history make.
+// What all entries of a history make.
 fn record(alloc: Global, start: &Start, history: &[Entry]) -> Result<Recorder, AllocError>
     requires { (session : Session) × IsLegalFrom start.now history.now session }
     ensures { IfOk result (λ r. (session : Session) → IsLegalFrom start.now history.now session → HasPassed start.now session history.now (length history.now) r) }
@@ -67,7 +67,7 @@ fn record(alloc: Global, start: &Start, history: &[Entry]) -> Result<Recorder, A
     Ok(recorder)
 }
 
-/// The pnode of process 1, if it has begun.
+// The pnode of process 1, if it has begun.
 fn first_process(start: &Start, history: &[Entry]) -> Option<Pnode>
     requires { start.now.ceiling < 2 ^ 63 }
     ensures { (session : Session) → start.now.ceiling ≡ session.start.ceiling → result ≡ pnode_in (first_begun session history.now) 1 }
@@ -103,7 +103,7 @@ fn write_objects(
     Ok(())
 }
 
-/// Adds the line of an object; the registry has none.
+// Adds the line of an object; the registry has none.
 fn write_known(
     text: &mut String,
     start: &Start,
@@ -129,7 +129,7 @@ fn write_standing(text: &mut String, standing: &Standing) -> Result<(), AllocErr
     Ok(())
 }
 
-/// Adds the line of a process with a line that isn't answered.
+// Adds the line of a process with a line that isn't answered.
 fn write_next(text: &mut String, standing: &Standing, process: u32) -> Result<(), AllocError>
     ensures { OnOk result (string_bytes text.new ≡ string_bytes text.old ++ waiting_text standing.now process) }
 {
@@ -139,7 +139,7 @@ fn write_next(text: &mut String, standing: &Standing, process: u32) -> Result<()
     }
 }
 
-/// Some process of the trace is open.
+// Some process of the trace is open.
 fn is_stuck(standing: &Standing, calls: &Calls) -> bool
     requires { (process : ℕ) → lines_in standing.now process < 2 ^ 63 }
     ensures { result ≡ list_any (λ process. not (done_by calls.now standing.now process (lines_in standing.now process + 1))) standing.now.processes.keys }

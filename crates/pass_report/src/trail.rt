@@ -39,7 +39,7 @@ pub struct Trail {
     nodes: Vec<Node>,
 }
 
-/// The version takes from the node.
+// The version takes from the node.
 fn take(versions: &mut Versions, source: Node) -> Result<Turn, AllocError>
     requires { versions.old.lineage.node.version < 2 ^ 63 }
     ensures moves { OnOk result (IsAlike versions.new.lineage (linked versions.old.lineage source)) }
@@ -60,7 +60,7 @@ fn take(versions: &mut Versions, source: Node) -> Result<Turn, AllocError>
     })
 }
 
-/// A new version begins and takes from the program's node.
+// A new version begins and takes from the program's node.
 fn run(versions: &mut Versions, source: Option<Node>) -> Result<Turn, AllocError>
     requires { versions.old.lineage.node.version < 2 ^ 62 }
     ensures moves { OnOk result (IsAlike versions.new.lineage (option_map_or (with_source (frozen versions.old.lineage)) source (frozen versions.old.lineage))) }
@@ -86,7 +86,7 @@ fn run(versions: &mut Versions, source: Option<Node>) -> Result<Turn, AllocError
     }
 }
 
-/// What an act that is no fault makes of its object's version. `source` is the node that it names.
+// What an act that is no fault makes of its object's version. `source` is the node that it names.
 fn apply_act(versions: &mut Versions, act: &Act, source: Option<Node>) -> Result<Turn, AllocError>
     requires low { versions.old.lineage.node.version < 2 ^ 62 }
     requires named { out_of_act act.now ≡ None → source ≡ None }
@@ -124,7 +124,7 @@ fn apply_act(versions: &mut Versions, act: &Act, source: Option<Node>) -> Result
     }
 }
 
-/// The place of the entry that an act on a target names.
+// The place of the entry that an act on a target names.
 fn out_of(act: &Act) -> Option<u64>
     ensures { result ≡ out_of_act act.now }
 {
@@ -182,7 +182,7 @@ impl Trail {
         Ok(turn)
     }
 
-    /// The object has a place among those that have entries.
+    // The object has a place among those that have entries.
     fn meet(&mut self, start: &Start, pnode: Pnode) -> Result<(), AllocError>
         ensures met { OnOk result (is_some (get nat_cmp self.new.objects pnode) ≡ true) }
         ensures lineages { OnOk result ((object : ℕ) → lineage_in start.now self.new object ≡ lineage_in start.now self.old object) }
@@ -196,7 +196,7 @@ impl Trail {
         Ok(())
     }
 
-    /// What the entry makes of its object's version.
+    // What the entry makes of its object's version.
     fn turn_of(&mut self, start: &Start, entry: &Entry) -> Result<Turn, AllocError>
         requires met { is_some (get nat_cmp self.old.objects entry.now.what) ≡ true }
         requires low { (lineage_in start.now self.old entry.now.what).node.version < 2 ^ 62 }

@@ -16,7 +16,7 @@ returns c = on_then c.join.result _ _ c.join.ensures (λ joined. λ session past
     let fine = c.requires.fine in
     let kept = c.in_ok-content.ensures.count session past known logged.files in
     let longer = length-append past (e ∷ []) in
-    let own = c.in_ok-own.ensures.few in
+    let own = c.own_records-own.ensures.few in
     let content = c.in_ok-content.ensures.few in
     let few = logged.few in
     record {
@@ -27,7 +27,7 @@ returns c = on_then c.join.result _ _ c.join.ensures (λ joined. λ session past
           let next = records_next session past e turn turned fine c.args.self.now.names logged.names in
           let count = logged.count in
           let more = kept.1 in
-          let counted = c.in_ok-own.ensures.count in
+          let counted = c.own_records-own.ensures.count in
           omega (arith, next, count, more, counted);
       few = omega (arith, longer, own, content, few);
     })

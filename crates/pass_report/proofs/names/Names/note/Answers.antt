@@ -11,8 +11,8 @@ returns-in-Move c = on_then c.rename.result _ _ c.rename.ensures (λ moved. λ s
     moved_names session past c.args.entry.now legal next c.requires c.in-Move.from c.in-Move.to c.args.self.now c.rename.new.self c.in-Move.is names moved)
 
 pub returns-in-Unbind : goal.returns-in-Unbind
-returns-in-Unbind c = on_then c.remove.result _ _ c.remove.ensures (λ moved. λ session past legal next names.
-    unbound_names session past c.args.entry.now legal next c.requires c.in-Unbind.name c.args.self.now c.remove.new.self c.in-Unbind.is names moved)
+returns-in-Unbind c = λ session past legal next names.
+    unbound_names session past c.args.entry.now legal next c.requires c.in-Unbind.name c.args.self.now c.remove.new.self c.in-Unbind.is names c.remove.ensures
 
 pub returns-in_default : goal.returns-in_default
 returns-in_default c = λ session past legal next names.

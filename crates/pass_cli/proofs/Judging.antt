@@ -16,11 +16,11 @@ use Rattle.pass_trace.proofs.Faults.{not_text-from_fault, same_fault}
 use Rattle.pass_run.specs.declared.status.Status.{Status}
 use Rattle.pass_run.specs.declared.status.Status.TheVariants as status
 use Rattle.pass_run.specs.Ends.{unbuilt_line}
-use Rattle.pass_run.specs.Reading.{is_too_long}
+use Rattle.pass_trace.specs.Lines.{is_too_long}
 use Rattle.pass_run.specs.Stored.{session_fault, IsStoreJudged, IsEnd, IsOfDisk, IsOverStore, HasEnded}
 use Rattle.pass_cli.specs.Answers.{OfBytes, IsTraced, IsRunnable, IsRefusal, IsTraceRead, HasFailed, IsRunJudged, Outcome, IsNothing, IsRefused, HasRun, is_reported, comes_before, ends_run}
 use Rattle.pass_run.proofs.Moved.{refused_untouched}
-use Rattle.pass_cli.proofs.StoppedTexts.{too_long_is_none, too_long_stays}
+use Rattle.pass_trace.proofs.TooLong.{too_long_is_none, too_long_stays}
 
 -- what was read of a source
 

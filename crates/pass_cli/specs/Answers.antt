@@ -15,7 +15,8 @@ use Rattle.pass_run.specs.declared.status.Status.{Status}
 use Rattle.pass_run.specs.declared.status.Status.TheVariants as status
 use Rattle.pass_run.specs.Statuses.{status_text}
 use Rattle.pass_run.specs.Ends.{unbuilt_line}
-use Rattle.pass_run.specs.Reading.{is_too_long, StopsInTime}
+use Rattle.pass_run.specs.Reading.{StopsInTime}
+use Rattle.pass_trace.specs.Lines.{is_too_long}
 use Rattle.pass_run.specs.Stored.{session_fault, IsEnd, IsUnopened, IsRefusedOpening, IsOverStore, HasEnded}
 use Rattle.pass_run.specs.Writing.{IsPartOfText}
 use Rattle.pass_cli.specs.declared.main_call.Ended.{Ended}

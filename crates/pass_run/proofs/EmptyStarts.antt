@@ -10,7 +10,7 @@ use Rattle.pass_plain.specs.declared.start.StartFile.{StartFile}
 use Rattle.pass_plain.specs.Legal.{session_of}
 use Rattle.pass_plain.specs.Registries.{opening_registry}
 use Rattle.pass_plain.specs.Sound.{IsSound}
-use Rattle.pass_report.specs.TraceLines.{session_of_trace}
+use Rattle.pass_trace.specs.TraceLines.{session_of_trace}
 use Rattle.pass_trace.specs.declared.trace.TraceLine.{TraceLine}
 use Rattle.pass_trace.specs.Rules.{creates, count_created}
 use Rattle.pass_run.specs.Ends.{IsTrace, IsEmptyStart}

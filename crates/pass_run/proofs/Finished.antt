@@ -12,7 +12,7 @@ use Rattle.pass_plain.specs.Traces.{Line, LineCall, given, write_last, fork_as, 
 use Rattle.pass_plain.specs.Runs.{pnode_of_process, is_open, IsOfTrace, first, forked_by}
 use Rattle.pass_plain.proofs.Lists.{some_is, same_numbers, any_of, same_itself}
 use Rattle.pass_plain.proofs.Replays.{append-nil}
-use Rattle.pass_report.specs.TraceLines.{plain_trace}
+use Rattle.pass_trace.specs.TraceLines.{plain_trace}
 use Rattle.pass_run.specs.Ends.{NoneOpen, NoneCanMove, IsStuck}
 use Rattle.pass_run.specs.Lines.{is_fork_of, is_there, AreLinesBehind}
 use Rattle.pass_run.specs.Tables.{IsGoing}

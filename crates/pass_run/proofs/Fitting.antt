@@ -9,10 +9,11 @@ use Rattle.pass_log.specs.Records.{spellings}
 use Rattle.pass_outside.specs.Moments.{Moment}
 use Rattle.pass_plain.specs.Records.{records_of}
 use Rattle.pass_plain.specs.Runs.{IsRun}
-use Rattle.pass_report.specs.TraceLines.{objects_of, plain_line, plain_trace, session_of_trace}
+use Rattle.pass_trace.specs.TraceLines.{objects_of, plain_line, plain_trace, session_of_trace}
 use Rattle.pass_trace.specs.declared.trace.TraceLine.{TraceLine}
 use Rattle.pass_trace.specs.Rules.{count_created}
-use Rattle.pass_bounds.specs.Lawful.{OpenedLaw, FrameLaw, ObjectsLaw}
+use Rattle.pass_bounds.specs.Lawful.{OpenedLaw, FrameLaw}
+use Rattle.pass_trace.specs.Lawful.{ObjectsLaw}
 use Rattle.pass_run.specs.declared.storing.OpenedRun.{OpenedRun}
 use Rattle.pass_run.specs.Ends.{IsTrace}
 use Rattle.pass_run.specs.OpenedRuns.{IsOpenedRun}

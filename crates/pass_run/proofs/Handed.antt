@@ -13,7 +13,7 @@ use Rattle.pass_outside.specs.Areas.{Image}
 use Rattle.pass_outside.specs.Moments.{Moment}
 use Rattle.pass_plain.proofs.Lists.{both_true}
 use Rattle.pass_report.specs.Reports.{SameButBytes, report_of}
-use Rattle.pass_report.specs.TraceLines.{objects_of, plain_trace, session_of_trace}
+use Rattle.pass_trace.specs.TraceLines.{objects_of, plain_trace, session_of_trace}
 use Rattle.pass_trace.specs.declared.trace.TraceLine.{TraceLine}
 use Rattle.pass_run.specs.declared.ending.RunEnd.{RunEnd}
 use Rattle.pass_run.specs.declared.performing.Performed.{Performed}

@@ -6,7 +6,8 @@ use Rattle.std.proofs.lemmas.List.{take-append-le, take_all}
 use Rattle.std.proofs.lemmas.List.Sums.{fold-append}
 use Rattle.std.proofs.lemmas.Bool.Decides.{nat_tests}
 use Rattle.pass_trace.specs.Lines.{lines_of}
-use Rattle.pass_run.specs.Reading.{is_too_long, counted, none_counted, counted_of, StopsInTime}
+use Rattle.pass_trace.specs.Lines.{is_too_long}
+use Rattle.pass_run.specs.Reading.{counted, none_counted, counted_of, StopsInTime}
 use Rattle.pass_run.specs.declared.reading.Limits.{Limits}
 
 -- the beginning of a line that hasn't ended, where there is one

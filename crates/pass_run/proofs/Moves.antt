@@ -14,7 +14,7 @@ use Rattle.pass_plain.specs.Traces.{Line, calls_of}
 use Rattle.pass_plain.specs.Runs.{next_number, steps_at, CanMove}
 use Rattle.pass_plain.specs.Sound.{IsSound}
 use Rattle.pass_plain.proofs.Lists.{some_is, same_numbers}
-use Rattle.pass_report.specs.TraceLines.{plain_trace}
+use Rattle.pass_trace.specs.TraceLines.{plain_trace}
 use Rattle.pass_trace.specs.declared.trace.TraceLine.{TraceLine}
 use Rattle.pass_run.specs.Making.{IsRunSoFar, GoesOn, steps_left, TakesStep, WaitsForStep}
 use Rattle.pass_run.specs.Tables.{IsLivingAs, AreTabled, IsGoing, HasGoneOn, IsCallOf, EndsCall}

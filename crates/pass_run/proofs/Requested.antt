@@ -15,7 +15,7 @@ use Rattle.pass_plain.specs.Legal.{before_call}
 use Rattle.pass_plain.specs.Traces.{Line, LineCall, request_of, lines_of, calls_of}
 use Rattle.pass_plain.specs.Runs.{request_at}
 use Rattle.pass_plain.proofs.Lists.{some_is, is_place}
-use Rattle.pass_report.specs.TraceLines.{call_of, plain_line, plain_trace}
+use Rattle.pass_trace.specs.TraceLines.{call_of, plain_line, plain_trace}
 use Rattle.pass_trace.specs.declared.trace.TraceLine.{TraceLine}
 use Rattle.pass_run.specs.Lines.{AreLinesBehind, IsLineAt}
 use Rattle.pass_run.specs.Making.{IsRunSoFar, IsCallUnderWay}

@@ -12,7 +12,7 @@ use Rattle.pass_plain.specs.Calls.{is_fd}
 use Rattle.pass_plain.specs.Traces.{Line, fork_as, wait_for}
 use Rattle.pass_plain.proofs.Lists.{true_left, true_right, both_true, not_true, any_at, in_filtered, same_numbers}
 use Rattle.pass_plain.proofs.Replays.{append-nil}
-use Rattle.pass_report.specs.TraceLines.{call_of, plain_line, plain_trace}
+use Rattle.pass_trace.specs.TraceLines.{call_of, plain_line, plain_trace}
 use Rattle.pass_trace.specs.declared.trace.Command.{Command}
 use Rattle.pass_trace.specs.declared.trace.Command.TheVariants as command
 use Rattle.pass_trace.specs.declared.trace.Payload.TheVariants as payload

@@ -18,7 +18,7 @@ use Rattle.pass_plain.proofs.Counts.{first_law}
 use Rattle.pass_plain.proofs.Making.{registry-append}
 use Rattle.pass_plain.proofs.Playing.{no_calls}
 use Rattle.pass_plain.proofs.Replays.{append-nil}
-use Rattle.pass_report.specs.TraceLines.{call_of, plain_line, plain_trace}
+use Rattle.pass_trace.specs.TraceLines.{call_of, plain_line, plain_trace}
 use Rattle.pass_trace.specs.declared.trace.Command.{Command}
 use Rattle.pass_trace.specs.declared.trace.Command.TheVariants as command
 use Rattle.pass_trace.specs.declared.trace.Payload.TheVariants as payload

@@ -11,7 +11,7 @@ use Rattle.pass_plain.specs.Legal.{is_over, last_number}
 use Rattle.pass_plain.specs.Traces.{Line, LineCall, given, fork_as, calls_of, lines_of}
 use Rattle.pass_plain.specs.Runs.{pnode_of_process, next_number}
 use Rattle.pass_plain.proofs.Lists.{some_is}
-use Rattle.pass_report.specs.TraceLines.{plain_line, plain_trace, call_of}
+use Rattle.pass_trace.specs.TraceLines.{plain_line, plain_trace, call_of}
 use Rattle.pass_trace.specs.declared.trace.Command.{Command}
 use Rattle.pass_trace.specs.declared.trace.Command.TheVariants as command
 use Rattle.pass_trace.specs.declared.trace.Payload.TheVariants as payload

@@ -10,7 +10,7 @@ use Rattle.pass_entry.specs.declared.entry.Entry.{Entry}
 use Rattle.pass_plain.specs.Traces.{Line}
 use Rattle.pass_plain.specs.Runs.{CanMove}
 use Rattle.pass_plain.proofs.Lists.{some_is}
-use Rattle.pass_report.specs.TraceLines.{plain_trace}
+use Rattle.pass_trace.specs.TraceLines.{plain_trace}
 use Rattle.pass_run.specs.Ends.{NoneCanMove}
 use Rattle.pass_run.specs.Lines.{IsLineCall, AreLinesBehind}
 use Rattle.pass_run.specs.Tables.{IsGoing, HasGoneOn}

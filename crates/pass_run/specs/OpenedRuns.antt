@@ -19,7 +19,7 @@ use Rattle.pass_recover.specs.declared.fault.OpenFault.{OpenFault}
 use Rattle.pass_recover.specs.Faults.{LogHas}
 use Rattle.pass_recover.specs.Starts.{IsStartOf, HasBytes}
 use Rattle.pass_report.specs.Reports.{report_of}
-use Rattle.pass_report.specs.TraceLines.{plain_trace, session_of_trace}
+use Rattle.pass_trace.specs.TraceLines.{plain_trace, session_of_trace}
 use Rattle.pass_trace.specs.declared.trace.TraceLine.{TraceLine}
 use Rattle.pass_dirty.specs.Gathering.{every_file}
 use Rattle.pass_run.specs.declared.ending.RunEnd.{RunEnd}

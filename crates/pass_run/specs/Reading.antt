@@ -1,20 +1,16 @@
 -- How much of a source is read. This project's own rule.
-use Rattle.std.specs.Prelude.{ℕ, ◌+◌, ◌-◌, ◌≡◌, ◌≤◌, ◌==◌, Bool, true, false, ◌||◌, List, fold, length, take, nat_lt, nat_le, if◌then◌else◌}
-use Rattle.std.specs.List.{list_any}
-use Rattle.pass_trace.specs.Lines.{lines_of}
+use Rattle.std.specs.Prelude.{ℕ, ◌+◌, ◌-◌, ◌≡◌, ◌≤◌, ◌==◌, true, false, List, fold, length, take, nat_le, if◌then◌else◌}
+use Rattle.pass_trace.specs.Limits.{longest_line, most_lines}
+use Rattle.pass_trace.specs.Lines.{is_too_long}
 use Rattle.pass_run.specs.declared.reading.Limits.{Limits}
-
--- a line has more than 8,400 bytes, or there are more than 100,000 lines
-abbrev pub is_too_long : List ℕ → Bool
-is_too_long text = nat_lt 100000 (length (lines_of text)) || list_any (λ line. nat_lt 8400 (length line)) (lines_of text)
 
 -- what is counted of a text, after one more byte: its ended lines, the bytes of the line behind them, and whether it is too long
 abbrev pub counted : Limits → ℕ → Limits
 counted limits byte =
     if limits.over then limits
-    else if nat_le 100000 limits.lines then record limits { over = true }
+    else if nat_le most_lines limits.lines then record limits { over = true }
     else if byte == 10 then record { lines = limits.lines + 1; bytes = 0; over = false }
-    else if nat_le 8400 limits.bytes then record limits { over = true }
+    else if nat_le longest_line limits.bytes then record limits { over = true }
     else record limits { bytes = limits.bytes + 1 }
 
 -- before the first byte

@@ -25,7 +25,7 @@ use Rattle.pass_recover.specs.declared.fault.OpenFault.TheVariants.{BadFrame}
 use Rattle.pass_recover.specs.Faults.{LogHas}
 use Rattle.pass_recover.specs.Starts.{IsStartOf, HasBytes}
 use Rattle.pass_report.specs.Reports.{SameButBytes, report_of}
-use Rattle.pass_report.specs.TraceLines.{objects_of, plain_trace, session_of_trace}
+use Rattle.pass_trace.specs.TraceLines.{objects_of, plain_trace, session_of_trace}
 use Rattle.pass_trace.specs.declared.trace.TraceLine.{TraceLine}
 use Rattle.pass_run.specs.declared.status.Status.{Status}
 use Rattle.pass_run.specs.declared.status.Status.TheVariants as status

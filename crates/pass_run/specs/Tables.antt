@@ -12,7 +12,7 @@ use Rattle.pass_plain.specs.Calls.{Made, pnode_at}
 use Rattle.pass_plain.specs.Legal.{is_over, last_number}
 use Rattle.pass_plain.specs.Traces.{Line, LineCall, fork_as, request_of, calls_of}
 use Rattle.pass_plain.specs.Runs.{pnode_of_process, next_number, request_at}
-use Rattle.pass_report.specs.TraceLines.{plain_trace, call_of}
+use Rattle.pass_trace.specs.TraceLines.{plain_trace, call_of}
 use Rattle.pass_trace.specs.declared.trace.Command.{Command}
 use Rattle.pass_trace.specs.declared.trace.Command.TheVariants as command
 use Rattle.pass_trace.specs.declared.trace.TraceLine.{TraceLine}

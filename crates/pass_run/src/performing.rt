@@ -1,7 +1,7 @@
 //! The run of a trace over an opened start, with its report and its records.
 ghost use Rattle.std.specs.Prelude.{IfOk};
 ghost use Rattle.pass_plain.specs.Sound.{IsSound};
-ghost use Rattle.pass_report.specs.TraceLines.{session_of_trace};
+ghost use Rattle.pass_trace.specs.TraceLines.{session_of_trace};
 ghost use Rattle.pass_run.specs.Ends.{IsTrace};
 
 use crate::run::{Ran, run_calls};

@@ -1,6 +1,6 @@
 //! Where the lines of each process stand in a trace.
 ghost use Rattle.std.specs.Prelude.{◌≡◌, ◌<◌, Some, slice_get, IfOk, length};
-ghost use Rattle.pass_report.specs.TraceLines.{plain_trace};
+ghost use Rattle.pass_trace.specs.TraceLines.{plain_trace};
 ghost use Rattle.pass_run.specs.Lines.{IsNextLine};
 ghost use Rattle.pass_run.specs.Tables.{ArePlaces};
 

@@ -1,19 +1,15 @@
 //! Reads a source to its end.
 ghost use Rattle.std.specs.Prelude.{◌≡◌, ◌≤◌, ◌↔◌, ◌++◌, [], false, IsTrue, IsErrOf, IfOk, OnOk, fold};
 ghost use Rattle.pass_outside.specs.Faults.{HasRisen};
-ghost use Rattle.pass_run.specs.Reading.{is_too_long, StopsInTime};
+ghost use Rattle.pass_run.specs.Reading.{StopsInTime};
+ghost use Rattle.pass_trace.specs.Lines.{is_too_long};
 
 use pass_outside::{Failed, Source};
+use pass_trace::limits::{LONGEST_LINE, MOST_LINES};
 use std::alloc::{AllocError, Global};
 
 /// How many bytes are asked of the source at once.
 const PIECE: usize = 4096;
-
-/// The greatest number of lines of a text.
-const MOST_LINES: u32 = 100_000;
-
-/// The greatest number of bytes of a line.
-const LONGEST_LINE: u32 = 8400;
 
 /// Why a source wasn't read to its end.
 #[derive(Clone, Copy, Debug, PartialEq, Eq)]

@@ -8,7 +8,7 @@ ghost use Rattle.pass_plain.specs.Calls.{pnode_at};
 ghost use Rattle.pass_plain.specs.Histories.{call_entries};
 ghost use Rattle.pass_plain.specs.Legal.{IsLegal, before_call};
 ghost use Rattle.pass_plain.specs.Runs.{IsRun, CanMove, next_number};
-ghost use Rattle.pass_report.specs.TraceLines.{plain_trace, session_of_trace};
+ghost use Rattle.pass_trace.specs.TraceLines.{plain_trace, session_of_trace};
 ghost use Rattle.pass_trace.specs.declared.trace.TraceLine.{TraceLine as TracedLine};
 ghost use Rattle.pass_run.specs.Ends.{IsTrace, NoneCanMove, EndsAs};
 ghost use Rattle.pass_run.specs.Making.{first_entry};
@@ -20,8 +20,7 @@ use crate::status::Status;
 use pass_entry::{Act, CallName, Entry, Kind, Pnode, Reply};
 use pass_plain::steps::pnode_of;
 use pass_plain::{LastCall, Plain, ProcessState, Request, Start};
-use pass_report::objects_of;
-use pass_trace::{Command, Trace, TraceLine};
+use pass_trace::{Command, Trace, TraceLine, objects_of};
 use std::alloc::{AllocError, Global};
 use std::collections::BTreeMap;
 

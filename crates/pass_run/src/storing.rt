@@ -10,7 +10,7 @@ ghost use Rattle.pass_log.specs.Records.{spellings};
 ghost use Rattle.pass_outside.specs.Moments.{IsAtEnd};
 ghost use Rattle.pass_plain.specs.Recording.{IsRecording};
 ghost use Rattle.pass_report.specs.Reports.{SameButBytes};
-ghost use Rattle.pass_report.specs.TraceLines.{objects_of as objects_of_lines};
+ghost use Rattle.pass_trace.specs.TraceLines.{objects_of as objects_of_lines};
 ghost use Rattle.pass_recover.specs.declared.fault.OpenFault.{OpenFault as AnyFault};
 ghost use Rattle.pass_recover.specs.Faults.{LogHas};
 ghost use Rattle.pass_run.specs.Ends.{IsTrace, unbuilt_line};
@@ -20,7 +20,7 @@ ghost use Rattle.pass_run.specs.Stored.{session_fault, IsStoreJudged, IsBare, Is
 use crate::ending::{RunEnd, bare, first_unbuilt, unopened};
 use crate::performing::Performed;
 use crate::status::{Status, opening_status};
-use pass_bounds::laws::{logs, runs, traces};
+use pass_bounds::laws::{logs, runs};
 use pass_dirty::dirty_blocks;
 use pass_entry::{Entry, Pnode, Synced};
 use pass_graph::laws::{edges, graph};
@@ -29,8 +29,8 @@ use pass_log::LogImage;
 use pass_outside::{Disk, Gate};
 use pass_plain::Start;
 use pass_recover::{OpenFault, Opening, recover};
-use pass_report::objects_of;
-use pass_trace::Trace;
+use pass_trace::laws::traces;
+use pass_trace::{Trace, objects_of};
 use std::alloc::{AllocError, Global};
 use std::slice::from_ref;
 

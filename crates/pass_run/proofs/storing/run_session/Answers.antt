@@ -11,7 +11,7 @@ use Rattle.pass_log.specs.Log.{log_opened}
 use Rattle.pass_outside.specs.Moments.{IsAtEnd}
 use Rattle.pass_plain.specs.Recording.{IsRecording}
 use Rattle.pass_plain.specs.Records.{records_of}
-use Rattle.pass_report.specs.TraceLines.{objects_of, session_of_trace}
+use Rattle.pass_trace.specs.TraceLines.{objects_of, session_of_trace}
 use Rattle.pass_run.specs.OpenedRuns.{IsOpenedRun, story_over, IsAllKept, IsSomeKept}
 use Rattle.pass_run.specs.Stored.{IsLater}
 use Rattle.pass_run.proofs.Ruled.{few_lines}

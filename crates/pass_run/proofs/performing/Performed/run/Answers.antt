@@ -3,7 +3,7 @@ use Rattle.pass_entry.specs.declared.entry.Entry.{Entry}
 use Rattle.pass_plain.specs.Recording.{IsRecording}
 use Rattle.pass_plain.specs.Legal.{IsLegal, session_of}
 use Rattle.pass_report.specs.Reports.{report_of, IsLegalFrom, IsRunFrom}
-use Rattle.pass_report.specs.TraceLines.{objects_of, session_of_trace}
+use Rattle.pass_trace.specs.TraceLines.{objects_of, session_of_trace}
 use Rattle.pass_run.proofs.performing.Performed.run.Goals as goal
 
 pub report-requires : goal.report-requires

@@ -4,7 +4,7 @@ use Rattle.std.specs.Ordering.{nat_cmp}
 use Rattle.std.specs.BTreeMap.{get}
 use Rattle.std.proofs.lemmas.Option.{slice_get_within, slice_get-get_or}
 use Rattle.pass_plain.specs.Traces.{Line}
-use Rattle.pass_report.specs.TraceLines.{plain_line, plain_trace}
+use Rattle.pass_trace.specs.TraceLines.{plain_line, plain_trace}
 use Rattle.pass_trace.specs.declared.trace.TraceLine.{TraceLine}
 use Rattle.pass_run.specs.Lines.{IsNextLine}
 use Rattle.pass_run.specs.Tables.{NextPlace}

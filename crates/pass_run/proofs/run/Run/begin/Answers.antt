@@ -6,7 +6,7 @@ use Rattle.pass_entry.specs.declared.entry.Entry.{Entry}
 use Rattle.pass_plain.specs.Sessions.{Session}
 use Rattle.pass_plain.specs.Sound.{IsSound}
 use Rattle.pass_plain.specs.Legal.{Past, session_of}
-use Rattle.pass_report.specs.TraceLines.{plain_trace, session_of_trace}
+use Rattle.pass_trace.specs.TraceLines.{plain_trace, session_of_trace}
 use Rattle.pass_run.specs.Making.{IsRunSoFar, first_entry}
 use Rattle.pass_run.specs.Tables.{AreTabled}
 use Rattle.pass_run.proofs.Ruled.{ruled, few_lines}

@@ -4,7 +4,7 @@ use Rattle.std.specs.Ordering.{nat_cmp}
 use Rattle.std.specs.BTreeMap.{get}
 use Rattle.pass_plain.specs.Calls.{Made}
 use Rattle.pass_plain.specs.Legal.{Past}
-use Rattle.pass_report.specs.TraceLines.{plain_trace}
+use Rattle.pass_trace.specs.TraceLines.{plain_trace}
 use Rattle.pass_run.specs.Tables.{IsGoing, HasGoneOn, IsCallOf, EndsCall}
 use Rattle.pass_run.specs.declared.run.Run.{Run}
 use Rattle.pass_run.proofs.Moves.{same_run, further, same_so_far, going_waits, on_waits, still_waits, on_takes, longer_takes, fewer_takes, call_takes, going_takes, ends_takes}

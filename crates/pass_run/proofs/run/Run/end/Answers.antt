@@ -1,5 +1,5 @@
 use Rattle.std.proofs.Common.{arith, sym, subst}
-use Rattle.pass_report.specs.TraceLines.{plain_trace}
+use Rattle.pass_trace.specs.TraceLines.{plain_trace}
 use Rattle.pass_run.specs.Ends.{EndsAs}
 use Rattle.pass_run.proofs.Finished.{stuck_is, none_open}
 use Rattle.pass_run.proofs.run.Run.end.Goals as goal

@@ -4,7 +4,7 @@ use Rattle.std.proofs.Common.{Bor}
 use Rattle.std.proofs.lemmas.Option.{slice_get_within}
 use Rattle.pass_plain.specs.Legal.{Past}
 use Rattle.pass_plain.proofs.Lists.{is_place}
-use Rattle.pass_report.specs.TraceLines.{plain_line}
+use Rattle.pass_trace.specs.TraceLines.{plain_line}
 use Rattle.pass_trace.specs.declared.trace.TraceLine.{TraceLine}
 use Rattle.pass_run.specs.Tables.{IsGoing}
 use Rattle.pass_run.specs.declared.places.Places.{Places}

@@ -1,7 +1,7 @@
 use Rattle.std.proofs.Common.{◌≤◌, ◌+◌, ℕ, List, length, refl, ap, sym, ◌∙◌, subst, arith}
 use Rattle.pass_plain.specs.Legal.{Past}
 use Rattle.pass_plain.specs.Processes.{Process}
-use Rattle.pass_report.specs.TraceLines.{plain_trace}
+use Rattle.pass_trace.specs.TraceLines.{plain_trace}
 use Rattle.pass_run.specs.Tables.{IsRequestOf}
 use Rattle.pass_run.proofs.NextCalls.{last_read_short}
 use Rattle.pass_run.proofs.Placed.{call_at}

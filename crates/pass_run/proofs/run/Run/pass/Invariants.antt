@@ -1,6 +1,6 @@
 use Rattle.std.proofs.Common.{◌≡◌, ◌<◌, ◌-◌, ◌^◌, ℕ, length}
 use Rattle.pass_plain.specs.Runs.{CanMove}
-use Rattle.pass_report.specs.TraceLines.{plain_trace}
+use Rattle.pass_trace.specs.TraceLines.{plain_trace}
 use Rattle.pass_run.specs.Tables.{IsGoing, HasGoneOn}
 use Rattle.pass_run.proofs.run.Run.pass.Given as goal
 

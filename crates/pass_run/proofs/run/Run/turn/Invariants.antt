@@ -1,4 +1,4 @@
-use Rattle.pass_report.specs.TraceLines.{plain_trace}
+use Rattle.pass_trace.specs.TraceLines.{plain_trace}
 use Rattle.pass_run.specs.Making.{steps_left}
 use Rattle.pass_run.specs.Tables.{IsGoing, HasGoneOn}
 use Rattle.pass_run.proofs.run.Run.turn.Given as goal

@@ -21,8 +21,8 @@ use Rattle.pass_graph.proofs.Ranking.{not_any}
 use Rattle.pass_waldo.specs.Orders.{node_cmp}
 use Rattle.pass_waldo.specs.Lookups.{AreAll}
 use Rattle.pass_query.specs.declared.search.Reached.{Reached}
-use Rattle.pass_query.specs.declared.search.Way.{Way}
-use Rattle.pass_query.specs.declared.search.Way.TheVariants.{Back, On}
+use Rattle.pass_query.specs.declared.walk.Way.{Way}
+use Rattle.pass_query.specs.declared.walk.Way.TheVariants.{Back, On}
 use Rattle.pass_query.specs.Searches.{Leads, Reaches, IsSearch, HasAllLed}
 use Rattle.pass_query.specs.Searches.IsSearch.{begin, look}
 use Rattle.pass_query.proofs.Looking.{reached_at}

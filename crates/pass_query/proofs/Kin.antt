@@ -1,6 +1,6 @@
 -- All that a search has reached, in order.
 use Rattle.std.proofs.Common.{ℕ, ◌≡◌, ◌<◌, ◌+◌, ◌-◌, zero, suc, true, false, refl, sym, ap, ◌∙◌, subst, List, [], ◌∷◌, length, drop, take, get_or, arith, Ordering}
-use Rattle.std.specs.Prelude.{Some, map, slice_get, option_map, Contains}
+use Rattle.std.specs.Prelude.{Option, Some, None, map, slice_get, option_map, Contains}
 use Rattle.std.specs.List.{IsDistinct}
 use Rattle.std.specs.List.Sorted.{IsStrictlySortedBy, IsSorted, IsPermutation}
 use Rattle.std.specs.Ordering.{ordering_reverse, is_lt}
@@ -20,10 +20,10 @@ use Rattle.pass_waldo.specs.Orders.{node_cmp}
 use Rattle.pass_waldo.specs.Lookups.{AreAll}
 use Rattle.pass_waldo.proofs.Indexing.{node_cmp_total, node_exact}
 use Rattle.pass_query.specs.declared.search.Reached.{Reached}
-use Rattle.pass_query.specs.declared.search.Way.{Way}
-use Rattle.pass_query.specs.declared.search.Way.TheVariants.{Back, On}
-use Rattle.pass_query.specs.Searches.{Reaches, IsWhole, HasAllLed}
-use Rattle.pass_query.specs.Answers.{HasAllEntering}
+use Rattle.pass_query.specs.declared.walk.Way.{Way}
+use Rattle.pass_query.specs.declared.walk.Way.TheVariants.{Back, On}
+use Rattle.pass_query.specs.Searches.{Reaches, IsWholeSearch, HasAllLed, HasOnlyLed}
+use Rattle.pass_query.specs.Answers.{HasAllEntering, HasOnlyEntering}
 use Rattle.pass_query.proofs.Looking.{reached_at}
 use Rattle.pass_query.proofs.Searching.{IsOrdered, ordered, Contains-place, Contains-at}
 use Rattle.pass_query.proofs.Bounding.{nodes_of, reached_of, distinct_from, come_on, all_reached}
@@ -80,7 +80,7 @@ module _ (way : Way) (list : List Record) (first : Node) (logged : IsWellLogged 
       whole : (x : Node) → Reaches way list first x → Contains v x
       whole x come = let (k, q, at, is) = all_reached way list first o x come in at_place x k q come at is
 
-  pub are_all : (reached given : List Reached) (v : List Node) → IsWhole way list first reached → given ≡ reached → IsPermutation (nodes_of (take (length given - 1) (drop 1 given))) v → IsSorted node_cmp v
+  pub are_all : (reached given : List Reached) (v : List Node) → IsWholeSearch way list first reached → given ≡ reached → IsPermutation (nodes_of (take (length given - 1) (drop 1 given))) v → IsSorted node_cmp v
       → AreAll node_cmp v (Reaches way list first)
   are_all [] given v w same moved up = let z = (ordered way list first w.search).begins in absurd (cc)
   are_all (r ∷ rest) given v w same moved up =
@@ -97,6 +97,23 @@ unfolding turn
 turned_led list first edges all a b leads come =
     let (k, at) = Contains-place edges (b, a) (all b a leads come) in
     Contains-at (map turn edges) k (a, b) (slice_get-map turn edges k ∙ ap (option_map turn) at)
+
+turned_place : (edges : List (Node × Node)) (k : ℕ) (e : Node × Node) → slice_get (map turn edges) k ≡ Some e → slice_get edges k ≡ Some (turn e)
+unfolding turn
+turned_place edges k e at = at_option (slice_get edges k) refl (sym (slice_get-map turn edges k) ∙ at)
+  where
+    at_option : (o : Option (Node × Node)) → slice_get edges k ≡ o → option_map turn o ≡ Some e → slice_get edges k ≡ Some (turn e)
+    at_option (Some d) here is = here ∙ ap (λ x. Some (turn x)) (some_is (turn d) e is)
+    at_option None here is = absurd (cc)
+
+pub turned_only : (list : List Record) (first : Node) (edges : List (Node × Node)) → HasOnlyEntering list first edges → HasOnlyLed On list first (map turn edges)
+unfolding turn
+turned_only list first edges only = (
+  λ i j e at there. only.0 i j (turn e) (turned_place edges i e at) (turned_place edges j e there),
+  λ a b in_turned.
+      let (k, at) = Contains-place (map turn edges) (a, b) in_turned in
+      only.1 b a (Contains-at edges k (b, a) (turned_place edges k (a, b) at)),
+)
 
 pub turned_long : (edges : List (Node × Node)) → length (map turn edges) ≡ length edges
 turned_long edges = length-map edges turn

@@ -1,6 +1,7 @@
 mod Looking
 mod Searching
 mod Bounding
+mod Edges
 mod Counting
 mod Kin
 mod Holders

@@ -22,8 +22,8 @@ use Rattle.pass_graph.proofs.Ranking.{list_acyclic_law}
 use Rattle.pass_waldo.specs.Orders.{node_cmp}
 use Rattle.pass_waldo.proofs.Indexing.{node_cmp_total}
 use Rattle.pass_query.specs.declared.search.Reached.{Reached}
-use Rattle.pass_query.specs.declared.search.Way.TheVariants.{Back}
-use Rattle.pass_query.specs.Searches.{IsChained, IsRoute, IsWhole}
+use Rattle.pass_query.specs.declared.walk.Way.TheVariants.{Back}
+use Rattle.pass_query.specs.Searches.{IsChained, IsRoute, IsWholeSearch}
 use Rattle.pass_query.specs.Searches.IsRoute.{start, on}
 use Rattle.pass_query.specs.Answers.{IsPath, IsUpTo, IsLeastPath}
 use Rattle.pass_query.specs.Answers.IsPath.{edge, step}
@@ -257,7 +257,7 @@ not_there p xs k x none at pass = at_test (nat_lt (position_or_len p xs) (length
         cc
 
 -- what a whole search tells of the node at a place
-module _ (list : List Record) (first : Node) (reached : List Reached) (w : IsWhole Back list first reached) where
+module _ (list : List Record) (first : Node) (reached : List Reached) (w : IsWholeSearch Back list first reached) where
   abbrev is_to : Node → Reached → Bool
   is_to to r = same_node r.node to
 

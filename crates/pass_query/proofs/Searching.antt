@@ -17,7 +17,7 @@ use Rattle.pass_waldo.specs.Orders.{node_cmp}
 use Rattle.pass_waldo.specs.Lookups.{AreAll}
 use Rattle.pass_waldo.proofs.Indexing.{node_cmp_total}
 use Rattle.pass_query.specs.declared.search.Reached.{Reached}
-use Rattle.pass_query.specs.declared.search.Way.{Way}
+use Rattle.pass_query.specs.declared.walk.Way.{Way}
 use Rattle.pass_query.specs.Searches.{has_node, looked, Leads, IsSearch}
 use Rattle.pass_query.specs.Searches.IsSearch.{begin, look}
 use Rattle.pass_query.proofs.Looking.{reached_at, is_new}

@@ -7,6 +7,7 @@ use Rattle.pass_entry.specs.declared.record.Record.{Record}
 use Rattle.pass_plain.specs.Graphs.{IsEdge, HasPath}
 use Rattle.pass_graph.specs.ListRanks.{HasNode}
 use Rattle.pass_waldo.specs.Orders.{node_cmp}
+use Rattle.pass_query.specs.Searches.{HasOnce}
 
 -- among these edges are all that leave the node and its ancestors
 abbrev pub HasAllLeaving : List Record → Node → List (Node × Node) → Type 0
@@ -15,6 +16,14 @@ HasAllLeaving list node edges = (a b : Node) → IsEdge list a b → (a ≡ node
 -- among these edges are all that enter the node and its descendants
 abbrev pub HasAllEntering : List Record → Node → List (Node × Node) → Type 0
 HasAllEntering list node edges = (a b : Node) → IsEdge list a b → (b ≡ node) ⊎ HasPath list b node → Contains edges (a, b)
+
+-- each of these edges leaves the node or an ancestor of it, and is there once
+abbrev pub HasOnlyLeaving : List Record → Node → List (Node × Node) → Type 0
+HasOnlyLeaving list node edges = HasOnce edges × ((a b : Node) → Contains edges (a, b) → IsEdge list a b × ((a ≡ node) ⊎ HasPath list node a))
+
+-- each of these edges enters the node or a descendant of it, and is there once
+abbrev pub HasOnlyEntering : List Record → Node → List (Node × Node) → Type 0
+HasOnlyEntering list node edges = HasOnce edges × ((a b : Node) → Contains edges (a, b) → IsEdge list a b × ((b ≡ node) ⊎ HasPath list b node))
 
 -- edges lead through these nodes from the one to the other
 pub data IsPath (list : List Record) : Node → Node → List Node → Type 0 where

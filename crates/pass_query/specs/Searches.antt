@@ -11,8 +11,8 @@ use Rattle.pass_plain.specs.Graphs.{IsEdge, HasPath}
 use Rattle.pass_waldo.specs.Orders.{node_cmp}
 use Rattle.pass_waldo.specs.Lookups.{AreAll}
 use Rattle.pass_query.specs.declared.search.Reached.{Reached}
-use Rattle.pass_query.specs.declared.search.Way.{Way}
-use Rattle.pass_query.specs.declared.search.Way.TheVariants.{Back, On}
+use Rattle.pass_query.specs.declared.walk.Way.{Way}
+use Rattle.pass_query.specs.declared.walk.Way.TheVariants.{Back, On}
 
 -- an edge leads from the one node to the other this way
 abbrev pub Leads : Way → List Record → Node → Node → Type 0
@@ -43,13 +43,21 @@ pub data IsSearch (way : Way) (list : List Record) (first : Node) : List Reached
       → IsSearch way list first (looked reached next row) (next + 1) (count + length row)
 
 -- it has looked from all that it has reached
-pub record IsWhole (way : Way) (list : List Record) (first : Node) (reached : List Reached) : Type 0 where
+pub record IsWholeSearch (way : Way) (list : List Record) (first : Node) (reached : List Reached) : Type 0 where
   pub count : ℕ
   pub search : IsSearch way list first reached (length reached) count
 
 -- the list has each edge that leads on from the first node, or from one that is reached from it
 abbrev pub HasAllLed : Way → List Record → Node → List (Node × Node) → Type 0
 HasAllLed way list first edges = (a b : Node) → Leads way list a b → (a ≡ first) ⊎ Reaches way list first a → Contains edges (a, b)
+
+-- the list has no edge twice
+abbrev pub HasOnce : List (Node × Node) → Type 0
+HasOnce edges = (i j : ℕ) (e : Node × Node) → slice_get edges i ≡ Some e → slice_get edges j ≡ Some e → i ≡ j
+
+-- each edge of the list leads on from the first node, or from one that is reached from it, and is there once
+abbrev pub HasOnlyLed : Way → List Record → Node → List (Node × Node) → Type 0
+HasOnlyLed way list first edges = HasOnce edges × ((a b : Node) → Contains edges (a, b) → Leads way list a b × ((a ≡ first) ⊎ Reaches way list first a))
 
 -- each node but the first was reached from one before it
 abbrev pub IsChained : List Reached → Type 0

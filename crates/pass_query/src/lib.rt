@@ -8,8 +8,7 @@ mod output;
 mod routes;
 mod search;
 mod steps;
-#[cfg(test)]
-mod tests;
+mod walk;
 
 pub use fault::QueryFault;
 pub use lineage::{ancestors, descendants};

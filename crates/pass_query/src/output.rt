@@ -7,7 +7,7 @@ use pass_entry::Node;
 use serde_json::Value;
 use std::alloc::{AllocError, Global};
 
-/// A node as `P.V`.
+// A node as `P.V`.
 fn push_node(out: &mut String, node: Node) -> Result<(), AllocError>
     ensures { OnOk result (string_bytes out.new ≡ string_bytes out.old ++ node_text node) }
 {

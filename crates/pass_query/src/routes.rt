@@ -1,29 +1,30 @@
 //! The least path from a node to another one.
-ghost use Rattle.std.specs.Prelude.{◌≡◌, ◌+◌, ◌≤◌, ◌<◌, ◌==◌, ◌&&◌, ◌↔◌, length, IfOk, IfSome, List, Err, None};
+ghost use Rattle.std.specs.Prelude.{◌≡◌, ◌+◌, ◌≤◌, ◌<◌, ◌==◌, ◌&&◌, ◌↔◌, length, IfOk, IfSome, OnOk, List, Err, None};
 ghost use Rattle.std.specs.List.{position};
 ghost use Rattle.pass_entry.specs.declared.objects.Node.{Node};
 ghost use Rattle.pass_plain.specs.Graphs.{HasPath};
 ghost use Rattle.pass_plain.specs.Versions.{same_node};
 ghost use Rattle.pass_query.specs.Searches.{IsChained, IsRoute};
-ghost use Rattle.pass_query.specs.Answers.{HasAllLeaving, IsLeastPath, IsFirstAbsent};
+ghost use Rattle.pass_query.specs.Answers.{HasAllLeaving, HasOnlyLeaving, IsLeastPath, IsFirstAbsent};
 ghost use Rattle.pass_query.specs.declared.fault.QueryFault.{QueryFault};
 
 use crate::fault::QueryFault;
-use crate::search::{Reached, Way, search};
+use crate::search::{Reached, search};
 use crate::steps::Steps;
+use crate::walk::Way;
 use pass_entry::Node;
 use pass_waldo::Index;
 use std::alloc::{AllocError, Global};
 use std::sync::ledger::Ledger;
 
-/// The place of the node among those that were reached.
+// The place of the node among those that were reached.
 fn place_of(reached: &[Reached], node: Node) -> Option<usize>
     ensures { result ≡ position (λ r. same_node r.node node) reached.now }
 {
     reached.iter().position(|one| one.node == node)
 }
 
-/// The nodes through which the search came to the place.
+// The nodes through which the search came to the place.
 fn route(alloc: Global, reached: &[Reached], place: usize) -> Result<Vec<Node>, AllocError>
     requires chained { IsChained reached.now }
     requires within { place < length reached.now }
@@ -53,6 +54,7 @@ pub fn path<L: Ledger>(
     ensures none { IfOk result (λ found. (found ≡ None) ↔ ¬ (HasPath index.now from to)) }
     ensures absent { (n : Node) → (result ≡ Err (QueryFault.NoObject n)) ↔ IsFirstAbsent index.now from to n }
     ensures steps { (edges : List (Node × Node)) → HasAllLeaving index.now from edges → steps.new ≤ steps.old + length edges }
+    ensures counted { OnOk result ((edges : List (Node × Node)) → HasOnlyLeaving index.now from edges → steps.old + length edges ≤ steps.new) }
 {
     if !index.has(from) {
         return Err(QueryFault::NoObject(from));

@@ -37,3 +37,9 @@ returns-clause-none g c =
           ((λ none p. never_first list c.args.from items c.in_ok-reached.ensures.whole c.has.ensures.logged c.args.to p (found ∙ w.in-Some.is ∙ ap (λ n. Some n) w.if-place-ne0.false)), (λ never. refl))
       | in_default-via-in_default w ↦ ((λ none p. never_none list c.args.from items c.in_ok-reached.ensures.whole c.args.to p (found ∙ w.in_default.is)), (λ never. refl))
     ]
+
+pub returns-in-Some-clause-counted : goal.returns-in-Some-clause-counted
+returns-in-Some-clause-counted g c = c.in_ok-reached.ensures.counted
+
+pub returns-clause-counted : goal.returns-clause-counted
+returns-clause-counted g c = c.in_ok-reached.ensures.counted

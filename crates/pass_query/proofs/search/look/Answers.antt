@@ -1,4 +1,4 @@
-use Rattle.std.proofs.Common.{◌≡◌, Bool, true, false, not, [], ◌∷◌, ◌++◌, take, refl, sym, ap, ◌∙◌, arith}
+use Rattle.std.proofs.Common.{◌≡◌, Bool, true, false, not, [], ◌∷◌, ◌++◌, take, refl, sym, ap, ◌∙◌}
 use Rattle.std.specs.HashSet.{contains}
 use Rattle.pass_plain.specs.Versions.{same_node}
 use Rattle.pass_query.specs.Searches.{has_node, looked}
@@ -15,7 +15,7 @@ to_true true is = refl
 to_true false is = let z : false ≡ true = is in cc
 
 pub loop-node-preserved : goal.loop-node-preserved
-loop-node-preserved g c = let n = c.node-item.result in let j = c.loop-node.node-index in let row = c.args.row.now in let old = c.args.reached.now.items in let place = c.args.place in
+loop-node-preserved c = let n = c.node-item.result in let j = c.loop-node.node-index in let row = c.args.row.now in let old = c.args.reached.now.items in let place = c.args.place in
     let had = ap (λ xs. has_node xs n) c.loop-node.invariant.looked in
     let before : contains same_node c.loop-node.seen n ≡ has_node (looked old place (take j row)) n = c.loop-node.invariant.seen n ∙ had in
     elim c.if-branch.branch [
@@ -25,7 +25,6 @@ loop-node-preserved g c = let n = c.node-item.result in let j = c.loop-node.node
           record {
             seen = λ q. seen_new c.loop-node.reached.items c.loop-node.seen c.insert.new.self place n c.loop-node.invariant.seen c.in_ok-insert.ensures.updates.0 q ∙ ap (λ xs. has_node xs q) (sym items);
             looked = items ∙ ap (λ xs. xs ++ reached_at place n ∷ []) c.loop-node.invariant.looked ∙ sym (looked_new old place row c.requires.sorted j n c.loop-node-test.true c.node-item.is (sym before ∙ new));
-            steps = omega (arith, c.tick.ensures, c.loop-node.invariant.steps);
           }
       | else-branch w ↦
           let known : contains same_node c.loop-node.seen n ≡ true = to_true (contains same_node c.loop-node.seen n) (sym w.if-branch.false ∙ c.in_ok-insert.ensures.added) in
@@ -33,6 +32,5 @@ loop-node-preserved g c = let n = c.node-item.result in let j = c.loop-node.node
           record {
             seen = λ q. seen_known c.loop-node.reached.items c.loop-node.seen c.insert.new.self n c.loop-node.invariant.seen (sym (c.loop-node.invariant.seen n) ∙ known) c.in_ok-insert.ensures.updates.0 q ∙ ap (λ xs. has_node xs q) (sym items);
             looked = items ∙ c.loop-node.invariant.looked ∙ sym (looked_known old place row c.requires.sorted j n c.loop-node-test.true c.node-item.is (sym before ∙ known));
-            steps = omega (arith, c.tick.ensures, c.loop-node.invariant.steps);
           }
     ]

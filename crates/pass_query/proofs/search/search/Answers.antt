@@ -1,72 +1,17 @@
-use Rattle.std.proofs.Common.{◌≡◌, ◌+◌, List, [], ◌∷◌, ◌++◌, length, sym, ap, ◌∙◌, subst, arith}
-use Rattle.std.specs.Prelude.{Some, slice_get}
-use Rattle.std.specs.HashSet.{contains}
-use Rattle.std.specs.List.{list_any}
-use Rattle.std.proofs.lemmas.Option.{slice_get_read}
-use Rattle.pass_plain.specs.Versions.{same_node}
-use Rattle.pass_query.specs.declared.search.Reached.{Reached}
-use Rattle.pass_query.specs.Searches.{has_node, IsSearch}
-use Rattle.pass_query.specs.Searches.IsSearch.{begin, look}
-use Rattle.pass_query.proofs.Looking.{only}
-use Rattle.pass_query.proofs.Searching.{ordered}
-use Rattle.pass_query.proofs.Bounding.{no_longer, no_more_steps, all_led}
+use Rattle.std.proofs.Common.{◌≤◌, ◌+◌, List, length, subst}
+use Rattle.std.specs.Prelude.{IfOk, OnOk}
+use Rattle.pass_entry.specs.declared.objects.Node.{Node}
+use Rattle.pass_query.specs.Searches.{IsWholeSearch, HasAllLed, HasOnlyLed}
 use Rattle.pass_query.proofs.search.search.Goals as goal
 
-pub loop-next-init : goal.loop-next-init
-loop-next-init g c =
-    let first = c.args.first.now in
-    let items : c.push.new.self.items ≡ record { node = first; before = 0 } ∷ [] = c.in_ok-push.ensures.items ∙ ap (λ (xs : List Reached). xs ++ record { node = first; before = 0 } ∷ []) c.new-reached.ensures.items in
-    record {
-      seen = λ q. c.in_ok-insert.ensures.updates.0 q ∙ only first (contains same_node c.new-seen.result) (λ p. ap (λ ks. list_any (same_node p) ks) c.new-seen.ensures.empty) q ∙ ap (λ xs. has_node xs q) (sym items);
-      search = record {
-        count = 0;
-        search = subst (λ xs. IsSearch c.args.way c.args.index.now first xs 0 0) (sym items) begin;
-        most = omega arith;
-      };
-    }
-
-pub loop-next-smaller : goal.loop-next-smaller
-loop-next-smaller g c =
-    let s = c.loop-next.invariant.search in
-    let most = no_longer c.args.way c.args.index.now c.args.first.now (ordered c.args.way c.args.index.now c.args.first.now s.search) in
-    omega (arith, c.loop-next-test.true, c.len.ensures, most)
-
-pub returns-in_err-look-clause-steps : goal.returns-in_err-look-clause-steps
-returns-in_err-look-clause-steps g c =
-    let s = c.loop-next.invariant.search in
-    let items = c.loop-next.reached.items in
-    let long : c.len.result ≡ length items = omega (arith, c.len.ensures) in
-    let here : slice_get items c.loop-next.next ≡ Some c.index.result.now = slice_get_read items c.len.result c.loop-next.next c.index.result.now long c.loop-next-test.true c.index.ensures in
-    let on = look s.search here c.neighbors-row.ensures in
-    λ edges all.
-    let fits = no_more_steps c.args.way c.args.index.now c.args.first.now on edges (all_led c.args.way c.args.index.now c.args.first.now (ordered c.args.way c.args.index.now c.args.first.now on) edges all) in
-    omega (arith, fits, s.most, c.look.ensures.steps)
-
-pub loop-next-preserved : goal.loop-next-preserved
-loop-next-preserved g c =
-    let s = c.loop-next.invariant.search in
-    let items = c.loop-next.reached.items in
-    let long : c.len.result ≡ length items = omega (arith, c.len.ensures) in
-    let here : slice_get items c.loop-next.next ≡ Some c.index.result.now = slice_get_read items c.len.result c.loop-next.next c.index.result.now long c.loop-next-test.true c.index.ensures in
-    record {
-      seen = c.in_ok-look.ensures.seen;
-      search = record {
-        count = s.count + length c.neighbors-row.result.now;
-        search = subst (λ xs. IsSearch c.args.way c.args.index.now c.args.first.now xs (c.loop-next.next + 1) (s.count + length c.neighbors-row.result.now)) (sym c.in_ok-look.ensures.looked) (look s.search here c.neighbors-row.ensures);
-        most = omega (arith, s.most, c.look.ensures.steps);
-      };
-    }
-
 pub returns-clause-whole : goal.returns-clause-whole
-returns-clause-whole g c =
-    let s = c.loop-next.invariant.search in
-    let o = ordered c.args.way c.args.index.now c.args.first.now s.search in
-    let all : c.loop-next.next ≡ length c.loop-next.reached.items = omega (arith, o.within, c.loop-next-test.false, c.len.ensures) in
-    record { count = s.count; search = subst (λ n. IsSearch c.args.way c.args.index.now c.args.first.now c.loop-next.reached.items n s.count) all s.search }
+returns-clause-whole g c = subst (λ list. IfOk c.walk_from.result (λ v. IsWholeSearch c.args.way list c.args.first.now v.items)) c.of.ensures c.walk_from.ensures.whole
 
 pub returns-clause-steps : goal.returns-clause-steps
 returns-clause-steps g c =
-    let s = c.loop-next.invariant.search in
-    λ edges all.
-    let fits = no_more_steps c.args.way c.args.index.now c.args.first.now s.search edges (all_led c.args.way c.args.index.now c.args.first.now (ordered c.args.way c.args.index.now c.args.first.now s.search) edges all) in
-    omega (arith, fits, s.most)
+    subst (λ list. (edges : List (Node × Node)) → HasAllLed c.args.way list c.args.first.now edges → c.walk_from.new.steps ≤ c.args.steps.now + length edges) c.of.ensures c.walk_from.ensures.steps
+
+pub returns-clause-counted : goal.returns-clause-counted
+returns-clause-counted g c =
+    subst (λ list. OnOk c.walk_from.result ((edges : List (Node × Node)) → HasOnlyLed c.args.way list c.args.first.now edges → c.args.steps.now + length edges ≤ c.walk_from.new.steps)) c.of.ensures
+    c.walk_from.ensures.counted

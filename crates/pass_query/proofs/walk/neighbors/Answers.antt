@@ -1,4 +1,4 @@
-use Rattle.pass_query.proofs.search.neighbors.Goals as goal
+use Rattle.pass_query.proofs.walk.neighbors.Goals as goal
 
 pub returns-in-Back : goal.returns-in-Back
 returns-in-Back c = rw c.in-Back.is c.parents.ensures

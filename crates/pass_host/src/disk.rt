@@ -1,5 +1,6 @@
 //! A disk of two files in a folder.
 ghost use Rattle.std.specs.Prelude.{◌≡◌, ◌≤◌, IfOk, length};
+ghost use Rattle.pass_host.specs.Host.{host_disk};
 
 use crate::HostFault;
 use crate::counts::Counts;
@@ -18,29 +19,69 @@ pub struct HostDisk<F> {
     counts: Counts,
 }
 
-impl<F: OpenFile + Drop> HostDisk<F> {
+impl HostDisk<File> {
     ghost use Rattle.pass_host.specs.Host.{host_disk};
 
-    /// Opens the files of a folder that is there. A file that is missing is made, and the folder synced then.
-    pub fn open<R: Files<File = F>>(
+    /// Opens the files of a folder that is there, for this holder alone: it fails where anyone else has the folder open.
+    /// A file that is missing is made, and the folder synced then. The folder is free again once the disk is dropped or
+    /// the program ends.
+    pub fn open<R: Files<File = File>>(
         rt: &R,
         alloc: Global,
         folder: &str,
-    ) -> Result<HostDisk<F>, HostFault>
+    ) -> Result<HostDisk<File>, HostFault>
         ensures calls { IfOk result (λ d. (host_disk d).calls ≡ 0) }
         ensures faults { IfOk result (λ d. (host_disk d).faults ≡ 0) }
     {
-        if !fs::metadata(rt, folder)?.is_dir() {
-            return Err(HostFault::Failed);
-        }
-        let log = open_file(rt, alloc, folder, "log")?;
-        let data = open_file(rt, alloc, folder, "data")?;
-        File::open(rt, folder)?.sync_all()?;
-        Ok(HostDisk::over(log, data))
+        let log = open_log(rt, alloc, folder)?;
+        log.try_lock()?;
+        open_data(rt, alloc, folder, log)
     }
 
+    /// The same for a holder that only reads, beside others that do: it fails where one has the folder open alone.
+    pub fn open_to_read<R: Files<File = File>>(
+        rt: &R,
+        alloc: Global,
+        folder: &str,
+    ) -> Result<HostDisk<File>, HostFault>
+        ensures calls { IfOk result (λ d. (host_disk d).calls ≡ 0) }
+        ensures faults { IfOk result (λ d. (host_disk d).faults ≡ 0) }
+    {
+        let log = open_log(rt, alloc, folder)?;
+        log.try_lock_shared()?;
+        open_data(rt, alloc, folder, log)
+    }
+}
+
+// The log is the file that is locked: it is there before anything else is made, and a lock for one holder alone needs a
+// file that may be written, which a folder isn't.
+fn open_log<R: Files<File = File>>(rt: &R, alloc: Global, folder: &str) -> Result<File, HostFault> {
+    if !fs::metadata(rt, folder)?.is_dir() {
+        return Err(HostFault::Failed);
+    }
+    open_file(rt, alloc, folder, "log")
+}
+
+// The rest of an opening, once the log is locked.
+fn open_data<R: Files<File = File>>(
+    rt: &R,
+    alloc: Global,
+    folder: &str,
+    log: File,
+) -> Result<HostDisk<File>, HostFault>
+    ensures calls { IfOk result (λ d. (host_disk d).calls ≡ 0) }
+    ensures faults { IfOk result (λ d. (host_disk d).faults ≡ 0) }
+{
+    let data = open_file(rt, alloc, folder, "data")?;
+    File::open(rt, folder)?.sync_all()?;
+    Ok(HostDisk::over(log, data))
+}
+
+impl<F: OpenFile + Drop> HostDisk<F> {
+    ghost use Rattle.pass_host.specs.Host.{host_disk};
+
     /// A disk of two open files.
-    pub(crate) fn over(log: F, data: F) -> HostDisk<F>
+    fn over(log: F, data: F) -> HostDisk<F>
         ensures calls { (host_disk result).calls ≡ 0 }
         ensures faults { (host_disk result).faults ≡ 0 }
     {

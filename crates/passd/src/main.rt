@@ -5,6 +5,7 @@
 use pass_cli::{Status, ask, pass_main};
 use pass_host::{HostDisk, HostFault, HostSink, HostSource};
 use pass_outside::{NoDisk, OpenGate};
+use std::fs::File;
 use std::process::ExitCode;
 use std::{env, io};
 
@@ -19,7 +20,7 @@ fn main(rt: HostRuntime) -> ExitCode {
         return ExitCode::from(without_folder(&rt));
     };
     // The folder is opened before the words are judged.
-    let disk = match HostDisk::open(&rt, rt.alloc(), folder.as_str()) {
+    let disk = match open(&rt, folder.as_str(), words) {
         Ok(disk) => disk,
         Err(fault) => return ExitCode::from(unopened(&rt, fault)),
     };
@@ -35,6 +36,14 @@ fn main(rt: HostRuntime) -> ExitCode {
         &OpenGate,
     );
     ExitCode::from(ended.status.number())
+}
+
+// Opens the folder for this program alone, or beside others for the command that writes nothing.
+fn open(rt: &HostRuntime, folder: &str, words: &[String]) -> Result<HostDisk<File>, HostFault> {
+    match words {
+        [word] if word.as_str() == "check" => HostDisk::open_to_read(rt, rt.alloc(), folder),
+        _ => HostDisk::open(rt, rt.alloc(), folder),
+    }
 }
 
 // The arguments; none where one of them isn't text, since no command has such a word.

@@ -6,8 +6,6 @@ mod counts;
 mod disk;
 mod fault;
 mod streams;
-#[cfg(test)]
-mod tests;
 
 pub use disk::HostDisk;
 pub use fault::HostFault;

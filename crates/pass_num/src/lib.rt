@@ -6,6 +6,3 @@ mod put;
 
 pub use cursor::{Cursor, Short};
 pub use put::{put_u8, put_u16, put_u32, put_u64};
-
-#[cfg(test)]
-mod tests;

@@ -6,8 +6,6 @@ mod blocks;
 mod change;
 mod changes;
 mod content;
-#[cfg(test)]
-mod crash_tests;
 mod disk;
 mod due;
 mod fault;
@@ -20,8 +18,6 @@ mod sink;
 mod source;
 mod stream;
 mod synced;
-#[cfg(test)]
-mod tests;
 
 pub use disk::{Area, Disk};
 pub use fault::Failed;

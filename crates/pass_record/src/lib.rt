@@ -15,5 +15,3 @@ pub use laws::{
 pub use reading::decode;
 pub use writing::encode;
 
-#[cfg(test)]
-mod tests;

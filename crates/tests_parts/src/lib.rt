@@ -1,3 +1,8 @@
 //! Tests of the parts: texts and codecs, the plain history, versions, graph, index, queries, workers and the book, each through
 //! public calls.
 #![tactic(auto)]
+
+#[cfg(test)]
+mod num;
+#[cfg(test)]
+mod record;

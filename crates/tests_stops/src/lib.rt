@@ -3,4 +3,10 @@
 #![tactic(auto)]
 
 #[cfg(test)]
+mod disk;
+#[cfg(test)]
+mod host;
+#[cfg(test)]
+mod log;
+#[cfg(test)]
 mod run;

@@ -1,4 +1,4 @@
-//! The log on a disk in memory.
+//! The log on a disk in memory: its bytes, what a crash leaves of two appends, and a device call that fails.
 ghost use Rattle.std.specs.Prelude.{◌≡◌, true, IfOk, IsTrue};
 ghost use Rattle.std.specs.List.{All};
 ghost use Rattle.pass_entry.specs.Ranges.{IsInRange};
@@ -6,14 +6,9 @@ ghost use Rattle.pass_outside.specs.Areas.{Image};
 ghost use Rattle.pass_outside.specs.Memory.{memory_view};
 ghost use Rattle.pass_log.specs.Log.{IsSettled};
 
-mod claims;
-
-use super::*;
-use crate::frame::{spell, stage};
-use claims::Claims;
 use pass_entry::{Kind, Node, Pnode, Record, Text, TextFault};
+use pass_log::{Log, LogFault, read_image, spell, stage};
 use pass_outside::{Area, Disk, Keep, MemDisk};
-use pass_record::RecordFault;
 use std::alloc::{AllocError, Global};
 use std::test::Fail;
 
@@ -64,25 +59,19 @@ fn opened<D: Disk>(alloc: Global, disk: &mut D) -> Result<Log, LogFault>
     Log::open(disk, &image)
 }
 
-// How many records are read, or the fault.
-fn count_in(alloc: Global, bytes: &[u8]) -> Result<usize, LogFault> {
-    let mut disk = disk_of(alloc, bytes, &[], None)?;
-    let image = read_image(alloc, &mut disk)?;
-    Ok(image.list.len())
-}
-
 fn all_in_range(batch: &[Record]) -> bool
     ensures { result ≡ true → All IsInRange batch.now }
 {
     batch.iter().all(|one| one.is_in_range())
 }
 
-// Appends records that are within their ranges to a log that isn't long.
+// Appends records that are within their ranges to a log that isn't long, by themselves or as the bytes of their frame.
 fn put<D: Disk>(
     log: &mut Log,
     alloc: Global,
     disk: &mut D,
     batch: &[Record],
+    by_frame: bool,
 ) -> Result<(), LogFault>
     requires { IsSettled log.old (D.view disk.old) }
     ensures { IsSettled log.new (D.view disk.new) }
@@ -94,25 +83,8 @@ fn put<D: Disk>(
     if bytes.len() > 1_000_000 || log.end() > 1_000_000 {
         return Err(LogFault::NoMemory);
     }
-    log.append(alloc, disk, batch)
-}
-
-// The same of the bytes of their frame.
-fn put_frame<D: Disk>(
-    log: &mut Log,
-    alloc: Global,
-    disk: &mut D,
-    batch: &[Record],
-) -> Result<(), LogFault>
-    requires { IsSettled log.old (D.view disk.old) }
-    ensures { IsSettled log.new (D.view disk.new) }
-{
-    if !all_in_range(batch) {
-        return Err(LogFault::NoMemory);
-    }
-    let bytes = spell(alloc, batch)?;
-    if bytes.len() > 1_000_000 || log.end() > 1_000_000 {
-        return Err(LogFault::NoMemory);
+    if !by_frame {
+        return log.append(alloc, disk, batch);
     }
     let frame = stage(alloc, batch)?;
     log.append_frame(disk, &frame)
@@ -122,8 +94,8 @@ fn put_frame<D: Disk>(
 fn written(alloc: Global, first: &[Record], second: &[Record]) -> Result<Vec<u8>, LogFault> {
     let mut disk = disk_of(alloc, &[], &[], None)?;
     let mut log = opened(alloc, &mut disk)?;
-    put(&mut log, alloc, &mut disk, first)?;
-    put_frame(&mut log, alloc, &mut disk, second)?;
+    put(&mut log, alloc, &mut disk, first, false)?;
+    put(&mut log, alloc, &mut disk, second, true)?;
     let bytes = disk.log_bytes()?;
     Ok(bytes)
 }
@@ -226,8 +198,8 @@ fn put_two(alloc: Global, disk: &mut MemDisk) -> Result<(), LogFault>
     requires { (c : Image) → (memory_view disk.old).may_leave c → c.log ≡ (memory_view disk.old).seen.log }
 {
     let mut log = opened(alloc, disk)?;
-    put(&mut log, alloc, disk, &[ceiling(1)])?;
-    put(&mut log, alloc, disk, &[ceiling(2)])
+    put(&mut log, alloc, disk, &[ceiling(1)], false)?;
+    put(&mut log, alloc, disk, &[ceiling(2)], true)
 }
 
 // After a stop and a crash, a third ceiling is appended to what is left.
@@ -236,33 +208,27 @@ fn after_a_stop(alloc: Global, stop: u64, keep: Keep) -> Result<Vec<u64>, LogFau
     let _ = put_two(alloc, &mut disk);
     let mut left = disk.after_crash(keep)?;
     let mut log = opened(alloc, &mut left)?;
-    put(&mut log, alloc, &mut left, &[ceiling(3)])?;
+    put(&mut log, alloc, &mut left, &[ceiling(3)], false)?;
     numbers_in(alloc, &mut left)
 }
 
 #[test]
 fn a_stop_after_each_call(rt: HostRuntime) -> Result<(), Fail> {
-    let keeps = [
-        Keep::Old,
-        Keep::New,
-        Keep::Fill(0),
-        Keep::Fill(1),
-        Keep::Fill(7),
-    ];
+    let keeps = [Keep::Old, Keep::New, Keep::Fill(0), Keep::Fill(1)];
     // A row for each number of calls that were made: how many of the two ceilings are left.
-    let table: [[usize; 5]; 12] = [
-        [0, 0, 0, 0, 0],
-        [0, 0, 0, 0, 0],
-        [0, 0, 0, 0, 0],
-        [0, 0, 0, 0, 0],
-        [0, 0, 0, 0, 0],
-        [0, 0, 0, 0, 0],
-        [0, 1, 0, 1, 0],
-        [1, 1, 1, 1, 1],
-        [1, 1, 1, 1, 1],
-        [1, 1, 1, 1, 1],
-        [1, 2, 1, 2, 1],
-        [2, 2, 2, 2, 2],
+    let table: [[usize; 4]; 12] = [
+        [0, 0, 0, 0],
+        [0, 0, 0, 0],
+        [0, 0, 0, 0],
+        [0, 0, 0, 0],
+        [0, 0, 0, 0],
+        [0, 0, 0, 0],
+        [0, 1, 0, 1],
+        [1, 1, 1, 1],
+        [1, 1, 1, 1],
+        [1, 1, 1, 1],
+        [1, 2, 1, 2],
+        [2, 2, 2, 2],
     ];
     for (stop, row) in table.iter().enumerate() {
         for (keep, count) in keeps.iter().zip(row.iter()) {
@@ -277,148 +243,40 @@ fn a_stop_after_each_call(rt: HostRuntime) -> Result<(), Fail> {
     Ok(())
 }
 
-// What three appends answer where that device call fails, and what is read once the log is opened again and a third
-// ceiling is appended.
-fn answers(alloc: Global, fail: u64) -> Result<([Result<(), LogFault>; 3], Vec<u64>), LogFault> {
+// What two appends answer where that device call fails, and how many records are read then.
+fn answers(alloc: Global, fail: u64) -> Result<([Result<(), LogFault>; 2], usize), LogFault> {
     let mut disk = disk_of(alloc, &[], &[fail], None)?;
     let mut log = opened(alloc, &mut disk)?;
-    let one = put(&mut log, alloc, &mut disk, &[ceiling(1)]);
-    let two = put(&mut log, alloc, &mut disk, &[ceiling(2)]);
-    let more = put_frame(&mut log, alloc, &mut disk, &[ceiling(9)]);
-    disk.sync(Area::Log)?;
-    let mut log = opened(alloc, &mut disk)?;
-    put(&mut log, alloc, &mut disk, &[ceiling(3)])?;
-    let numbers = numbers_in(alloc, &mut disk)?;
-    Ok(([one, two, more], numbers))
+    let one = put(&mut log, alloc, &mut disk, &[ceiling(1)], false);
+    let two = put(&mut log, alloc, &mut disk, &[ceiling(2)], true);
+    let image = read_image(alloc, &mut disk)?;
+    Ok(([one, two], image.list.len()))
 }
 
 #[test]
 fn each_call_fails_in_turn(rt: HostRuntime) -> Result<(), Fail> {
     let alloc = rt.alloc();
-    for fail in 1..4 {
-        assert_eq!(rt;
-            answers(alloc, fail).err(),
-            Some(LogFault::DiskFault),
-            "call {fail}"
-        );
-    }
     let broken = Err(LogFault::Broken { opened: 0, now: 1 });
     let fault = Err(LogFault::DiskFault);
-    // A failed call changes nothing, and what was written before is there when the log is opened again.
+    assert_eq!(rt; answers(alloc, 2).err(), Some(LogFault::DiskFault));
     for (fail, found, count) in [
-        (4, [fault, broken, broken], 0),
-        (5, [fault, broken, broken], 0),
-        (6, [fault, broken, broken], 0),
-        (7, [fault, broken, broken], 1),
-        (8, [Ok(()), fault, broken], 1),
-        (9, [Ok(()), fault, broken], 1),
-        (10, [Ok(()), fault, broken], 1),
-        (11, [Ok(()), fault, broken], 2),
+        (4, [fault, broken], 0),
+        (7, [fault, broken], 1),
+        (8, [Ok(()), fault], 1),
+        (11, [Ok(()), fault], 2),
     ] {
-        let (appends, numbers) = answers(alloc, fail)?;
-        assert_eq!(rt; appends, found, "call {fail}");
-        assert_eq!(rt; numbers.as_slice(), with_third(count), "call {fail}");
+        assert_eq!(rt; answers(alloc, fail)?, (found, count), "call {fail}");
     }
     Ok(())
 }
 
-fn bad_record(place: u64, fault: RecordFault) -> Result<usize, LogFault> {
-    Err(LogFault::BadRecord { place, fault })
-}
-
-fn bad_frame(at: u64) -> Result<usize, LogFault> {
-    Err(LogFault::BadFrame { at })
-}
-
+// The log may have 2 to the 39 bytes at most.
 #[test]
-fn damaged_logs_of_one_frame(rt: HostRuntime) {
+fn a_log_that_is_too_long(rt: HostRuntime) -> Result<(), Fail> {
     let alloc = rt.alloc();
-    for (bytes, want) in [
-        (b"\x01\0\0\0\0".as_slice(), bad_frame(0)),
-        (b"\x01\0\0\0\0\0", Ok(0)),
-        (b"\x01\xff\xff\xff\xff\0", bad_frame(0)),
-        (b"\x01\0\0\0\x09\x08\0\0\0\0\0\0\0\x01\x01", bad_frame(14)),
-        (b"\x01\0\0\0\x09\x08\0\0\0\0\0\0\0\x01\x02", Ok(1)),
-        (b"\x01\0\0\0\x01\x09\x01", bad_frame(6)),
-        (b"\x01\0\0\0\x01\x09\0", bad_record(0, RecordFault::Tag)),
-        (b"\x01\0\0\0\x02\x08\0\0", bad_record(0, RecordFault::Short)),
-        (
-            b"\x01\0\0\0\x09\x08\0\0\0\0\0\0\0\0\0",
-            bad_record(0, RecordFault::Value),
-        ),
-    ] {
-        assert_eq!(rt; count_in(alloc, bytes), want, "{bytes:?}");
-        // Cut short, it is empty, or its frame is broken.
-        for len in 0..bytes.len() {
-            let cut = if len <= 1 { Ok(0) } else { bad_frame(0) };
-            assert_eq!(rt; count_in(alloc, &bytes[..len]), cut, "{len} of {bytes:?}");
-        }
-    }
-}
-
-#[test]
-fn damaged_logs_of_two_frames(rt: HostRuntime) {
-    let alloc = rt.alloc();
-    for (bytes, want) in [
-        // A frame that isn't of records, before a broken frame and before a whole one.
-        (
-            b"\x01\0\0\0\x01\x09\x01\0\0\0\x01\0".as_slice(),
-            bad_frame(6),
-        ),
-        (
-            b"\x01\0\0\0\x01\x09\x01\0\0\0\x01\0\0",
-            bad_record(0, RecordFault::Tag),
-        ),
-        // The record of the second frame ends behind it.
-        (
-            b"\x01\0\0\0\x09\x08\0\0\0\0\0\0\0\x01\x01\0\0\0\x03\x08\0\0\0",
-            bad_record(1, RecordFault::Short),
-        ),
-    ] {
-        assert_eq!(rt; count_in(alloc, bytes), want, "{bytes:?}");
-    }
-    for len in 0..FIRST.len() {
-        let cut = match len {
-            0 | 1 => Ok(0),
-            2..15 => bad_frame(0),
-            _ => bad_frame(14),
-        };
-        assert_eq!(rt; count_in(alloc, &FIRST[..len]), cut, "{len}");
-    }
-}
-
-#[test]
-fn a_long_log_is_read_in_pieces(rt: HostRuntime) -> Result<(), Fail> {
-    let alloc = rt.alloc();
-    let mut batch = Vec::new(alloc);
-    for number in 1..20_001 {
-        batch.push(ceiling(number))?;
-    }
-    let bytes = written(alloc, &batch, &[])?;
-    assert_eq!(rt; bytes.len(), 180_011);
-    // The length and three pieces.
-    for fail in 1..5 {
-        let mut disk = disk_of(alloc, &bytes, &[fail], None)?;
-        let found = read_image(alloc, &mut disk).err();
-        assert_eq!(rt; found, Some(LogFault::DiskFault), "call {fail}");
-    }
-    let mut disk = disk_of(alloc, &bytes, &[5], None)?;
-    let image = read_image(alloc, &mut disk)?;
-    assert_eq!(rt; image.list.len(), 20_000);
-    assert_eq!(rt; image.end, 180_010);
-    Ok(())
-}
-
-// An area of 2 to the 39 bytes at most is read, and memory taken only for what comes.
-#[test]
-fn a_length_is_no_promise(rt: HostRuntime) {
-    let mut longest = Claims::new(1 << 39);
-    let image = read_image(rt.alloc(), &mut longest);
-    assert_eq!(rt;
-        image.map(|image| (image.list.len(), image.end)),
-        Ok((0, 0))
-    );
-    let mut longer = Claims::new((1 << 39) + 1);
-    let fault = read_image(rt.alloc(), &mut longer).err();
+    let mut disk = disk_of(alloc, b"", &[], None)?;
+    disk.write_at(Area::Log, 1 << 39, b"\0")?;
+    let fault = read_image(alloc, &mut disk).err();
     assert_eq!(rt; fault, Some(LogFault::BadFrame { at: 1 << 39 }));
+    Ok(())
 }

@@ -1,5 +1,8 @@
-//! A disk in memory: what it reads, what a crash leaves of it, and which of its calls fail.
-use super::*;
+//! A disk in memory: what it reads, what a crash leaves of it, which of its calls fail; and the streams beside it.
+use pass_outside::{
+    Area, Disk, Failed, Gate, Keep, MemDisk, MemSink, MemSource, NoDisk, OpenGate, Sink, Source,
+    sync_both, write_synced,
+};
 use std::alloc::{AllocError, Global};
 use std::test::Fail;
 
@@ -35,14 +38,11 @@ fn log_left(alloc: Global, write: bool, cut: bool, keep: Keep) -> Result<Vec<u8>
 #[test]
 fn crash_leaves_what_is_kept(rt: HostRuntime) -> Result<(), Fail> {
     let alloc = rt.alloc();
-    let rows: [(bool, bool, Keep, &[u8]); 12] = [
+    let rows: [(bool, bool, Keep, &[u8]); 9] = [
         (false, false, Keep::Old, b"axyd"),
-        (false, false, Keep::New, b"axyd"),
-        (false, false, Keep::Fill(7), b"axyd"),
         (true, false, Keep::Old, b"axyd"),
         (true, false, Keep::New, b"axy123"),
         (true, false, Keep::Fill(7), b"axy\x07\x07\x07"),
-        (false, true, Keep::Old, b"axyd"),
         (false, true, Keep::New, b"ax"),
         (false, true, Keep::Fill(7), b"ax\x07\x07"),
         (true, true, Keep::Old, b"axyd"),
@@ -63,21 +63,19 @@ fn crash_leaves_what_is_kept(rt: HostRuntime) -> Result<(), Fail> {
 #[test]
 fn listed_calls_fail_and_change_nothing(rt: HostRuntime) -> Result<(), Fail> {
     let alloc = rt.alloc();
-    let fail = [2, 5].to_vec(alloc)?;
-    let mut disk = MemDisk::new(alloc, b"ab".to_vec(alloc)?, Vec::new(alloc), fail, Some(7))?;
+    let fail = [2, 4].to_vec(alloc)?;
+    let mut disk = MemDisk::new(alloc, b"ab".to_vec(alloc)?, Vec::new(alloc), fail, Some(5))?;
     assert!(rt; writes(&mut disk, 1, b"x"));
     assert!(rt; !writes(&mut disk, 0, b"y"));
-    assert!(rt; writes(&mut disk, 4, b"z"));
     assert!(rt; syncs(&mut disk));
     assert!(rt; !cuts(&mut disk, 0));
-    assert!(rt; cuts(&mut disk, 9));
-    assert!(rt; writes(&mut disk, 0, b"w"));
+    assert!(rt; writes(&mut disk, 4, b"z"));
+    // The stop.
     assert!(rt; !syncs(&mut disk));
-    assert!(rt; !cuts(&mut disk, 0));
-    assert_eq!(rt; (disk.calls(), disk.faults(), disk.starved()), (9, 4, 0));
-    assert_eq!(rt; disk.log_bytes()?.as_slice(), b"wx\0\0z".as_slice());
+    assert_eq!(rt; (disk.calls(), disk.faults(), disk.starved()), (6, 3, 0));
+    assert_eq!(rt; disk.log_bytes()?.as_slice(), b"ax\0\0z".as_slice());
     let left = disk.after_crash(Keep::Old)?;
-    assert_eq!(rt; left.log_bytes()?.as_slice(), b"ax\0\0z".as_slice());
+    assert_eq!(rt; left.log_bytes()?.as_slice(), b"ax".as_slice());
     Ok(())
 }
 
@@ -90,40 +88,42 @@ fn noted<D: Disk>(disk: &mut D, at: u64, bytes: &[u8]) -> Option<u64> {
 
 #[test]
 fn far_writes_take_little_memory(rt: HostRuntime) -> Result<(), Fail> {
-    let alloc = rt.alloc();
-    let end = 4_294_967_296;
-    let mut disk = disk_with(alloc, b"")?;
-    assert_eq!(rt; noted(&mut disk, end - 2, b"ab"), Some(4));
+    let mut disk = disk_with(rt.alloc(), b"")?;
+    assert_eq!(rt; noted(&mut disk, 4_294_967_294, b"ab"), Some(4));
     assert_eq!(rt; noted(&mut disk, 65_530, b"0123456789"), Some(8));
     let mut left = disk.after_crash(Keep::New)?;
     let mut buffer = [7u8; 12];
     assert_eq!(rt; left.read(Area::Store, 65_529, &mut buffer), Ok(12));
     assert_eq!(rt; buffer.as_slice(), b"\x000123456789\x00".as_slice());
+    assert_eq!(rt; left.len(Area::Store), Ok(4_294_967_296));
     Ok(())
 }
 
 #[test]
-fn areas_have_their_lengths(rt: HostRuntime) -> Result<(), Fail> {
-    let mut disk = disk_with(rt.alloc(), b"abc")?;
-    assert_eq!(rt; disk.len(Area::Log), Ok(3));
-    assert_eq!(rt; disk.len(Area::Store), Ok(0));
+fn streams_fail_as_listed(rt: HostRuntime) -> Result<(), Fail> {
+    let alloc = rt.alloc();
+    let mut source = MemSource::new(b"abcdef".to_vec(alloc)?, [2].to_vec(alloc)?);
+    let mut buffer = [0u8; 4];
+    assert_eq!(rt; source.read(&mut buffer), Ok(4));
+    assert_eq!(rt; source.read(&mut buffer), Err(Failed));
+    assert_eq!(rt; source.read(&mut buffer), Ok(2));
+    assert_eq!(rt; buffer.as_slice(), b"efcd".as_slice());
+    let mut sink = MemSink::new(alloc, [2].to_vec(alloc)?);
+    assert_eq!(rt; sink.write(b"ab").is_ok(), true);
+    assert_eq!(rt; sink.write(b"cd").is_ok(), false);
+    assert_eq!(rt; sink.taken().starts_with(b"a"), true);
     Ok(())
 }
 
-// Writes and syncs that often, each time farther.
-fn write_often(disk: &mut MemDisk, count: u64) {
-    let block = [7u8; 4096];
-    for i in 0..count.min(10_000) {
-        let _ = noted(disk, i * 40_000, &block);
-    }
+fn pass<G: Gate>(gate: &G) {
+    gate.enter(1, 1);
+    gate.inside(pass_entry::Pnode(1));
 }
 
 #[test]
-fn many_calls_stay_quick(rt: HostRuntime) -> Result<(), Fail> {
-    let mut disk = disk_with(rt.alloc(), b"")?;
-    write_often(&mut disk, 5000);
-    assert_eq!(rt; (disk.calls(), disk.faults()), (20_000, 0));
-    let mut left = disk.after_crash(Keep::Fill(3))?;
-    assert_eq!(rt; left.len(Area::Store), Ok(4999 * 40_000 + 4096));
-    Ok(())
+fn no_disk_fails(rt: HostRuntime) {
+    let mut disk = NoDisk::new();
+    assert_eq!(rt; noted(&mut disk, 0, b"a"), None);
+    assert_eq!(rt; (disk.calls(), disk.faults()), (1, 1));
+    pass(&OpenGate);
 }

@@ -3,9 +3,5 @@
 
 pub mod laws;
 mod pipe;
-#[cfg(test)]
-mod reference_tests;
-#[cfg(test)]
-mod tests;
 
 pub use pipe::{PipeEnd, PipeState};

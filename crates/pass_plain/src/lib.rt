@@ -2,8 +2,6 @@
 #![tactic(auto)]
 
 mod cache;
-#[cfg(test)]
-mod call_tests;
 mod callers;
 mod contents;
 mod equality;

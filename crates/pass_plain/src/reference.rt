@@ -142,6 +142,3 @@ fn with_reply(entry: &Entry, reply: &Reply) -> Result<Entry, AllocError>
         reply,
     })
 }
-
-#[cfg(test)]
-mod tests;

@@ -5,4 +5,12 @@
 #[cfg(test)]
 mod num;
 #[cfg(test)]
+mod pipe;
+#[cfg(test)]
+mod plain;
+#[cfg(test)]
 mod record;
+#[cfg(test)]
+mod registry;
+#[cfg(test)]
+mod version;

@@ -23,7 +23,7 @@ use Rattle.pass_plain.specs.Records.{records_of, entry_records, act_records, ver
 use Rattle.pass_plain.proofs.Replays.{replay-append}
 use Rattle.pass_report.specs.Reports.{Edge, ascending, edge_cmp, edges_of_record}
 use Rattle.pass_report.specs.declared.names.Names.{Names}
-use Rattle.pass_report.specs.declared.trail.Turn.{Turn}
+use Rattle.pass_plain.specs.declared.nodes.VersionStep.{VersionStep}
 use Rattle.pass_report.specs.Trails.{IsTurn}
 use Rattle.pass_report.specs.Names.{holds, AreNames}
 use Rattle.pass_report.specs.Contents.{content_count}
@@ -50,7 +50,7 @@ both_false true b false x y = absurd (cc)
 both_false false true false x y = absurd (cc)
 both_false false false false x y = refl
 
-module _ (session : Session) (past : List Entry) (e : Entry) (turn : Turn) (turned : IsTurn session past e turn) where
+module _ (session : Session) (past : List Entry) (e : Entry) (turn : VersionStep) (turned : IsTurn session past e turn) where
   abbrev nodes : List Node
   nodes = nodes_of session past
 

@@ -14,7 +14,7 @@ use Rattle.pass_plain.proofs.Lists.{same_numbers}
 use Rattle.pass_plain.proofs.Lineages.{lineage_law}
 use Rattle.pass_plain.proofs.Versioned.{nodes_of-append}
 use Rattle.pass_version.proofs.OneObject.{alike_then, alike_turned, opening_law}
-use Rattle.pass_report.specs.declared.trail.Turn.{Turn}
+use Rattle.pass_plain.specs.declared.nodes.VersionStep.{VersionStep}
 use Rattle.pass_report.specs.Reports.{SameButBytes}
 use Rattle.pass_report.specs.declared.trail.Trail.{Trail}
 use Rattle.pass_report.specs.Trails.{opening_lineage, lineage_in, IsTurn, IsTurnOf}
@@ -39,7 +39,7 @@ not_fresh session past nodes e fault =
     ap (λ b. option_map_or (λ out. true) (if b then None else out_of e.act) false && (is_exec e.act || not (is_repeated session past nodes e))) fault
 
 module _ (session : Session) (past : List Entry) (e : Entry) (legal : IsLegal session past) (next : MayFollow session past e)
-    (before after : ℕ → Lineage) (nodes : List Node) (turn : Turn)
+    (before after : ℕ → Lineage) (nodes : List Node) (turn : VersionStep)
     (same : nodes ≡ nodes_of session past) (alike : (object : ℕ) → IsAlike (before object) (lineage_after session past object))
     (turned : IsTurnOf (before e.what) (source_in nodes e) e turn (after e.what))
     (others : (object : ℕ) → (e.what == object) ≡ false → after object ≡ before object) where

@@ -11,14 +11,14 @@ use Rattle.pass_report.specs.Reports.{Edge, ascending, edge_cmp, edges_of_record
 use Rattle.pass_report.specs.Contents.{AreFiles}
 use Rattle.pass_report.specs.Names.{holds, AreNames}
 use Rattle.pass_report.specs.declared.names.Names.{Names}
-use Rattle.pass_report.specs.declared.trail.Turn.{Turn}
+use Rattle.pass_plain.specs.declared.nodes.VersionStep.{VersionStep}
 use Rattle.pass_report.specs.declared.logged.Logged.{Logged}
 
 abbrev pub one_if : Bool → ℕ
 one_if b = if b then 1 else 0
 
 -- the records of a new version and of an input
-abbrev pub version_count : Turn → ℕ
+abbrev pub version_count : VersionStep → ℕ
 version_count turn = one_if turn.freezes + one_if (is_some turn.source)
 
 abbrev pub args_count : List ℕ → ℕ
@@ -26,7 +26,7 @@ args_count [] = 0
 args_count (b ∷ args) = 1
 
 -- how many records an entry has beside those of a file's content
-abbrev pub own_count : Names → Turn → Act → ℕ
+abbrev pub own_count : Names → VersionStep → Act → ℕ
 own_count names turn (act.Bind name) = 2
 own_count names turn (act.Mint k) = 1
 own_count names turn (act.Unbind name) = 1
@@ -36,7 +36,7 @@ own_count names turn (act.Exec out name args) = version_count turn + (1 + args_c
 own_count names turn _ = version_count turn
 
 -- the edges of an entry's records
-abbrev pub turn_edges : Turn → List Edge
+abbrev pub turn_edges : VersionStep → List Edge
 turn_edges turn =
     (if turn.freezes then (turn.node, record { pnode = turn.node.pnode; version = turn.node.version - 1 }) ∷ [] else [])
     ++ option_map_or (λ source. (turn.node, source) ∷ []) turn.source []

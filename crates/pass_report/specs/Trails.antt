@@ -11,7 +11,7 @@ use Rattle.pass_plain.specs.Sessions.{Session, opening_version, is_opened}
 use Rattle.pass_plain.specs.Versions.{nodes_of, node_at_entry, source_in, is_fresh, is_freeze}
 use Rattle.pass_plain.specs.Lineages.{Lineage, IsAlike, lineage_after, lineage_act, is_fresh_act, is_freeze_act}
 use Rattle.pass_report.specs.declared.trail.Trail.{Trail}
-use Rattle.pass_report.specs.declared.trail.Turn.{Turn}
+use Rattle.pass_plain.specs.declared.nodes.VersionStep.{VersionStep}
 
 -- an object of which the history has nothing
 abbrev pub opening_lineage : Start → ℕ → Lineage
@@ -29,14 +29,14 @@ pub record IsTrail (start : Start) (session : Session) (history : List Entry) (t
   pub nodes : t.nodes.items ≡ nodes_of session history
   pub alike : (object : ℕ) → IsAlike (lineage_in start t object) (lineage_after session history object)
 
--- the turn says what an entry makes of its object's version
-pub record IsTurn (session : Session) (past : List Entry) (e : Entry) (turn : Turn) : Type 0 where
+-- the step says what an entry makes of its object's version
+pub record IsTurn (session : Session) (past : List Entry) (e : Entry) (turn : VersionStep) : Type 0 where
   pub node : turn.node ≡ node_at_entry session past (nodes_of session past) e
   pub freezes : turn.freezes ≡ is_freeze session past (nodes_of session past) e
   pub source : turn.source ≡ (if is_fresh session past (nodes_of session past) e then source_in (nodes_of session past) e else None)
 
 -- the same, by the lineage that the object had and the node that the entry names
-pub record IsTurnOf (l : Lineage) (named : Option Node) (e : Entry) (turn : Turn) (after : Lineage) : Type 0 where
+pub record IsTurnOf (l : Lineage) (named : Option Node) (e : Entry) (turn : VersionStep) (after : Lineage) : Type 0 where
   pub node : turn.node ≡ after.node
   pub freezes : turn.freezes ≡ (not (is_fault e.reply) && is_freeze_act l named e.act)
   pub source : turn.source ≡ (if not (is_fault e.reply) && is_fresh_act l named e.act then named else None)

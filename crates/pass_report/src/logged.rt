@@ -14,9 +14,8 @@ ghost use Rattle.pass_report.specs.Logging.{one_if, version_count, args_count, o
 use crate::files::Files;
 use crate::lines::Edge;
 use crate::names::Names;
-use crate::trail::Turn;
 use pass_entry::{Act, Entry, Node, Reply, Text};
-use pass_plain::Start;
+use pass_plain::{Start, VersionStep};
 use std::alloc::{AllocError, Global};
 use std::collections::BTreeSet;
 
@@ -30,7 +29,7 @@ pub struct Logged {
 }
 
 // How many records tell of a new version and of an input.
-fn version_records(turn: &Turn) -> u64
+fn version_records(turn: &VersionStep) -> u64
     ensures { result ≡ version_count turn.now }
 {
     u64::from(turn.freezes) + u64::from(turn.source.is_some())
@@ -56,7 +55,7 @@ fn move_records(names: &Names, from: &Text, to: &Text) -> u64
 }
 
 // How many records an entry has beside those of a file's content. `names` are those before it.
-fn own_records(names: &Names, act: &Act, turn: &Turn) -> u64
+fn own_records(names: &Names, act: &Act, turn: &VersionStep) -> u64
     ensures count { result ≡ own_count names.now turn.now act.now }
     ensures few { result ≤ 4 }
 {
@@ -83,8 +82,13 @@ impl Logged {
         })
     }
 
-    /// One more entry, which made this turn of its object's version.
-    pub fn note(&mut self, start: &Start, entry: &Entry, turn: &Turn) -> Result<(), AllocError>
+    /// One more entry, which made this step of its object's version.
+    pub fn note(
+        &mut self,
+        start: &Start,
+        entry: &Entry,
+        turn: &VersionStep,
+    ) -> Result<(), AllocError>
         requires { (session : Session) × (past : List AnyEntry) × IsNext start.now session past entry.now × IsTurn session past entry.now turn.now × IsLogged start.now session past self.old }
         ensures { OnOk result ((session : Session) (past : List AnyEntry) → IsNext start.now session past entry.now → IsTurn session past entry.now turn.now
             → IsLogged start.now session past self.old → IsLogged start.now session (past ++ entry.now ∷ []) self.new) }
@@ -96,7 +100,7 @@ impl Logged {
     }
 
     // One more entry that is no fault.
-    fn add(&mut self, start: &Start, entry: &Entry, turn: &Turn) -> Result<(), AllocError>
+    fn add(&mut self, start: &Start, entry: &Entry, turn: &VersionStep) -> Result<(), AllocError>
         requires fine { is_fault_of entry.now.reply ≡ false }
         requires known { (session : Session) × (past : List AnyEntry) × IsNext start.now session past entry.now × IsTurn session past entry.now turn.now × IsLogged start.now session past self.old }
         ensures { OnOk result ((session : Session) (past : List AnyEntry) → IsNext start.now session past entry.now → IsTurn session past entry.now turn.now
@@ -111,7 +115,7 @@ impl Logged {
 }
 
 // The edges of the records of an entry.
-fn join(edges: &mut BTreeSet<Edge>, turn: &Turn) -> Result<(), AllocError>
+fn join(edges: &mut BTreeSet<Edge>, turn: &VersionStep) -> Result<(), AllocError>
     requires { turn.now.freezes ≡ true → 1 ≤ turn.now.node.version }
     ensures { OnOk result (edges.new.keys ≡ fold (insert_key edge_cmp) edges.old.keys (turn_edges turn.now)) }
 {

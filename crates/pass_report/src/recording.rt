@@ -1,24 +1,13 @@
 //! The records of a history, in one pass over it.
-ghost use Rattle.std.specs.Prelude.{ℕ, ◌≡◌, IfOk};
+ghost use Rattle.std.specs.Prelude.{ℕ, IfOk};
 ghost use Rattle.pass_plain.specs.Legal.{IsLegal, session_of};
 ghost use Rattle.pass_plain.specs.Recording.{IsRecording};
 ghost use Rattle.pass_plain.specs.Sound.{IsSound};
 
-use crate::trail::{Trail, Turn};
+use crate::trail::Trail;
 use pass_entry::Entry;
-use pass_plain::{Recording, Start, VersionStep};
+use pass_plain::{Recording, Start};
 use std::alloc::{AllocError, Global};
-
-// A turn as the step that a recording takes.
-fn step_of(turn: &Turn) -> VersionStep
-    ensures { result ≡ record { node = turn.now.node; freezes = turn.now.freezes; source = turn.now.source } }
-{
-    VersionStep {
-        node: turn.node,
-        freezes: turn.freezes,
-        source: turn.source,
-    }
-}
 
 /// The records of a legal history, and the content of each file that it changes, in time proportional to the history and to
 /// what it writes. `start` has the bytes of its files.
@@ -31,7 +20,7 @@ pub fn recorded(alloc: Global, start: &Start, history: &[Entry]) -> Result<Recor
     for place in 0..history.len() {
         let entry = &history[place];
         let turn = trail.note(start, entry)?;
-        recording.note(alloc, start, &history[..place], entry, &step_of(&turn))?;
+        recording.note(alloc, start, &history[..place], entry, &turn)?;
     }
     Ok(recording)
 }

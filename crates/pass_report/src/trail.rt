@@ -15,21 +15,10 @@ ghost use Rattle.pass_report.specs.Trails.{lineage_in, IsTrail, IsTurn, IsTurnOf
 
 use crate::opening::{is_opened, opening_version};
 use pass_entry::{Act, Entry, Node, Pnode, Reply};
-use pass_plain::Start;
+use pass_plain::{Start, VersionStep};
 use pass_version::{Taken, Versions};
 use std::alloc::{AllocError, Global};
 use std::collections::BTreeMap;
-
-/// What an entry makes of its object's version.
-#[derive(Clone, Copy, Debug, PartialEq, Eq)]
-pub struct Turn {
-    /// The object with its version after the entry.
-    pub node: Node,
-    /// The entry begins this version.
-    pub freezes: bool,
-    /// The node from which the version has taken for the first time.
-    pub source: Option<Node>,
-}
 
 /// The versions of the objects that have entries, and the node of each entry.
 #[derive(Drop)]
@@ -40,7 +29,7 @@ pub struct Trail {
 }
 
 // The version takes from the node.
-fn take(versions: &mut Versions, source: Node) -> Result<Turn, AllocError>
+fn take(versions: &mut Versions, source: Node) -> Result<VersionStep, AllocError>
     requires { versions.old.lineage.node.version < 2 ^ 63 }
     ensures moves { OnOk result (IsAlike versions.new.lineage (linked versions.old.lineage source)) }
     ensures node { IfOk result (λ t. t.node ≡ versions.new.lineage.node) }
@@ -49,7 +38,7 @@ fn take(versions: &mut Versions, source: Node) -> Result<Turn, AllocError>
 {
     versions.reserve(1)?;
     let taken = versions.take(source);
-    Ok(Turn {
+    Ok(VersionStep {
         node: versions.current(),
         freezes: taken == Taken::FrozenAndLinked,
         source: if taken == Taken::Dropped {
@@ -61,7 +50,7 @@ fn take(versions: &mut Versions, source: Node) -> Result<Turn, AllocError>
 }
 
 // A new version begins and takes from the program's node.
-fn run(versions: &mut Versions, source: Option<Node>) -> Result<Turn, AllocError>
+fn run(versions: &mut Versions, source: Option<Node>) -> Result<VersionStep, AllocError>
     requires { versions.old.lineage.node.version < 2 ^ 62 }
     ensures moves { OnOk result (IsAlike versions.new.lineage (option_map_or (with_source (frozen versions.old.lineage)) source (frozen versions.old.lineage))) }
     ensures node { IfOk result (λ t. t.node ≡ versions.new.lineage.node) }
@@ -72,13 +61,13 @@ fn run(versions: &mut Versions, source: Option<Node>) -> Result<Turn, AllocError
     match source {
         Some(source) => {
             let taken = take(versions, source)?;
-            Ok(Turn {
+            Ok(VersionStep {
                 node: taken.node,
                 freezes: true,
                 source: taken.source,
             })
         }
-        None => Ok(Turn {
+        None => Ok(VersionStep {
             node: begun,
             freezes: true,
             source: None,
@@ -87,7 +76,11 @@ fn run(versions: &mut Versions, source: Option<Node>) -> Result<Turn, AllocError
 }
 
 // What an act that is no fault makes of its object's version. `source` is the node that it names.
-fn apply_act(versions: &mut Versions, act: &Act, source: Option<Node>) -> Result<Turn, AllocError>
+fn apply_act(
+    versions: &mut Versions,
+    act: &Act,
+    source: Option<Node>,
+) -> Result<VersionStep, AllocError>
     requires low { versions.old.lineage.node.version < 2 ^ 62 }
     requires named { out_of_act act.now ≡ None → source ≡ None }
     ensures moves { OnOk result (IsAlike versions.new.lineage (lineage_act versions.old.lineage source act.now)) }
@@ -96,7 +89,7 @@ fn apply_act(versions: &mut Versions, act: &Act, source: Option<Node>) -> Result
     ensures source { IfOk result (λ t. t.source ≡ (if is_fresh_act versions.old.lineage source act.now then source else None)) }
 {
     match act {
-        Act::Freeze => Ok(Turn {
+        Act::Freeze => Ok(VersionStep {
             node: versions.freeze(),
             freezes: true,
             source: None,
@@ -108,14 +101,14 @@ fn apply_act(versions: &mut Versions, act: &Act, source: Option<Node>) -> Result
         | Act::Give { .. }
         | Act::Load
         | Act::Take { .. }
-        | Act::Cite => Ok(Turn {
+        | Act::Cite => Ok(VersionStep {
             node: versions.mark(),
             freezes: false,
             source: None,
         }),
         _ => match source {
             Some(source) => take(versions, source),
-            None => Ok(Turn {
+            None => Ok(VersionStep {
                 node: versions.current(),
                 freezes: false,
                 source: None,
@@ -171,7 +164,7 @@ impl Trail {
     }
 
     /// One more entry.
-    pub fn note(&mut self, start: &Start, entry: &Entry) -> Result<Turn, AllocError>
+    pub fn note(&mut self, start: &Start, entry: &Entry) -> Result<VersionStep, AllocError>
         requires { (session : Session) × (past : List AnyEntry) × IsNext start.now session past entry.now × IsTrail start.now session past self.old }
         ensures { IfOk result (λ turn. (session : Session) (past : List AnyEntry) → IsNext start.now session past entry.now → IsTrail start.now session past self.old
             → IsTrail start.now session (past ++ entry.now ∷ []) self.new × IsTurn session past entry.now turn) }
@@ -197,7 +190,7 @@ impl Trail {
     }
 
     // What the entry makes of its object's version.
-    fn turn_of(&mut self, start: &Start, entry: &Entry) -> Result<Turn, AllocError>
+    fn turn_of(&mut self, start: &Start, entry: &Entry) -> Result<VersionStep, AllocError>
         requires met { is_some (get nat_cmp self.old.objects entry.now.what) ≡ true }
         requires low { (lineage_in start.now self.old entry.now.what).node.version < 2 ^ 62 }
         ensures turn { IfOk result (λ turn. IsTurnOf (lineage_in start.now self.old entry.now.what) (source_in self.old.nodes.items entry.now) entry.now turn (lineage_in start.now self.new entry.now.what)) }
@@ -214,14 +207,14 @@ impl Trail {
         };
         match self.objects.get_mut(&entry.what) {
             Some(versions) => match &entry.reply {
-                Reply::Fault(_) => Ok(Turn {
+                Reply::Fault(_) => Ok(VersionStep {
                     node: versions.current(),
                     freezes: false,
                     source: None,
                 }),
                 _ => apply_act(versions, &entry.act, source),
             },
-            None => Ok(Turn {
+            None => Ok(VersionStep {
                 node: unknown,
                 freezes: false,
                 source: None,

@@ -4,15 +4,12 @@ use Rattle.std.proofs.lemmas.List.{take_all}
 use Rattle.std.proofs.lemmas.Option.{slice_get_read}
 use Rattle.pass_entry.specs.declared.entry.Entry.{Entry}
 use Rattle.pass_plain.specs.declared.start.Start.{Start}
-use Rattle.pass_plain.specs.declared.nodes.VersionStep.{VersionStep}
 use Rattle.pass_plain.specs.Legal.{IsLegal, session_of}
-use Rattle.pass_plain.specs.Recording.{IsRecording, IsVersionStep}
+use Rattle.pass_plain.specs.Recording.{IsRecording}
 use Rattle.pass_plain.specs.Sound.{IsSound}
-use Rattle.pass_plain.specs.Versions.{nodes_of}
-use Rattle.pass_report.specs.declared.trail.Turn.{Turn}
 use Rattle.pass_report.specs.Passing.{IsNext}
 use Rattle.pass_report.specs.Reports.{IsLegalFrom}
-use Rattle.pass_report.specs.Trails.{IsTrail, IsTurn}
+use Rattle.pass_report.specs.Trails.{IsTrail}
 use Rattle.pass_report.proofs.Advancing.{next_of, one_further}
 use Rattle.pass_report.proofs.recording.recorded.Goals as goal
 
@@ -22,11 +19,6 @@ next_at : (start : Start) (objects : ℕ) (history : List Entry) → IsSound (se
 next_at start objects history sound legal short place e at =
     let from : IsLegalFrom start history (session_of start objects) = record { same = record { ceiling = refl; files = refl; apps = refl }; sound = sound; legal = legal } in
     next_of start (session_of start objects) history from short place e at
-
--- a turn is the step that a recording takes
-step_is : (start : Start) (past : List Entry) (e : Entry) (turn : Turn) → IsTurn (session_of start 0) past e turn
-    → IsVersionStep start past (nodes_of (session_of start 0) past) e (record { node = turn.node; freezes = turn.freezes; source = turn.source })
-step_is start past e turn is = record { node = is.node; freezes = is.freezes; source = is.source }
 
 pub loop-place-init : goal.loop-place-init
 loop-place-init c = record {
@@ -53,8 +45,7 @@ note-requires-in-loop-place-clause-step c =
     let (objects, sound, legal) = c.requires in
     let trail : IsTrail start (session_of start objects) (take place history) c.loop-place.trail = record { nodes = c.loop-place.invariant.trail.nodes; alike = c.loop-place.invariant.trail.alike } in
     let turned = (c.in_ok-turn.ensures (session_of start objects) (take place history) (next_at start objects history sound legal (omega arith) place e at) trail).1 in
-    let turn : IsTurn (session_of start 0) (take place history) e c.in_ok-turn.turn = record { node = turned.node; freezes = turned.freezes; source = turned.source } in
-    subst (λ (s : VersionStep). IsVersionStep start (take place history) (nodes_of (session_of start 0) (take place history)) e s) (sym c.step_of.ensures) (step_is start (take place history) e c.in_ok-turn.turn turn)
+    record { node = turned.node; freezes = turned.freezes; source = turned.source }
 
 pub loop-place-preserved : goal.loop-place-preserved
 loop-place-preserved c =

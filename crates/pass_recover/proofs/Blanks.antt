@@ -14,7 +14,7 @@ use Rattle.pass_range.specs.Tables.{IsTableOf, file_in}
 use Rattle.pass_range.specs.Lawful.{IsZero}
 use Rattle.pass_range.proofs.Numbered.{position_some}
 use Rattle.pass_range.proofs.Zeros.{zero_at}
-use Rattle.pass_recover.specs.Starts.{name_in}
+use Rattle.pass_graph.specs.Logged.{name_in}
 use Rattle.pass_recover.specs.Fills.{IsFilled}
 use Rattle.pass_recover.proofs.Elements.{in_filter_mapped}
 

@@ -25,7 +25,7 @@ use Rattle.pass_range.specs.Tables.{Row, IsBelow, IsTableOf, file_in}
 use Rattle.pass_range.specs.Lawful.{IsZero}
 use Rattle.pass_range.proofs.Listed.{contained, numbered}
 use Rattle.pass_range.proofs.RowFiles.{row_files, number-below, number-one}
-use Rattle.pass_recover.specs.Starts.{name_in}
+use Rattle.pass_graph.specs.Logged.{name_in}
 use Rattle.pass_recover.specs.Fills.{has_block, blocks_in, IsFilled, AreFilled, AreRead, bytes_in, is_same, other_ranges}
 use Rattle.pass_recover.proofs.Elements.{set_at, set_here, set_other, set_mapped, in_mapped, from_take, filter_agrees}
 use Rattle.pass_recover.proofs.Made.{are_made, objects_in, files_in}

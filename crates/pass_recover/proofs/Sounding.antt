@@ -27,7 +27,8 @@ use Rattle.pass_graph.specs.Openings.{Continues}
 use Rattle.pass_range.specs.Rows.{row_of, number_of}
 use Rattle.pass_range.specs.Lawful.{Tells}
 use Rattle.pass_range.proofs.RowFiles.{row_files}
-use Rattle.pass_recover.specs.Starts.{IsStartOf, current_node, name_in}
+use Rattle.pass_graph.specs.Logged.{name_in}
+use Rattle.pass_recover.specs.Starts.{IsStartOf, current_node}
 use Rattle.pass_recover.proofs.Counting.{count_first, count_second, entry_found}
 use Rattle.pass_recover.proofs.Elements.{split_at, mapped, in_mapped, in_filter_mapped, filter_mapped}
 use Rattle.pass_recover.proofs.Listed.{limited}

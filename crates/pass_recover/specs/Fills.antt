@@ -14,7 +14,7 @@ use Rattle.pass_range.specs.Places.{place, found_there}
 use Rattle.pass_range.specs.Rows.{range, files_of}
 use Rattle.pass_range.specs.Tables.{Row, file_in}
 use Rattle.pass_range.specs.Lawful.{IsZero}
-use Rattle.pass_recover.specs.Starts.{name_in}
+use Rattle.pass_graph.specs.Logged.{name_in}
 
 -- a row of the block is among these
 abbrev pub has_block : List Row → ℕ → ℕ → Bool

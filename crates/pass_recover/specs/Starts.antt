@@ -6,6 +6,7 @@ use Rattle.pass_entry.specs.declared.objects.Node.{Node}
 use Rattle.pass_entry.specs.declared.objects.Kind.TheVariants as kind
 use Rattle.pass_entry.specs.declared.record.Record.{Record}
 use Rattle.pass_entry.specs.declared.record.Record.TheVariants as log
+use Rattle.pass_graph.specs.Logged.{name_in}
 use Rattle.pass_plain.specs.declared.start.Start.{Start}
 use Rattle.pass_plain.specs.declared.start.StartFile.{StartFile}
 use Rattle.pass_plain.specs.Records.{range_len}
@@ -26,21 +27,6 @@ apps_of list = filter_map app_made list
 -- an object at its current version
 abbrev pub current_node : List Record → ℕ → Node
 current_node list pnode = record { pnode = pnode; version = current_of list pnode }
-
--- a file's name, none where it is empty
-abbrev pub name_in : List ℕ → Option (List ℕ)
-name_in [] = None
-name_in (b ∷ name) = Some (b ∷ name)
-
--- the name that a record gives
-abbrev pub name_given : Record → List ℕ
-name_given (log.Name pnode name) = name
-name_given _ = []
-
--- the name that the record at a place of a list gives
-abbrev pub name_at : List Record → Option ℕ → List ℕ
-name_at list None = []
-name_at list (Some place) = option_map_or name_given (slice_get list place) []
 
 -- what the list says of a file: its version, its last name and its size; the numbers of the blocks that have a row, in
 -- ascending order; and as many bytes as its size, zero in a block without a row

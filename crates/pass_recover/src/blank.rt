@@ -1,15 +1,14 @@
 //! The files and app objects of a list, before any bytes are read.
-ghost use Rattle.std.specs.Prelude.{◌≡◌, ◌+◌, ◌<◌, ◌^◌, IfOk, [], map, unwrap_or, replicate};
+ghost use Rattle.std.specs.Prelude.{◌≡◌, ◌+◌, ◌<◌, ◌^◌, IfOk, [], map, replicate};
 ghost use Rattle.std.specs.Option.{option_map_or};
-ghost use Rattle.std.specs.Ordering.{nat_cmp};
-ghost use Rattle.std.specs.BTreeMap.{get};
+ghost use Rattle.pass_graph.specs.Logged.{Summarizes, name_in};
 ghost use Rattle.pass_range.specs.Rows.{file_made};
 ghost use Rattle.pass_range.specs.Tables.{IsTableOf, file_in};
-ghost use Rattle.pass_recover.specs.Starts.{app_made, apps_of, current_node, name_in};
+ghost use Rattle.pass_recover.specs.Starts.{app_made, apps_of, current_node};
 ghost use Rattle.pass_recover.specs.Fills.{AreFilled};
 
-use crate::heads::{current_versions, last_names, name_at};
 use pass_entry::{Kind, Node, Pnode, Record};
+use pass_graph::Logged;
 use pass_plain::StartFile;
 use pass_range::Table;
 use std::alloc::{AllocError, Global};
@@ -44,19 +43,19 @@ fn made_app(one: &Record) -> Option<Pnode>
 pub fn blank_files(
     alloc: Global,
     list: &[Record],
+    logged: &Logged,
     table: &Table,
 ) -> Result<Vec<StartFile>, AllocError>
-    requires { IsTableOf list.now table.now }
+    requires says { Summarizes logged.now list.now }
+    requires table { IsTableOf list.now table.now }
     ensures { IfOk result (λ files. AreFilled list.now [] files.items) }
 {
-    let versions = current_versions(alloc, list)?;
-    let names = last_names(alloc, list)?;
     let mut files = Vec::new(alloc);
     for one in list {
         if let Some(pnode) = made_file(one) {
             let mut file = blank_file(alloc, pnode, table)?;
-            file.node.version = versions.get(&pnode).copied().unwrap_or(1);
-            file.name = name_at(list, names.get(&pnode).copied())?;
+            file.node.version = logged.version(pnode);
+            file.name = logged.name(pnode)?;
             files.push(file)?;
         }
     }
@@ -84,16 +83,20 @@ fn blank_file(alloc: Global, pnode: Pnode, table: &Table) -> Result<StartFile, A
 }
 
 /// The app objects of a list in the order in which they were made, with their current versions.
-pub fn current_apps(alloc: Global, list: &[Record]) -> Result<Vec<Node>, AllocError>
+pub fn current_apps(
+    alloc: Global,
+    list: &[Record],
+    logged: &Logged,
+) -> Result<Vec<Node>, AllocError>
+    requires { Summarizes logged.now list.now }
     ensures { IfOk result (λ apps. apps.items ≡ map (current_node list.now) (apps_of list.now)) }
 {
-    let versions = current_versions(alloc, list)?;
     let mut apps = Vec::new(alloc);
     for one in list {
         if let Some(pnode) = made_app(one) {
             apps.push(Node {
                 pnode,
-                version: versions.get(&pnode).copied().unwrap_or(1),
+                version: logged.version(pnode),
             })?;
         }
     }

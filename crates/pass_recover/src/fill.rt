@@ -3,6 +3,7 @@ ghost use Rattle.std.specs.Prelude.{◌≡◌, ◌⊎◌, ◌*◌, ◌<◌, ◌�
 ghost use Rattle.std.specs.List.{All};
 ghost use Rattle.md5.specs.Md5.{md5};
 ghost use Rattle.pass_entry.specs.Ranges.{IsInRange};
+ghost use Rattle.pass_graph.specs.Logged.{Summarizes};
 ghost use Rattle.pass_outside.specs.Areas.{Image};
 ghost use Rattle.pass_outside.specs.Moments.{IsAtEnd, Adds};
 ghost use Rattle.pass_plain.specs.Records.{range_len};
@@ -16,6 +17,7 @@ use crate::OpenFault;
 use crate::blank::blank_files;
 use md5::{Digest, Md5};
 use pass_entry::Record;
+use pass_graph::Logged;
 use pass_outside::{Disk, Failed};
 use pass_plain::StartFile;
 use pass_range::{Range, Table, range_len, read_range};
@@ -87,10 +89,12 @@ fn read_row<D: Disk>(
 pub fn read_files<D: Disk>(
     alloc: Global,
     list: &[Record],
+    logged: &Logged,
     table: &Table,
     disk: &mut D,
 ) -> Result<Filled, OpenFault>
     requires logged { IsWellLogged list.now }
+    requires says { Summarizes logged.now list.now }
     requires in_range { All IsInRange list.now }
     requires table { IsTableOf list.now table.now }
     ensures files { IfOk result (λ f. AreFilled list.now table.now.rows.items f.files.items) }
@@ -105,7 +109,7 @@ pub fn read_files<D: Disk>(
     ensures crash { (c : Image) → (D.view disk.new).may_leave c → (D.view disk.old).may_leave c }
     ensures run { Adds (D.view disk.old) (D.view disk.new) (D.view disk.old).may_leave }
 {
-    let mut files = blank_files(alloc, list, table)?;
+    let mut files = blank_files(alloc, list, logged, table)?;
     let mut unmatched = Vec::new(alloc);
     for (range, digest) in &table.rows {
         let Some(place) = table.file(range.pnode) else {

@@ -4,10 +4,7 @@
 mod blank;
 mod fault;
 mod fill;
-mod heads;
 mod opening;
-#[cfg(test)]
-mod tests;
 
 pub use fault::OpenFault;
 pub use opening::{Opening, recover};

@@ -19,8 +19,7 @@ ghost use Rattle.pass_recover.specs.Starts.{IsStartOf, HasBytes};
 use crate::OpenFault;
 use crate::blank::current_apps;
 use crate::fill::{Filled, read_files};
-use crate::heads::last_ceiling;
-use pass_graph::check;
+use pass_graph::read;
 use pass_log::{LogFault, LogImage, read_image};
 use pass_outside::{Disk, Failed, sync_both};
 use pass_plain::Start;
@@ -73,8 +72,6 @@ fn open_fault(fault: LogFault) -> OpenFault
 
 /// Opens a store: syncs the log and then the store area, reads the log, checks its records, and reads every range of
 /// their table. It writes nothing.
-///
-/// Called once, before the log is opened.
 pub fn recover<D: Disk>(alloc: Global, disk: &mut D) -> Result<Opening, OpenFault>
     ensures image { IfOk result (λ o. IsRead (D.view disk.old) o.image) }
     ensures logged { IfOk result (λ o. IsWellLogged o.image.list.items) }
@@ -112,13 +109,13 @@ pub fn recover<D: Disk>(alloc: Global, disk: &mut D) -> Result<Opening, OpenFaul
         Ok(image) => image,
         Err(fault) => return Err(open_fault(fault)),
     };
-    check(alloc, &image.list)?;
+    let logged = read(alloc, &image.list)?;
     let table = Table::of(alloc, &image.list)?;
-    let Filled { files, unmatched } = read_files(alloc, &image.list, &table, disk)?;
+    let Filled { files, unmatched } = read_files(alloc, &image.list, &logged, &table, disk)?;
     let start = Start {
-        ceiling: last_ceiling(&image.list),
+        ceiling: logged.ceiling(),
         files,
-        apps: current_apps(alloc, &image.list)?,
+        apps: current_apps(alloc, &image.list, &logged)?,
     };
     Ok(Opening {
         image,

@@ -1,5 +1,5 @@
 use Rattle.std.proofs.Common.{ℕ, Vec, Global, ◌≡◌, ◌∙◌, ◌+◌, ◌++◌, ◌∷◌, [], List, take, length, map, ap, sym, refl}
-use Rattle.std.specs.Prelude.{Option, Some, filter_map, unwrap_or, slice_get}
+use Rattle.std.specs.Prelude.{Option, Some, filter_map, slice_get}
 use Rattle.std.specs.List.{cons_option}
 use Rattle.std.proofs.lemmas.Option.{slice_get_read}
 use Rattle.std.proofs.lemmas.List.{map-append}
@@ -9,7 +9,7 @@ use Rattle.pass_plain.specs.declared.start.StartFile.{StartFile}
 use Rattle.pass_plain.specs.WellLogged.{current_of, last_name_of}
 use Rattle.pass_plain.proofs.Replays.{take-next, append-nil}
 use Rattle.pass_range.specs.Rows.{file_made, files_of}
-use Rattle.pass_recover.specs.Starts.{name_in, name_at}
+use Rattle.pass_graph.specs.Logged.{name_in}
 use Rattle.pass_recover.proofs.Blanks.{made_number, blank_filled, filled_more}
 use Rattle.pass_recover.proofs.blank.blank_files.Goals as goal
 use Rattle.pass_recover.proofs.blank.blank_files.Goals.{in-Some+in_ok-file+in_ok-file-2+in_ok-push, in_default}
@@ -26,14 +26,12 @@ loop-one-preserved c =
           let pnode = w.in-Some.pnode in
           let blank = w.in_ok-file.file in
           let made : file_made r ≡ Some pnode = sym c.made_file.ensures ∙ w.in-Some.is in
-          let version : w.unwrap_or-file.result ≡ current_of list pnode =
-          w.unwrap_or-file.ensures ∙ ap (λ (o : Option ℕ). unwrap_or o 1) (w.copied.ensures ∙ w.get.ensures.value) ∙ c.in_ok-versions.ensures pnode in
-          let named : w.in_ok-file-2.field-0 ≡ name_in (last_name_of list pnode) =
-          w.in_ok-file-2.ensures ∙ ap (λ (o : Option ℕ). name_in (name_at list o)) (w.copied-in-Some.ensures ∙ w.get-in-Some.ensures.value) ∙ ap name_in (c.in_ok-names.ensures pnode) in
-          let file : StartFile = record { node = record { pnode = blank.node.pnode; version = w.unwrap_or-file.result }; name = w.in_ok-file-2.field-0; size = blank.size; rows = blank.rows; bytes = blank.bytes } in
+          let version : w.version.result ≡ current_of list pnode = w.version.ensures list c.requires.says in
+          let named : w.in_ok-file-2.field-0 ≡ name_in (last_name_of list pnode) = w.in_ok-file-2.ensures list c.requires.says in
+          let file : StartFile = record { node = record { pnode = blank.node.pnode; version = w.version.result }; name = w.in_ok-file-2.field-0; size = blank.size; rows = blank.rows; bytes = blank.bytes } in
           let is : blank.node.pnode ≡ pnode = ap (λ (n : Node). n.pnode) w.in_ok-file.ensures.node in
           let there = made_number list i r pnode (slice_get_read list (length list) i r refl c.loop-one-test.true c.one-item.is) made in
-          let filled = blank_filled list c.args.table.now pnode there.0 c.requires there.1 file is version named w.in_ok-file.ensures.size w.in_ok-file.ensures.rows w.in_ok-file.ensures.bytes in
+          let filled = blank_filled list c.args.table.now pnode there.0 c.requires.table there.1 file is version named w.in_ok-file.ensures.size w.in_ok-file.ensures.rows w.in_ok-file.ensures.bytes in
           let items : c.match-made_file.files.items ≡ c.loop-one.files.items ++ file ∷ [] = ap (λ (v : Vec StartFile Global). v.items) w.files-is ∙ w.in_ok-push.ensures.items in
           record {
             order =

@@ -1,5 +1,5 @@
 use Rattle.std.proofs.Common.{ℕ, ◌≡◌, ◌∙◌, ◌+◌, Vec, Global, ◌++◌, ◌∷◌, [], List, take, map, ap, sym}
-use Rattle.std.specs.Prelude.{Option, filter_map, unwrap_or}
+use Rattle.std.specs.Prelude.{Option, filter_map}
 use Rattle.std.specs.List.{cons_option}
 use Rattle.std.proofs.lemmas.List.{map-append}
 use Rattle.std.proofs.lemmas.List.Elements.{filter_map-append}
@@ -20,10 +20,9 @@ loop-one-preserved c =
     elim c.match-made_app.branch [
       | in-Some+in_ok-push w ↦
           let pnode = w.in-Some.pnode in
-          let version : w.unwrap_or.result ≡ current_of list pnode =
-          w.unwrap_or.ensures ∙ ap (λ (o : Option ℕ). unwrap_or o 1) (w.copied.ensures ∙ w.get.ensures.value) ∙ c.in_ok-versions.ensures pnode in
+          let version : w.version.result ≡ current_of list pnode = w.version.ensures list c.requires in
           ap (λ (v : Vec Node Global). v.items) w.apps-is ∙ w.in_ok-push.ensures.items
-          ∙ ap (λ (l : List Node). l ++ record { pnode = pnode; version = w.unwrap_or.result } ∷ []) c.loop-one.invariant
+          ∙ ap (λ (l : List Node). l ++ record { pnode = pnode; version = w.version.result } ∷ []) c.loop-one.invariant
           ∙ ap (λ (n : ℕ). map (current_node list) (apps_of (take i list)) ++ record { pnode = pnode; version = n } ∷ []) version
           ∙ sym (ap (map (current_node list)) (next ∙ ap (λ (o : Option ℕ). apps_of (take i list) ++ cons_option o []) (sym c.made_app.ensures ∙ w.in-Some.is))
           ∙ map-append (current_node list) (apps_of (take i list)) (pnode ∷ []))

@@ -1,8 +1,9 @@
 use Rattle.std.proofs.Common.{◌∙◌, List, map, IsTrue, refl, sym, ap, subst}
 use Rattle.pass_entry.specs.declared.record.Record.{Record}
 use Rattle.pass_outside.specs.Areas.{Image}
+use Rattle.pass_graph.specs.Logged.{Summarizes}
 use Rattle.pass_plain.specs.declared.start.Start.{Start}
-use Rattle.pass_plain.specs.WellLogged.{ceiling_of, IsWellLogged}
+use Rattle.pass_plain.specs.WellLogged.{IsWellLogged}
 use Rattle.pass_range.specs.Tables.{IsTableOf}
 use Rattle.pass_recover.specs.Starts.{apps_of, current_node}
 use Rattle.pass_recover.specs.Fills.{AreFilled, AreRead}
@@ -13,17 +14,17 @@ use Rattle.pass_recover.proofs.opening.recover.Goals as goal
 pub returns-clause-start : goal.returns-clause-start
 returns-clause-start g c =
     let list : List Record = c.in-Ok.image.list.items in
-    let start : Start = record { ceiling = c.last_ceiling.result; files = c.in_ok-files.field-0.files; apps = c.in_ok-current_apps.field-0 } in
+    let start : Start = record { ceiling = c.ceiling.result; files = c.in_ok-files.field-0.files; apps = c.in_ok-current_apps.field-0 } in
     let table = c.in_ok-table.table in
     let is = subst (λ (l : List Record). IsTableOf l table) c.deref-2.ensures.value c.in_ok-table.ensures in
     let filled = subst (λ (l : List Record). AreFilled l table.rows.items start.files.items) c.deref-3.ensures.value c.in_ok-files.ensures.files in
-    start_of list table is start.files.items filled start refl (c.last_ceiling.ensures ∙ ap ceiling_of c.deref-4.ensures.value)
-    (c.in_ok-current_apps.ensures ∙ ap (λ (l : List Record). map (current_node l) (apps_of l)) c.deref-5.ensures.value)
+    start_of list table is start.files.items filled start refl (c.ceiling.ensures list (subst (λ (l : List Record). Summarizes c.in_ok-logged.logged l) c.deref.ensures.value c.in_ok-logged.ensures.says))
+    (c.in_ok-current_apps.ensures ∙ ap (λ (l : List Record). map (current_node l) (apps_of l)) c.deref-4.ensures.value)
 
 pub returns-clause-bytes : goal.returns-clause-bytes
 returns-clause-bytes g c = λ told.
     let list : List Record = c.in-Ok.image.list.items in
-    let start : Start = record { ceiling = c.last_ceiling.result; files = c.in_ok-files.field-0.files; apps = c.in_ok-current_apps.field-0 } in
+    let start : Start = record { ceiling = c.ceiling.result; files = c.in_ok-files.field-0.files; apps = c.in_ok-current_apps.field-0 } in
     let table = c.in_ok-table.table in
     let is = subst (λ (l : List Record). IsTableOf l table) c.deref-2.ensures.value c.in_ok-table.ensures in
     let filled = subst (λ (l : List Record). AreFilled l table.rows.items start.files.items) c.deref-3.ensures.value c.in_ok-files.ensures.files in
@@ -48,15 +49,15 @@ returns-clause-unmatched g c = λ told.
 
 pub returns-clause-tells_files : goal.returns-clause-tells_files
 returns-clause-tells_files g c =
-    let start : Start = record { ceiling = c.last_ceiling.result; files = c.in_ok-files.field-0.files; apps = c.in_ok-current_apps.field-0 } in
-    tells_files c.in-Ok.image.list.items start (returns-clause-start g c) (subst IsWellLogged c.deref.ensures.value c.in_ok-check.ensures.ok) c.in-Ok.ensures.in_range
+    let start : Start = record { ceiling = c.ceiling.result; files = c.in_ok-files.field-0.files; apps = c.in_ok-current_apps.field-0 } in
+    tells_files c.in-Ok.image.list.items start (returns-clause-start g c) (subst IsWellLogged c.deref.ensures.value c.in_ok-logged.ensures.ok) c.in-Ok.ensures.in_range
 
 pub returns-clause-sound : goal.returns-clause-sound
 returns-clause-sound g c =
-    let start : Start = record { ceiling = c.last_ceiling.result; files = c.in_ok-files.field-0.files; apps = c.in_ok-current_apps.field-0 } in
-    sound c.in-Ok.image.list.items start (returns-clause-start g c) (subst IsWellLogged c.deref.ensures.value c.in_ok-check.ensures.ok) c.in-Ok.ensures.in_range
+    let start : Start = record { ceiling = c.ceiling.result; files = c.in_ok-files.field-0.files; apps = c.in_ok-current_apps.field-0 } in
+    sound c.in-Ok.image.list.items start (returns-clause-start g c) (subst IsWellLogged c.deref.ensures.value c.in_ok-logged.ensures.ok) c.in-Ok.ensures.in_range
 
 pub returns-clause-continues : goal.returns-clause-continues
 returns-clause-continues g c =
-    let start : Start = record { ceiling = c.last_ceiling.result; files = c.in_ok-files.field-0.files; apps = c.in_ok-current_apps.field-0 } in
-    continues c.in-Ok.image.list.items start (returns-clause-start g c) (subst IsWellLogged c.deref.ensures.value c.in_ok-check.ensures.ok) c.in-Ok.ensures.in_range
+    let start : Start = record { ceiling = c.ceiling.result; files = c.in_ok-files.field-0.files; apps = c.in_ok-current_apps.field-0 } in
+    continues c.in-Ok.image.list.items start (returns-clause-start g c) (subst IsWellLogged c.deref.ensures.value c.in_ok-logged.ensures.ok) c.in-Ok.ensures.in_range

@@ -3,11 +3,19 @@
 #![tactic(auto)]
 
 #[cfg(test)]
+mod graph;
+#[cfg(test)]
+mod index;
+#[cfg(test)]
+mod log_rows;
+#[cfg(test)]
 mod num;
 #[cfg(test)]
 mod pipe;
 #[cfg(test)]
 mod plain;
+#[cfg(test)]
+mod query;
 #[cfg(test)]
 mod record;
 #[cfg(test)]

@@ -9,4 +9,6 @@ mod host;
 #[cfg(test)]
 mod log;
 #[cfg(test)]
+mod recover;
+#[cfg(test)]
 mod run;

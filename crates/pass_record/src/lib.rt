@@ -14,4 +14,3 @@ pub use laws::{
 };
 pub use reading::decode;
 pub use writing::encode;
-

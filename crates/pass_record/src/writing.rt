@@ -70,12 +70,7 @@ fn put_size(out: &mut Vec<u8>, pnode: Pnode, size: u64) -> Result<(), AllocError
     put_u64(out, size)
 }
 
-fn put_digest(
-    out: &mut Vec<u8>,
-    pnode: Pnode,
-    block: u32,
-    md5: &[u8; 16],
-) -> Result<(), AllocError>
+fn put_digest(out: &mut Vec<u8>, pnode: Pnode, block: u32, md5: &[u8; 16]) -> Result<(), AllocError>
     ensures ok { OnOk result (out.new.items ≡ out.old.items ++ 7 ∷ (to_be_bytes w64 pnode ++ to_be_bytes w32 block ++ md5.now)) }
     ensures err { OnErr result (take (length out.old.items) out.new.items ≡ out.old.items) }
 {

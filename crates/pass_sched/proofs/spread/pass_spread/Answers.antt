@@ -44,7 +44,7 @@ returns-clause-pass g c _ =
     let was = c.play_jobs.ensures.were ∙ ap tasks_in c.as_mut_slice.ensures.value in
     let now = still jobs.len c.play_jobs.new.jobs jobs.items was (omega (arith, jobs.ok.0)) in
     let start = subst (λ (y : List _ × (Bool × Bool)). IsUnderway g.T.Task false given begun.0 y.0 through y.1.0 y.1.1)
-        (λ i. ((sym was ∙ ap were (sym now)) i, ((sym outcome i).failed, (sym outcome i).moved))) begun.1 in
+    (λ i. ((sym was ∙ ap were (sym now)) i, ((sym outcome i).failed, (sym outcome i).moved))) begun.1 in
     let all = c.gather_all.ensures given begun.0 start in
     let ends = over g.T.Task false given all.0 _ _ _ _ _ all.1 c.answer.ensures.same c.answer.ensures.end in
     (all.0, ends.0, ends.1)

@@ -3,6 +3,8 @@
 #![tactic(auto)]
 
 #[cfg(test)]
+mod entry;
+#[cfg(test)]
 mod graph;
 #[cfg(test)]
 mod index;
@@ -20,5 +22,7 @@ mod query;
 mod record;
 #[cfg(test)]
 mod registry;
+#[cfg(test)]
+mod trace;
 #[cfg(test)]
 mod version;

@@ -9,6 +9,10 @@ mod host;
 #[cfg(test)]
 mod log;
 #[cfg(test)]
+mod range;
+#[cfg(test)]
 mod recover;
 #[cfg(test)]
 mod run;
+#[cfg(test)]
+mod vault;

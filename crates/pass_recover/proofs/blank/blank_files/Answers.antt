@@ -26,9 +26,9 @@ loop-one-preserved c =
           let pnode = w.in-Some.pnode in
           let blank = w.in_ok-file.file in
           let made : file_made r ≡ Some pnode = sym c.made_file.ensures ∙ w.in-Some.is in
-          let version : w.version.result ≡ current_of list pnode = w.version.ensures list c.requires.says in
+          let version : w.version-file.result ≡ current_of list pnode = w.version-file.ensures list c.requires.says in
           let named : w.in_ok-file-2.field-0 ≡ name_in (last_name_of list pnode) = w.in_ok-file-2.ensures list c.requires.says in
-          let file : StartFile = record { node = record { pnode = blank.node.pnode; version = w.version.result }; name = w.in_ok-file-2.field-0; size = blank.size; rows = blank.rows; bytes = blank.bytes } in
+          let file : StartFile = record { node = record { pnode = blank.node.pnode; version = w.version-file.result }; name = w.in_ok-file-2.field-0; size = blank.size; rows = blank.rows; bytes = blank.bytes } in
           let is : blank.node.pnode ≡ pnode = ap (λ (n : Node). n.pnode) w.in_ok-file.ensures.node in
           let there = made_number list i r pnode (slice_get_read list (length list) i r refl c.loop-one-test.true c.one-item.is) made in
           let filled = blank_filled list c.args.table.now pnode there.0 c.requires.table there.1 file is version named w.in_ok-file.ensures.size w.in_ok-file.ensures.rows w.in_ok-file.ensures.bytes in

@@ -1,4 +1,5 @@
-use Rattle.std.proofs.Common.{◌∙◌, List, map, IsTrue, refl, sym, ap, subst}
+use Rattle.std.proofs.Common.{ℕ, ◌∙◌, List, map, IsTrue, inl, inr, refl, sym, ap, subst, arith}
+use Rattle.pass_outside.specs.Runs.{adds_both}
 use Rattle.pass_entry.specs.declared.record.Record.{Record}
 use Rattle.pass_outside.specs.Areas.{Image}
 use Rattle.pass_graph.specs.Logged.{Summarizes}
@@ -61,3 +62,37 @@ pub returns-clause-continues : goal.returns-clause-continues
 returns-clause-continues g c =
     let start : Start = record { ceiling = c.ceiling.result; files = c.in_ok-files.field-0.files; apps = c.in_ok-current_apps.field-0 } in
     continues c.in-Ok.image.list.items start (returns-clause-start g c) (subst IsWellLogged c.deref.ensures.value c.in_ok-logged.ensures.ok) c.in-Ok.ensures.in_range
+
+pub returns-in_err-files-clause-run : goal.returns-in_err-files-clause-run
+returns-in_err-files-clause-run g c =
+    let old = g.D.Disk.view c.args.disk.now in
+    adds_both old.may_leave old (g.D.Disk.view c.read_image.new.disk) (g.D.Disk.view c.read_files.new.disk)
+    (adds_both old.may_leave old (g.D.Disk.view c.settle.new.disk) (g.D.Disk.view c.read_image.new.disk) c.settle.ensures.run.adds c.read_image.ensures.run (λ i x. x) (λ i x. c.settle.ensures.crash i x))
+    c.read_files.ensures.run (λ i x. x) (λ i x. c.settle.ensures.crash i (c.read_image.ensures.crash i x))
+
+pub returns-in_err-current_apps-clause-run : goal.returns-in_err-current_apps-clause-run
+returns-in_err-current_apps-clause-run g c =
+    let old = g.D.Disk.view c.args.disk.now in
+    adds_both old.may_leave old (g.D.Disk.view c.read_image.new.disk) (g.D.Disk.view c.read_files.new.disk)
+    (adds_both old.may_leave old (g.D.Disk.view c.settle.new.disk) (g.D.Disk.view c.read_image.new.disk) c.settle.ensures.run.adds c.read_image.ensures.run (λ i x. x) (λ i x. c.settle.ensures.crash i x))
+    c.read_files.ensures.run (λ i x. x) (λ i x. c.settle.ensures.crash i (c.read_image.ensures.crash i x))
+
+pub returns-clause-run : goal.returns-clause-run
+returns-clause-run g c =
+    let old = g.D.Disk.view c.args.disk.now in
+    adds_both old.may_leave old (g.D.Disk.view c.read_image.new.disk) (g.D.Disk.view c.read_files.new.disk)
+    (adds_both old.may_leave old (g.D.Disk.view c.settle.new.disk) (g.D.Disk.view c.read_image.new.disk) c.settle.ensures.run.adds c.read_image.ensures.run (λ i x. x) (λ i x. c.settle.ensures.crash i x))
+    c.read_files.ensures.run (λ i x. x) (λ i x. c.settle.ensures.crash i (c.read_image.ensures.crash i x))
+
+pub returns-clause-no_fault : goal.returns-clause-no_fault
+returns-clause-no_fault g c = λ never. c.read_files.ensures.no_fault (λ err. absurd (cc)) ∙ c.read_image.ensures.work.no_fault (λ err. absurd (cc)) ∙ (c.settle.ensures.run.ok tt).0
+
+pub returns-clause-since : goal.returns-clause-since
+returns-clause-since g c = λ i left.
+    let mid = g.D.Disk.view c.settle.new.disk in
+    let reads = adds_both mid.may_leave mid (g.D.Disk.view c.read_image.new.disk) (g.D.Disk.view c.read_files.new.disk) c.read_image.ensures.run c.read_files.ensures.run (λ i x. x) (λ i x. c.read_image.ensures.crash i x) in
+    let here : mid.may_leave i = elim (reads.nothing_else mid.calls i (omega arith) (subst (λ (n : ℕ). (g.D.Disk.view c.read_files.new.disk).left_since n i) (sym c.in_ok-settle.ensures.two) left)) [
+      | inl at ↦ c.in_ok-settle.ensures.since i at
+      | inr is ↦ is
+    ] in
+    c.in_ok-settle.ensures.durable i here ∙ c.in_ok-settle.ensures.content

@@ -18,13 +18,13 @@ use Rattle.pass_plain.proofs.Lists.{some_is}
 use Rattle.pass_plain.specs.declared.contents.Content.{Content}
 use Rattle.pass_plain.specs.declared.records.Recording.{Recording}
 use Rattle.pass_plain.specs.Files.{file_after}
-use Rattle.pass_plain.specs.Records.{records_of}
+use Rattle.pass_plain.specs.Records.{records_of, list_of}
 use Rattle.pass_plain.specs.Recording.{IsRecording, IsUntouched, IsContent}
 use Rattle.pass_plain.specs.Registries.{registry_after}
 use Rattle.pass_plain.specs.WellLogged.{IsWellLogged}
 use Rattle.pass_range.specs.declared.later.Later.{Later}
 use Rattle.pass_range.specs.Laters.{touch_in}
-use Rattle.pass_range.specs.Lawful.{FilesLaw, file_objects, list_of}
+use Rattle.pass_range.specs.Lawful.{FilesLaw, file_objects}
 use Rattle.pass_range.specs.Rows.{range, files_of}
 use Rattle.pass_range.specs.Sources.{touch, row_source}
 use Rattle.pass_dirty.specs.Gathering.{every_file, CoverNone, is_set, IsOf, AddsOf, IsGathered, AreGathered}

@@ -1,5 +1,5 @@
 -- Which lists of records a session may open with, and the list of a session. This project's own rule.
-use Rattle.std.specs.Prelude.{ℕ, ◌+◌, ◌≡◌, ◌≤◌, max, true, List, ◌∷◌, ◌++◌, Some, length, count_by, Contains}
+use Rattle.std.specs.Prelude.{ℕ, ◌+◌, ◌≡◌, ◌≤◌, max, true, List, Some, length, count_by, Contains}
 use Rattle.std.specs.FinMap as finite_map
 use Rattle.pass_entry.specs.declared.entry.Entry.{Entry}
 use Rattle.pass_entry.specs.declared.objects.Kind.{Kind}
@@ -9,7 +9,7 @@ use Rattle.pass_entry.specs.declared.record.Record.TheVariants as log
 use Rattle.pass_plain.specs.Sessions.{Session, is_opened, opening_version}
 use Rattle.pass_plain.specs.Sound.{IsSound}
 use Rattle.pass_plain.specs.Versions.{version_after}
-use Rattle.pass_plain.specs.Records.{records_of}
+use Rattle.pass_plain.specs.Records.{list_of}
 use Rattle.pass_plain.specs.Registries.{Exists, is_limited, count_of_kind, opening_registry}
 use Rattle.pass_plain.specs.WellLogged.{IsWellLogged, is_known, kind_of, current_of, last_name_of, ceiling_of, has_kind}
 
@@ -35,9 +35,9 @@ pub record Continues (before : List Record) (session : Session) : Type 0 where
   pub names : (object : ℕ) (name : List ℕ) → last_name_of before object ≡ name → 1 ≤ length name
       → finite_map.get (opening_registry session.start).names name ≡ Some object
 
--- the list of a session: the records before it, its ceiling, and the records of its history
+-- the list of a session, whose ceiling leaves a number for each object that it may make
 abbrev pub session_list : List Record → Session → List Entry → List Record
-session_list before session history = before ++ log.Ceiling (session.start.ceiling + session.objects) ∷ records_of session history
+session_list before session history = list_of before (session.start.ceiling + session.objects) session history
 
 -- a version that its object had before the session
 abbrev pub IsOpened : List Record → Node → Type 0

@@ -4,13 +4,13 @@ use Rattle.std.specs.Prelude.{slice_get, is_some}
 use Rattle.std.proofs.lemmas.List.{take-append-le}
 use Rattle.pass_entry.specs.declared.entry.Entry.{Entry}
 use Rattle.pass_entry.specs.declared.record.Record.{Record}
+use Rattle.pass_plain.specs.Records.{list_of}
 use Rattle.pass_outside.specs.Areas.{Image}
 use Rattle.pass_outside.specs.Moments.{Moment}
 use Rattle.pass_plain.proofs.Replays.{le_or_ge}
 use Rattle.pass_log.specs.declared.log.Log.{Log}
 use Rattle.pass_range.specs.Places.{place, Holds}
 use Rattle.pass_range.specs.Rows.{range, row_of, number_of, IsUnmatched}
-use Rattle.pass_range.specs.Lawful.{list_of}
 use Rattle.pass_range.specs.Sources.{row_source}
 use Rattle.pass_plain.specs.Files.{file_after}
 use Rattle.pass_keep.specs.Kept.{Story, IsStory, list_to, source_to, range_to, HasRecords, AreKept, IsLeft, Noted, bound_of, covered, Every, IsKeptSince, IsKept}

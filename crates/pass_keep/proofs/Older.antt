@@ -5,13 +5,12 @@ use Rattle.std.proofs.lemmas.List.{take_min}
 use Rattle.pass_entry.specs.declared.entry.Entry.{Entry}
 use Rattle.pass_entry.specs.declared.record.Record.{Record}
 use Rattle.pass_plain.specs.Files.{file_after}
-use Rattle.pass_plain.specs.Records.{has_row}
+use Rattle.pass_plain.specs.Records.{has_row, list_of}
 use Rattle.pass_plain.proofs.Lists.{some_is}
 use Rattle.pass_plain.proofs.Sizes.{files_fit}
 use Rattle.pass_range.specs.Places.{place, stands_there, Holds}
 use Rattle.pass_range.specs.Rows.{row_of, number_of}
 use Rattle.pass_range.specs.Sources.{row_source}
-use Rattle.pass_range.specs.Lawful.{list_of}
 use Rattle.pass_range.proofs.Proved.{older_proved, has_row_proved, number_proved}
 use Rattle.pass_keep.specs.Kept.{Story, IsStory, list_to, source_to, HasRecords, AreOlder}
 use Rattle.pass_keep.proofs.Stories.{legal_take, shorter, number_later, source_same}

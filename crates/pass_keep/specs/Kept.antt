@@ -7,7 +7,7 @@ use Rattle.pass_outside.specs.Areas.{Image}
 use Rattle.pass_outside.specs.Moments.{Moment, IsAtEnd}
 use Rattle.pass_plain.specs.Sessions.{Session}
 use Rattle.pass_plain.specs.Files.{file_after}
-use Rattle.pass_plain.specs.Records.{records_of}
+use Rattle.pass_plain.specs.Records.{records_of, list_of}
 use Rattle.pass_plain.specs.Legal.{IsLegal}
 use Rattle.pass_plain.specs.Sound.{IsSound}
 use Rattle.pass_log.specs.declared.log.Log.{Log}
@@ -16,7 +16,7 @@ use Rattle.pass_log.specs.Log.{IsSettled}
 use Rattle.pass_range.specs.Places.{place, stands_there, Holds}
 use Rattle.pass_range.specs.Rows.{range, row_of, number_of}
 use Rattle.pass_range.specs.Sources.{row_source}
-use Rattle.pass_range.specs.Lawful.{Tells, list_of}
+use Rattle.pass_range.specs.Lawful.{Tells}
 
 -- a session on a disk: the records before it, its ceiling, what it opened with, its history so far, the count of device
 -- calls from which on its records are kept, and the bytes of the store area then

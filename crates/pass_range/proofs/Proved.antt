@@ -10,13 +10,13 @@ use Rattle.pass_plain.specs.declared.start.Start.{Start}
 use Rattle.pass_plain.specs.declared.start.StartFile.{StartFile}
 use Rattle.pass_plain.specs.Sessions.{Session, opening_bytes}
 use Rattle.pass_plain.specs.Files.{file_after}
-use Rattle.pass_plain.specs.Records.{range_len, records_of}
+use Rattle.pass_plain.specs.Records.{range_len, records_of, list_of}
 use Rattle.pass_plain.specs.WellLogged.{size_of}
 use Rattle.pass_plain.proofs.Lists.{some_is}
 use Rattle.pass_plain.proofs.Replays.{append-nil}
 use Rattle.pass_range.specs.Places.{place, found_there}
 use Rattle.pass_range.specs.Rows.{range, row_of, files_of, number_of}
-use Rattle.pass_range.specs.Lawful.{list_of, Tells, FirstTellsLaw, IsSet, RowLaw, StepLaw, EarlierLaw, QuietLaw, OlderLaw, HasRowLaw, BeforeLaw, SizeLaw, FilesLaw, NumberLaw, NumbersLaw, WellLoggedRowLaw, PlacesLaw, WriteLaw, StandsLaw, HeldLaw, MatchedLaw, ZeroLaw, OpenedLaw}
+use Rattle.pass_range.specs.Lawful.{Tells, FirstTellsLaw, IsSet, RowLaw, StepLaw, EarlierLaw, QuietLaw, OlderLaw, HasRowLaw, BeforeLaw, SizeLaw, FilesLaw, NumberLaw, NumbersLaw, WellLoggedRowLaw, PlacesLaw, WriteLaw, StandsLaw, HeldLaw, MatchedLaw, ZeroLaw, OpenedLaw}
 use Rattle.pass_range.proofs.Apart.{held_found, places_apart, holds_written, torn_apart, held_matched, length-range}
 use Rattle.pass_range.proofs.Changing.{source-step}
 use Rattle.pass_range.proofs.Older.{older_law, stands_found}

@@ -7,12 +7,11 @@ use Rattle.pass_entry.specs.declared.entry.Entry.{Entry}
 use Rattle.pass_entry.specs.declared.objects.Kind.{Kind}
 use Rattle.pass_entry.specs.declared.objects.Kind.TheVariants as kind
 use Rattle.pass_entry.specs.declared.record.Record.{Record}
-use Rattle.pass_entry.specs.declared.record.Record.TheVariants as log
 use Rattle.pass_outside.specs.Areas.{Torn, written}
 use Rattle.pass_plain.specs.declared.start.Start.{Start}
 use Rattle.pass_plain.specs.Sessions.{Session, opening_bytes, opening_rows, opening_size}
 use Rattle.pass_plain.specs.Files.{file_after}
-use Rattle.pass_plain.specs.Records.{block_size, range_len, has_row, entry_records, records_of}
+use Rattle.pass_plain.specs.Records.{block_size, range_len, has_row, entry_records, records_of, list_of}
 use Rattle.pass_plain.specs.Registries.{same_kind, registry_after}
 use Rattle.pass_plain.specs.Legal.{IsLegal}
 use Rattle.pass_plain.specs.Sound.{IsSound}
@@ -20,10 +19,6 @@ use Rattle.pass_plain.specs.WellLogged.{size_of, IsWellLogged}
 use Rattle.pass_range.specs.Places.{place, found_there, stands_there, Holds, IsApart}
 use Rattle.pass_range.specs.Rows.{range, row_of, files_of, number_of, IsUnmatched}
 use Rattle.pass_range.specs.Sources.{touch, source_after, row_source}
-
--- the list of a session: the records before it, its ceiling, and the records of its history
-abbrev pub list_of : List Record → ℕ → Session → List Entry → List Record
-list_of before ceiling session history = before ++ log.Ceiling ceiling ∷ records_of session history
 
 -- a list says of the files of a start what the start has: their order, their sizes, and which of their blocks have a row
 pub record Tells (list : List Record) (start : Start) : Type 0 where

@@ -7,10 +7,10 @@ use Rattle.pass_entry.specs.declared.entry.Entry.{Entry}
 use Rattle.pass_plain.specs.Registries.{registry_after}
 use Rattle.pass_plain.proofs.Lists.{same_numbers, some_is}
 use Rattle.pass_plain.proofs.Making.{stocked}
+use Rattle.pass_plain.specs.Records.{list_of}
 use Rattle.pass_book.specs.Numbers.{files_of, IsFileNumber}
 use Rattle.pass_book.proofs.Numbered.{first_at}
 use Rattle.pass_range.specs.Rows.{number_of}
-use Rattle.pass_range.specs.Lawful.{list_of}
 use Rattle.pass_range.proofs.Proved.{files_proved}
 use Rattle.pass_keep.specs.Kept.{Story, IsStory, list_to}
 use Rattle.pass_keep.proofs.Stories.{number_later}

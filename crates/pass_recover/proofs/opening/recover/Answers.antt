@@ -85,7 +85,7 @@ returns-clause-run g c =
     c.read_files.ensures.run (λ i x. x) (λ i x. c.settle.ensures.crash i (c.read_image.ensures.crash i x))
 
 pub returns-clause-no_fault : goal.returns-clause-no_fault
-returns-clause-no_fault g c = λ never. c.read_files.ensures.no_fault (λ err. absurd (cc)) ∙ c.read_image.ensures.work.no_fault (λ err. absurd (cc)) ∙ (c.settle.ensures.run.ok tt).0
+returns-clause-no_fault g c = λ never. c.in_ok-files.ensures.no_fault (λ err. absurd (cc (err))) ∙ c.in-Ok.ensures.work.no_fault (λ err. absurd (cc (err))) ∙ (c.in_ok-settle.ensures.run.ok refl).0
 
 pub returns-clause-since : goal.returns-clause-since
 returns-clause-since g c = λ i left.

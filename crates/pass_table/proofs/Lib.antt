@@ -1,0 +1,4 @@
+pub mod Flats
+pub mod Seen
+pub mod Parts
+pub mod Growing

@@ -1,0 +1,5 @@
+pub mod Callings
+pub mod Goings
+pub mod Hands
+pub mod Objects
+pub mod Keeping

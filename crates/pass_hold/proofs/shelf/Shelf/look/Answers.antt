@@ -1,0 +1,9 @@
+use Rattle.std.proofs.Common.{subst}
+use Rattle.pass_plain.specs.Legal.{IsLegal}
+use Rattle.pass_book.specs.Tokens.{BookId, BookState}
+use Rattle.pass_hold.proofs.shelf.Shelf.look.Goals as goal
+
+pub returns-clause-legal : goal.returns-clause-legal
+returns-clause-legal g c =
+    subst (λ (s : BookState). IsLegal g.J.Whose.book.session s.history) c.self.view_is
+    (subst (λ (b : BookId). IsLegal b.session c.self.inside.book.history) c.self.invariant.0 c.look.ensures.legal)

@@ -1,0 +1,4 @@
+pub mod Callers
+pub mod Callings
+pub mod Goings
+pub mod Places

@@ -1,5 +1,7 @@
+pub mod Desks
 pub mod FileLaws
 pub mod Files
+pub mod Listed
 pub mod OneRegistry
 pub mod Openings
 pub mod Outcomes

@@ -1,5 +1,6 @@
 //! The registry of a store.
-ghost use Rattle.std.specs.Prelude.{◌≡◌, ◌≤◌, ◌<◌, ◌+◌, ◌-◌, ◌^◌, ◌++◌, ◌↔◌, length, map, OnOk, OnErr, IfOk, IsSome, Ok, Err, None, if◌then◌else◌};
+ghost use Rattle.std.specs.Prelude.{◌≡◌, ◌≤◌, ◌<◌, ◌+◌, ◌-◌, ◌^◌, ◌++◌, ◌↔◌, ◌==◌, false, length, map, OnOk, OnErr, IfOk, IsSome, Ok, Err, None, if◌then◌else◌};
+ghost use Rattle.std.specs.List.{list_any};
 ghost use Rattle.std.specs.Option.{ok_or};
 ghost use Rattle.std.specs.FinMap as finite_map;
 ghost use Rattle.pass_entry.specs.declared.entry.Act.TheVariants as act;
@@ -119,6 +120,7 @@ impl Registry {
     pub fn mint(&mut self, kind: Kind) -> Result<Pnode, CallFault>
         ensures answer { result ≡ minted self.old kind }
         ensures plain { (session : Session) → IsOf session self.old → reply_made result ≡ registry_reply session self.old.registry (act.Mint kind) }
+        ensures new { IfOk result (λ pnode. list_any (λ o. o.0 == pnode) self.old.registry.objects ≡ false) }
         ensures ok { OnOk result (self.new ≡ with_act self.old (act.Mint kind) (reply_made result)) }
         ensures err { OnErr result (self.new ≡ self.old) }
     {
@@ -136,6 +138,7 @@ impl Registry {
         requires { 1 ≤ self.old.room }
         ensures answer { result ≡ (if finite_map.contains_key self.old.registry.names name then Err faults.Exists else minted self.old kinds.File) }
         ensures plain { (session : Session) → IsOf session self.old → reply_made result ≡ registry_reply session self.old.registry (act.Bind name) }
+        ensures new { IfOk result (λ pnode. list_any (λ o. o.0 == pnode) self.old.registry.objects ≡ false) }
         ensures ok { OnOk result (self.new ≡ record (with_act self.old (act.Bind name) (reply_made result)) { room = self.old.room - 1 }) }
         ensures err { OnErr result (self.new ≡ self.old) }
     {

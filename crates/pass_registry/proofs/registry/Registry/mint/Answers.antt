@@ -1,5 +1,7 @@
-use Rattle.std.proofs.Common.{◌≡◌, ◌+◌, ap, subst, arith}
-use Rattle.std.specs.Prelude.{Some, slice_get}
+use Rattle.std.proofs.Common.{◌≡◌, ◌∙◌, ◌+◌, ap, sym, subst, arith}
+use Rattle.std.specs.Prelude.{Some, slice_get, ◌==◌}
+use Rattle.std.specs.List.{list_any}
+use Rattle.pass_registry.specs.States.{RegistryState}
 use Rattle.pass_registry.specs.Tables.{ObjectState}
 use Rattle.pass_registry.proofs.Numbers.{none_above, most_push}
 use Rattle.pass_registry.proofs.registry.Registry.mint.Goals as goal
@@ -21,3 +23,9 @@ invariant_of-self c =
       reserved = (let r = c.self.invariant.reserved in omega (arith, room, r));
       numbers = c.self.invariant.numbers;
     }
+
+pub returns-clause-new : goal.returns-clause-new
+returns-clause-new c =
+    let made = c.from.ensures in
+    ap (λ (s : RegistryState). list_any (λ o. o.0 == c.self.inside.ceiling + c.from.result) s.registry.objects) (sym c.self.view_is)
+    ∙ none_above c.self.inside.table.objects (c.self.inside.ceiling + c.self.inside.made) (c.self.inside.ceiling + c.from.result) c.self.invariant.below (omega (arith, made))

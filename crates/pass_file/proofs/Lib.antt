@@ -1,0 +1,5 @@
+pub mod Members
+pub mod Resizing
+pub mod Ranges
+pub mod Turning
+pub mod Copying

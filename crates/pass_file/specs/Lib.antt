@@ -1,0 +1,3 @@
+pub mod BlockSets
+pub mod FileViews
+pub mod Touches

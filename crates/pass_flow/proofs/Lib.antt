@@ -1,0 +1,3 @@
+pub mod Versioning
+pub mod Flowing
+pub mod Seeing

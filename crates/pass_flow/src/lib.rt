@@ -1,0 +1,15 @@
+//! What files, pipes and app objects have in common, and app objects.
+//!
+//! [`enter_on`] makes an entry on an object that has versions: it moves the version by the entry, and brings the records of that. The
+//! acts that leave an object's content stand in [`Versioned`], once for all kinds of objects.
+#![tactic(auto)]
+
+mod app;
+mod entering;
+mod tag;
+mod versioned;
+
+pub use app::AppDesk;
+pub use entering::enter_on;
+pub use tag::TagRoom;
+pub use versioned::Versioned;

@@ -1,0 +1,7 @@
+mod Members
+mod Firsts
+mod Settling
+mod Greedy
+mod Leaving
+mod Listing
+mod Arranging

@@ -1,0 +1,4 @@
+pub mod Orders
+pub mod Programs
+pub mod Queues
+pub mod Texts

@@ -5,7 +5,7 @@ ghost use Rattle.pass_entry.specs.Limits.{block_size, file_limit};
 ghost use Rattle.pass_file.specs.BlockSets.{is_among, IsRising, IsPlace};
 ghost use Rattle.pass_file.specs.Touches.{is_within};
 
-use pass_entry::BLOCK_SIZE;
+use pass_table::blocks_for;
 use std::alloc::{AllocError, Global};
 use std::marker::Model;
 
@@ -27,15 +27,6 @@ impl Model for BlockSet {
     ghost view = { λ s. record { blocks = s.blocks.items; room = vec_capacity s.blocks - vec_len s.blocks } };
 
     ghost invariant = { λ s. IsRising s.blocks.items };
-}
-
-/// In how many blocks so many bytes lie.
-fn blocks_for(size: usize) -> u32
-    requires { size ≤ file_limit }
-    ensures covers { size ≤ result * block_size }
-    ensures least { result * block_size < size + block_size }
-{
-    size.div_ceil(BLOCK_SIZE as usize) as u32
 }
 
 /// Where a block stands, or would stand.
@@ -155,7 +146,7 @@ impl BlockSet {
         ensures blocks { (b : ℕ) → is_among self.new.blocks b ≡ (is_among self.old.blocks b && nat_lt (b * block_size) size) }
         ensures room { self.old.room ≤ self.new.room }
     {
-        let below = blocks_for(size);
+        let below = blocks_for(size) as u32;
         let place = place_of(self.as_slice(), below);
         self.blocks.truncate(place);
     }

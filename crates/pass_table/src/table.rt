@@ -23,7 +23,7 @@ pub(crate) fn zeros(len: usize) -> &'static [u8]
 }
 
 /// In how many blocks so many bytes lie.
-pub(crate) fn blocks_for(size: usize) -> usize
+pub fn blocks_for(size: usize) -> usize
     requires { size ≤ file_limit }
     ensures covers { size ≤ result * block_size }
     ensures least { result * block_size < size + block_size }

@@ -1,0 +1,144 @@
+//! A child begins.
+ghost use Rattle.std.specs.Prelude.{◌≡◌, ◌≤◌, ◌^◌, None, Some, [], false, length, IfOk};
+ghost use Rattle.pass_plain.specs.Legal.{CallerAllows};
+ghost use Rattle.pass_plain.specs.Places.{keeps};
+ghost use Rattle.pass_plain.specs.Processes.{new_process};
+ghost use Rattle.pass_plain.specs.Sessions.{is_opened};
+ghost use Rattle.pass_plain.specs.Versions.{nodes_of, source_in};
+ghost use Rattle.pass_book.specs.Openings.{new_desk};
+ghost use Rattle.pass_hold.specs.Callers.{moved_on};
+ghost use Rattle.pass_hold.specs.Callings.{IsEntered};
+ghost use Rattle.pass_proc.specs.Births.{birth_entry};
+
+use crate::ended::Living;
+use crate::proc::Proc;
+use crate::taking::slip_of;
+use pass_book::{Desk, Last, Line};
+use pass_entry::{Act, CallName, Descriptors, Entry, Node, Pnode, Reply};
+use pass_hold::{Caller, Shelf, Whose};
+use pass_version::{Taken, Versions};
+use std::alloc::{AllocError, Global};
+use std::marker::Model;
+
+/// What a fork takes for its child before its first entry.
+#[derive(Drop)]
+pub struct ChildRoom {
+    versions: Versions,
+    given: Descriptors,
+    held: Descriptors,
+}
+
+impl Model for ChildRoom {
+    ghost use Rattle.std.specs.Coded.{codes, coded_ℕ};
+    ghost use Rattle.std.specs.Ordering.{nat_cmp};
+    ghost use Rattle.std.specs.FinMap as finite_map;
+    ghost use Rattle.pass_entry.specs.contracts.objects.Descriptor as descriptor_type;
+    ghost use Rattle.pass_proc.specs.Births.{ChildRoomView, IsChildRoom};
+
+    ghost Value = { ChildRoomView };
+
+    ghost coded = { Prim.hlevel (codes, finite_map.code {R = nat_cmp} coded_ℕ descriptor_type.the_row.coded) };
+
+    ghost view = { λ r. record { child = r.versions.lineage.node.pnode; descriptors = r.held } };
+
+    ghost invariant = { λ r. IsChildRoom r.versions r.given r.held };
+}
+
+impl ChildRoom {
+    /// Room for the child of this number, which the registry gives next, with its parent's descriptors.
+    pub fn of(
+        alloc: Global,
+        child: Pnode,
+        descriptors: &Descriptors,
+    ) -> Result<ChildRoom, AllocError>
+        ensures { IfOk result (λ r. r ≡ record { child = child; descriptors = descriptors.now }) }
+    {
+        let mut versions = Versions::new(alloc, child, 1, false);
+        versions.reserve(1)?;
+        let given = descriptors.clone()?;
+        let held = descriptors.clone()?;
+        Ok(ChildRoom {
+            versions,
+            given,
+            held,
+        })
+    }
+}
+
+fn line_out(desk: &mut Desk) -> Option<Line>
+    ensures line { result ≡ desk.old.line }
+    ensures desk { desk.new ≡ record desk.old { line = None } }
+{
+    desk.line.take()
+}
+
+fn last_out(desk: &mut Desk) -> Option<Last>
+    ensures last { result ≡ desk.old.last }
+    ensures desk { desk.new ≡ record desk.old { last = None } }
+{
+    desk.last.take()
+}
+
+impl<J: Whose> Proc<J> {
+    /// The child of a process begins, by the last entry of the fork, and takes from its parent. What lies in its slot from then on
+    /// comes with it.
+    pub fn born(
+        alloc: Global,
+        shelf: &mut Shelf<J>,
+        parent: &mut Caller<J>,
+        room: ChildRoom,
+        desk: Desk,
+        who: Pnode,
+        number: u64,
+        out: u64,
+        source: &Node,
+    ) -> (Proc<J>, Living<J>)
+        requires desk { desk ≡ new_desk J.book room.child }
+        requires new { is_opened J.book.session.start room.child ≡ false }
+        requires place { 66 ≤ parent.old.held }
+        requires keep { 0 ≡ keeps parent.old.seen (birth_entry who number room.child out room.descriptors) }
+        requires who { parent.old.who ≡ who }
+        requires allows { CallerAllows parent.old.seen (birth_entry who number room.child out room.descriptors) }
+        requires source { source_in (nodes_of J.book.session parent.old.seen) (birth_entry who number room.child out room.descriptors) ≡ Some source.now }
+        ensures entered { IsEntered J.book.session parent.old.seen [] parent.new.seen (birth_entry who number room.child out room.descriptors) }
+        ensures parent { parent.new ≡ moved_on parent.old parent.new.seen parent.new.syncs 0 }
+        ensures few { length parent.new.seen ≤ 2 ^ 32 }
+        ensures child { (result.0.who ≡ room.child) × (result.0.number ≡ 0) × (result.0.way ≡ None) }
+        ensures seen { result.0.seen ≡ parent.new.seen }
+        ensures state { result.0.state ≡ record new_process { descriptors = room.descriptors } }
+        ensures living { result.1.who ≡ room.child }
+    {
+        let mut desk = desk;
+        let Some(line) = line_out(&mut desk) else {
+            unreachable!()
+        };
+        let Some(last) = last_out(&mut desk) else {
+            unreachable!()
+        };
+        let ChildRoom {
+            mut versions,
+            given,
+            held,
+        } = room;
+        let child = versions.current().pnode;
+        let _ = versions.take(*source);
+        let node = versions.current();
+        let slip = slip_of(Taken::Linked, &node, source, Vec::new(alloc));
+        let entry = Entry {
+            who,
+            number,
+            call: CallName::Fork,
+            what: child,
+            act: Act::Born {
+                out,
+                descriptors: given,
+            },
+            reply: Reply::Done,
+        };
+        let (_, born) = parent.born(shelf, &mut desk, line, slip, entry);
+        (
+            Proc::begin(alloc, desk, born, versions, held),
+            Living::of(last),
+        )
+    }
+}

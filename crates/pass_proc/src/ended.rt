@@ -1,0 +1,181 @@
+//! A process in the slot in which its desk lies once it has ended.
+ghost use Rattle.std.specs.Prelude.{◌≡◌, ◌+◌, ◌≤◌, ◌<◌, ◌^◌, Some, false, true, length, slice_get};
+ghost use Rattle.pass_entry.specs.declared.entry.Act.TheVariants as act;
+ghost use Rattle.pass_entry.specs.declared.entry.CallName.TheVariants as calls;
+ghost use Rattle.pass_entry.specs.declared.entry.Reply.TheVariants as answer;
+ghost use Rattle.pass_plain.specs.Legal.{CallerAllows};
+ghost use Rattle.pass_plain.specs.Lineages.{used};
+ghost use Rattle.pass_plain.specs.Places.{keeps};
+ghost use Rattle.pass_plain.specs.Processes.{has_ended};
+ghost use Rattle.pass_plain.specs.Versions.{nodes_of};
+ghost use Rattle.pass_hold.specs.Callers.{moved_on};
+ghost use Rattle.pass_hold.specs.Callings.{IsEntered};
+ghost use Rattle.pass_hold.specs.Places.{HasRoom};
+ghost use Rattle.pass_proc.specs.Acts.{own_entry};
+ghost use Rattle.pass_proc.specs.Ends.{reap_entry};
+
+use crate::desk::ProcessDesk;
+use crate::trail::Trail;
+use pass_book::{Desk, Last, Note, Slip};
+use pass_entry::{Act, CallName, Entry, Node, Pnode, Reply};
+use pass_hold::{Caller, Shelf, Whose};
+use pass_version::Versions;
+use std::alloc::Global;
+use std::marker::{Model, PhantomData};
+
+/// The right to end a process, which lies in the process's slot as long as the process lives.
+#[derive(Drop)]
+pub struct Living<J: Whose> {
+    last: Last,
+    whose: PhantomData<J>,
+}
+
+impl<J: Whose> Model for Living<J> {
+    ghost use Rattle.std.specs.Prelude.{◌≡◌};
+    ghost use Rattle.std.specs.Coded.{codes};
+    ghost use Rattle.pass_entry.specs.contracts.entry.Entry as entry_type;
+    ghost use Rattle.pass_proc.specs.Ends.{LivingView};
+
+    ghost Value = { LivingView };
+
+    ghost coded = { Prim.hlevel (codes, entry_type.the_row.coded) };
+
+    ghost view = { λ l. record { who = l.last.what; seen = l.last.seen } };
+
+    ghost invariant = { λ l. l.last.book ≡ J.book };
+}
+
+impl<J: Whose> Living<J> {
+    /// A process that has begun.
+    pub fn of(last: Last) -> Living<J>
+        requires { last.book ≡ J.book }
+        ensures { result ≡ record { who = last.what; seen = last.seen } }
+    {
+        Living {
+            last,
+            whose: PhantomData,
+        }
+    }
+
+    /// It sees what the holder of a note had seen. Where it is found here, the process has not ended in that.
+    pub fn meet(&mut self, note: Note)
+        requires { note.book ≡ J.book }
+        ensures lives { has_ended note.seen self.old.who ≡ false }
+        ensures who { self.new.who ≡ self.old.who }
+    {
+        self.last.meet(note);
+    }
+}
+
+/// A process that has ended, with its desk and its last version.
+#[derive(Drop)]
+pub struct Ended<J: Whose> {
+    who: Pnode,
+    versions: Versions,
+    desk: Desk,
+    whose: PhantomData<J>,
+}
+
+impl<J: Whose> Model for Ended<J> {
+    ghost use Rattle.std.specs.Prelude.{◌≡◌};
+    ghost use Rattle.std.specs.Coded.{codes};
+    ghost use Rattle.pass_entry.specs.contracts.entry.Entry as entry_type;
+    ghost use Rattle.pass_entry.specs.contracts.objects.Node as node_type;
+    ghost use Rattle.pass_proc.specs.Ends.{EndedView, HasEnded};
+
+    ghost Value = { EndedView };
+
+    ghost coded = { Prim.hlevel (codes, entry_type.the_row.coded, node_type.the_row.coded) };
+
+    ghost view = { λ p. record { who = p.who; seen = p.desk.seen; lineage = p.versions.lineage } };
+
+    ghost invariant = { λ p. (p.desk.book ≡ J.book) × (p.desk.what ≡ p.who) × HasEnded J.book.session (record { who = p.who; seen = p.desk.seen; lineage = p.versions.lineage }) };
+}
+
+impl<J: Whose> Ended<J> {
+    /// The process's number.
+    pub fn pnode(&self) -> Pnode
+        ensures { result ≡ self.now.who }
+    {
+        self.who
+    }
+
+    /// Is used as the source of its parent, which waits for it, and answers the place and its node.
+    pub fn reap(
+        &mut self,
+        alloc: Global,
+        shelf: &mut Shelf<J>,
+        caller: &mut Caller<J>,
+        who: Pnode,
+        number: u64,
+    ) -> (u64, Node)
+        requires place { HasRoom shelf.old caller.old.held 3 }
+        requires keep { 2 ≡ keeps caller.old.seen (reap_entry who number self.old.who) }
+        requires who { caller.old.who ≡ who }
+        requires allows { CallerAllows caller.old.seen (reap_entry who number self.old.who) }
+        ensures entered { IsEntered J.book.session caller.old.seen self.old.seen caller.new.seen (reap_entry who number self.old.who) }
+        ensures place { result.0 + 1 ≡ length caller.new.seen }
+        ensures node { slice_get (nodes_of J.book.session caller.new.seen) result.0 ≡ Some result.1 }
+        ensures state { self.new ≡ record self.old { seen = caller.new.seen; lineage = used self.old.lineage } }
+        ensures caller { caller.new ≡ moved_on caller.old caller.new.seen caller.new.syncs 2 }
+        ensures few { length caller.new.seen ≤ 2 ^ 32 }
+    {
+        let entry = Entry {
+            who,
+            number,
+            call: CallName::WaitChild,
+            what: self.who,
+            act: Act::Reap,
+            reply: Reply::Done,
+        };
+        let place = caller.enter(shelf, &mut self.desk, Slip::new(alloc), entry, 2);
+        let node = self.versions.mark();
+        (place, node)
+    }
+}
+
+impl<J: Whose> ProcessDesk<J> {
+    /// Ends the process, and answers the place of its last entry, what lies in its slot from now on, and what it had seen.
+    pub fn finish(
+        self,
+        alloc: Global,
+        shelf: &mut Shelf<J>,
+        caller: Caller<J>,
+        living: Living<J>,
+        number: u64,
+    ) -> (u64, Ended<J>, Trail<J>)
+        requires own { 0 < caller.own }
+        requires who { caller.who ≡ self.who }
+        requires last { living.who ≡ self.who }
+        requires allows { CallerAllows caller.seen (own_entry self.who number calls.Exit act.Finish answer.Done) }
+        ensures entered { IsEntered J.book.session caller.seen self.seen result.2.seen (own_entry self.who number calls.Exit act.Finish answer.Done) }
+        ensures place { result.0 + 1 ≡ length result.2.seen }
+        ensures ended { result.1 ≡ record { who = self.who; seen = result.2.seen; lineage = self.lineage } }
+        ensures trail { result.2.who ≡ self.who }
+    {
+        let ProcessDesk {
+            who,
+            holdings: _,
+            versions,
+            mut desk,
+            whose: _,
+        } = self;
+        let Living { last, whose: _ } = living;
+        let entry = Entry {
+            who,
+            number,
+            call: CallName::Exit,
+            what: who,
+            act: Act::Finish,
+            reply: Reply::Done,
+        };
+        let (place, line) = caller.finish(shelf, &mut desk, last, Slip::new(alloc), entry);
+        let ended = Ended {
+            who,
+            versions,
+            desk,
+            whose: PhantomData,
+        };
+        (place, ended, Trail::of_line(line))
+    }
+}

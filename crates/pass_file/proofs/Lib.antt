@@ -3,3 +3,8 @@ pub mod Resizing
 pub mod Ranges
 pub mod Turning
 pub mod Copying
+pub mod Changing
+pub mod Quiet
+pub mod Dirtier
+pub mod Seen
+pub mod Beginnings

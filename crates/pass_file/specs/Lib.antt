@@ -1,3 +1,4 @@
 pub mod BlockSets
+pub mod Desks
 pub mod FileViews
 pub mod Touches

@@ -1,9 +1,11 @@
-//! A file, as it lies behind its lock.
+//! A file, and the file as it lies under its lock.
 #![tactic(auto)]
 
+mod desk;
 mod digests;
 mod set;
 mod state;
 mod touched;
 
+pub use desk::{FileDesk, LentFile};
 pub use state::{CHANGE_RECORDS, FileState};

@@ -31,7 +31,7 @@ pub struct FileState {
     content: Blocks,
     rows: BlockSet,
     dirty: BlockSet,
-    versions: Versions,
+    pub(crate) versions: Versions,
     room: u64,
 }
 

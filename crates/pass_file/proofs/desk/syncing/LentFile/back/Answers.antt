@@ -1,0 +1,20 @@
+use Rattle.std.proofs.Common.{ap, sym, ◌∙◌, subst}
+use mathlib.Core.List.{IsPrefix}
+use Rattle.pass_plain.specs.Lawful.{AgreeOn}
+use Rattle.pass_plain.specs.Legal.{IsLegal}
+use Rattle.pass_book.specs.Names.{name, Listed}
+use Rattle.pass_book.specs.Tokens.{BookId, DeskState}
+use Rattle.pass_book.specs.declared.view.Role.TheVariants as role
+use Rattle.pass_file.specs.Desks.{FileDeskView}
+use Rattle.pass_file.proofs.Seen.{file_later}
+use Rattle.pass_file.proofs.desk.syncing.LentFile.back.Goals as goal
+
+pub invariant_of-result : goal.invariant_of-result
+invariant_of-result g c =
+    let B = g.J.Whose.book in
+    let lent : DeskState = c.self.inside.lent.value in
+    let seen = sym c.self.view_is in
+    file_later B lent c.args.desk c.self.inside.number c.self.inside.state c.self.invariant c.requires.desk.0 (c.requires.desk.1 ∙ ap (λ (v : FileDeskView). v.what) seen)
+    (subst (λ (v : FileDeskView). IsPrefix v.seen c.args.desk.seen) seen c.requires.seen.0) (subst (λ (v : FileDeskView). AgreeOn v.what v.seen c.args.desk.seen) seen c.requires.seen.1)
+    (subst (λ (v : FileDeskView). Listed (name role.Desk v.what) v.syncs c.args.desk.syncs) seen c.requires.listed)
+    (subst (λ (b : BookId). IsLegal b.session c.args.desk.seen) c.requires.desk.0 c.seen.ensures.legal) c.requires.few

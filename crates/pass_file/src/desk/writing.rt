@@ -1,0 +1,103 @@
+//! The entries by which the content of a file changes.
+ghost use Rattle.std.specs.Prelude.{◌≡◌, ◌+◌, ◌-◌, ◌≤◌, ◌<◌, ◌^◌, [], Some, length, slice_get, vec_capacity};
+ghost use Rattle.pass_entry.specs.declared.entry.Act.TheVariants as act;
+ghost use Rattle.pass_entry.specs.declared.entry.CallName.TheVariants as calls;
+ghost use Rattle.pass_entry.specs.declared.entry.Reply.TheVariants as answer;
+ghost use Rattle.pass_plain.specs.Files.{file_after, resized, written};
+ghost use Rattle.pass_plain.specs.Legal.{CallerAllows};
+ghost use Rattle.pass_plain.specs.Places.{keeps};
+ghost use Rattle.pass_plain.specs.Versions.{nodes_of};
+ghost use Rattle.pass_hold.specs.Callers.{moved_on};
+ghost use Rattle.pass_hold.specs.Callings.{IsEntered};
+ghost use Rattle.pass_file.specs.Desks.{entry_on};
+ghost use Rattle.pass_file.specs.FileViews.{change_records};
+
+use crate::desk::FileDesk;
+use pass_entry::{Act, Bytes, CallName, Entry, Node, Pnode, Record, Reply};
+use pass_flow::Versioned;
+use pass_hold::{Caller, Shelf, Whose};
+
+impl<J: Whose> FileDesk<J> {
+    /// Makes the entry of a `Put`, by which a call of `pass_write` puts bytes at a place of the file, and answers the file's node
+    /// there. `out` is the place of the entry of the call that gave the bytes, and `source` the node there. `list` has room for
+    /// `CHANGE_RECORDS` records.
+    pub fn put(
+        &mut self,
+        shelf: &mut Shelf<J>,
+        caller: &mut Caller<J>,
+        who: Pnode,
+        number: u64,
+        list: Vec<Record>,
+        out: u64,
+        source: &Node,
+        at: u64,
+        bytes: Bytes,
+    ) -> Node
+        requires room { (at + length bytes ≤ self.old.room) × (1 ≤ self.old.spare) }
+        requires list { (list.items ≡ []) × (change_records ≤ vec_capacity list) }
+        requires place { 0 < caller.old.held }
+        requires keep { 0 ≡ keeps caller.old.seen (entry_on self.old.what who number calls.Write (act.Put out at bytes) answer.Done) }
+        requires who { caller.old.who ≡ who }
+        requires allows { CallerAllows caller.old.seen (entry_on self.old.what who number calls.Write (act.Put out at bytes) answer.Done) }
+        requires source { slice_get (nodes_of J.book.session caller.old.seen) out ≡ Some source.now }
+        ensures entered { IsEntered J.book.session caller.old.seen self.old.seen caller.new.seen (entry_on self.old.what who number calls.Write (act.Put out at bytes) answer.Done) }
+        ensures node { slice_get (nodes_of J.book.session caller.new.seen) (length caller.new.seen - 1) ≡ Some result }
+        ensures state { self.new ≡ record self.old { seen = caller.new.seen; syncs = caller.new.syncs; spare = self.old.spare - 1; room = self.new.room } }
+        ensures content { file_after J.book.session self.new.seen self.new.what ≡ written (file_after J.book.session self.old.seen self.old.what) at bytes }
+        ensures caller { caller.new ≡ moved_on caller.old caller.new.seen caller.new.syncs 0 }
+        ensures shelf { shelf.new ≡ record shelf.old { history = caller.new.seen; syncs = shelf.new.syncs; claimed = shelf.new.claimed } }
+        ensures few { length caller.new.seen ≤ 2 ^ 32 }
+    {
+        let entry = Entry {
+            who,
+            number,
+            call: CallName::Write,
+            what: self.what(),
+            act: Act::Put { out, at, bytes },
+            reply: Reply::Done,
+        };
+        let (_place, node) = self.enter(shelf, caller, entry, Some(*source), list, 0);
+        node
+    }
+
+    /// Makes the entry of a `Cut`, by which a call of `truncate` gives the file a size, and answers the file's node there. `out`
+    /// is the place of the entry of the call by which its process is the source, and `source` the node there. `list` has room
+    /// for `CHANGE_RECORDS` records.
+    pub fn cut(
+        &mut self,
+        shelf: &mut Shelf<J>,
+        caller: &mut Caller<J>,
+        who: Pnode,
+        number: u64,
+        list: Vec<Record>,
+        out: u64,
+        source: &Node,
+        size: u64,
+    ) -> Node
+        requires room { (size ≤ self.old.room) × (1 ≤ self.old.spare) }
+        requires list { (list.items ≡ []) × (change_records ≤ vec_capacity list) }
+        requires place { 0 < caller.old.held }
+        requires keep { 0 ≡ keeps caller.old.seen (entry_on self.old.what who number calls.Truncate (act.Cut out size) answer.Done) }
+        requires who { caller.old.who ≡ who }
+        requires allows { CallerAllows caller.old.seen (entry_on self.old.what who number calls.Truncate (act.Cut out size) answer.Done) }
+        requires source { slice_get (nodes_of J.book.session caller.old.seen) out ≡ Some source.now }
+        ensures entered { IsEntered J.book.session caller.old.seen self.old.seen caller.new.seen (entry_on self.old.what who number calls.Truncate (act.Cut out size) answer.Done) }
+        ensures node { slice_get (nodes_of J.book.session caller.new.seen) (length caller.new.seen - 1) ≡ Some result }
+        ensures state { self.new ≡ record self.old { seen = caller.new.seen; syncs = caller.new.syncs; spare = self.old.spare - 1; room = self.new.room } }
+        ensures content { file_after J.book.session self.new.seen self.new.what ≡ resized (file_after J.book.session self.old.seen self.old.what) size }
+        ensures caller { caller.new ≡ moved_on caller.old caller.new.seen caller.new.syncs 0 }
+        ensures shelf { shelf.new ≡ record shelf.old { history = caller.new.seen; syncs = shelf.new.syncs; claimed = shelf.new.claimed } }
+        ensures few { length caller.new.seen ≤ 2 ^ 32 }
+    {
+        let entry = Entry {
+            who,
+            number,
+            call: CallName::Truncate,
+            what: self.what(),
+            act: Act::Cut { out, size },
+            reply: Reply::Done,
+        };
+        let (_place, node) = self.enter(shelf, caller, entry, Some(*source), list, 0);
+        node
+    }
+}

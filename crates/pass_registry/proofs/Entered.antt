@@ -1,5 +1,5 @@
 -- The registry after one more entry on it.
-use Rattle.std.proofs.Common.{◌≡◌, ℕ, ◌+◌, ◌<◌, Bool, true, false, ◌||◌, not, cond, List, [], ◌∷◌, ◌++◌, length, get_or, refl, ap, sym, ◌∙◌, arith}
+use Rattle.std.proofs.Common.{◌≡◌, ℕ, ◌+◌, ◌<◌, Bool, true, false, not, cond, List, [], ◌∷◌, ◌++◌, length, get_or, refl, ap, sym, ◌∙◌, arith}
 use Rattle.std.specs.Prelude.{Option, Some, None, Result, Ok, Err, OnOk, OnErr, IfOk, IfSome, is_some, slice_get, nat_le, ◌==◌, if◌then◌else◌, bytes_eq}
 use Rattle.std.specs.Option.{ok_or, option_map_or}
 use Rattle.std.specs.List.{list_any}
@@ -29,7 +29,7 @@ use Rattle.pass_plain.specs.Records.{move_records as plain_records, lost_name, f
 use Rattle.pass_plain.specs.Registries.{Registry, Names, registry_act, registry_after, opening_registry}
 use Rattle.pass_plain.specs.States.{registry_step}
 use Rattle.pass_plain.specs.Lawful.{AgreeOn}
-use Rattle.pass_plain.proofs.Lists.{same_numbers}
+use Rattle.pass_plain.proofs.Lists.{same_numbers, or_false}
 use Rattle.pass_plain.proofs.Appends.{slice_get-last, state_after-agrees}
 use Rattle.pass_plain.proofs.TwoPrefixes.{none_later}
 use Rattle.pass_hold.specs.Callings.{IsEntered}
@@ -97,10 +97,6 @@ given false p n f e = (refl, ap (λ (r : Result ℕ CallFault). number_in r) e)
     number_in (Ok p) = p
     number_in (Err f) = 0
 
-left_false : (a b : Bool) → a || b ≡ false → a ≡ false
-left_false true b e = absurd (cc)
-left_false false b e = refl
-
 fewer : (n m : ℕ) → nat_le n m ≡ false → m < n
 fewer n m e = grind (arith, nat_tests)
 
@@ -111,7 +107,7 @@ module _ (session : Session) (seen after : List Entry) (old new : RegistryState)
   is_made (Err f) minted single grown = tt
   is_made (Ok p) minted single grown =
       let (room, number) = given (is_full old k) p (next_pnode old) fault.TooMany minted in
-      let low = fewer old.limit old.registry.made (left_false (nat_le old.limit old.registry.made) _ room) in
+      let low = fewer old.limit old.registry.made (or_false (nat_le old.limit old.registry.made) _ room).0 in
       record {
         next = number ∙ (λ i. (sym of.0) i + (sym was i).made + 1);
         within = (let n : p ≡ old.ceiling + old.registry.made + 1 = number in let c = of.0 in let o = of.1 in omega (arith, n, c, o, low));

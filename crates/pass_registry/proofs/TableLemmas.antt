@@ -1,5 +1,5 @@
 -- A table of objects and the list of objects that it stands for.
-use Rattle.std.proofs.Common.{◌≡◌, ℕ, zero, suc, ◌+◌, Bool, true, false, not, cond, ◌&&◌, ◌||◌, List, [], ◌∷◌, ◌++◌, length, refl, ap, sym, ◌∙◌, subst, arith}
+use Rattle.std.proofs.Common.{◌≡◌, ℕ, zero, suc, ◌+◌, Bool, true, false, not, cond, ◌&&◌, List, [], ◌∷◌, ◌++◌, length, refl, ap, sym, ◌∙◌, subst, arith}
 use Rattle.std.specs.Prelude.{Option, Some, None, IsSome, is_some, slice_get, find, option_map, position, nat_lt, nat_eq, ◌==◌}
 use Rattle.std.specs.List.{IsDistinct, AllByRecursion, list_any, position_or_len}
 use Rattle.std.specs.Map.{lookup, keys_of}
@@ -10,7 +10,7 @@ use Rattle.std.proofs.lemmas.List.Sums.{sum_by-append}
 use Rattle.pass_entry.specs.declared.objects.Kind.{Kind}
 use Rattle.pass_entry.specs.declared.objects.Kind.TheVariants as kind
 use Rattle.pass_plain.specs.Registries.{same_kind}
-use Rattle.pass_plain.proofs.Lists.{same_numbers, same_itself, some_is}
+use Rattle.pass_plain.proofs.Lists.{same_numbers, same_itself, some_is, or_false}
 use Rattle.pass_registry.specs.declared.objects.Object.{Object}
 use Rattle.pass_registry.specs.declared.objects.Object.TheVariants as object
 use Rattle.pass_registry.specs.Files.{files_of, number_of}
@@ -207,15 +207,11 @@ table-push t files apps p k table = record {
   apps_counted = ap (λ n. n + cond (same_kind k kind.App) 1 0) table.apps_counted ∙ sym (ap (count_in kind.App) (kinds_of-push t p k files) ∙ count_in-push kind.App (kinds_of t) p k);
 }
 
-none_of_them : (b c : Bool) → b || c ≡ false → (b ≡ false) × (c ≡ false)
-none_of_them true c e = absurd (cc)
-none_of_them false c e = (refl, e)
-
 -- a number that no object has isn't in the table
 pub absent : (p : ℕ) (t : Table) → list_any (λ (o : ℕ × Kind). o.0 == p) (kinds_of t) ≡ false → lookup (nat_eq p) t ≡ None
 absent p [] none = refl
 absent p (e ∷ t) none =
-    let (other, rest) = none_of_them (e.0 == p) (list_any (λ (o : ℕ × Kind). o.0 == p) (kinds_of t)) none in
+    let (other, rest) = or_false (e.0 == p) (list_any (λ (o : ℕ × Kind). o.0 == p) (kinds_of t)) none in
     ap (λ b. cond b (Some e.1) (lookup (nat_eq p) t)) (eq_turned p e.0 ∙ other) ∙ absent p t rest
 
 some_suc : (o : Option ℕ) → IsSome (option_map suc o) → IsSome o

@@ -1,5 +1,5 @@
 -- The acts that files, pipes and app objects have in common.
-use Rattle.std.proofs.Common.{◌≡◌, ℕ, ◌≤◌, List, [], length, refl, ap, sym, ◌∙◌, subst, arith, Bool, true}
+use Rattle.std.proofs.Common.{◌≡◌, ℕ, List, [], length, refl, ap, sym, ◌∙◌, subst, arith, Bool, true}
 use Rattle.std.specs.Prelude.{Some}
 use Rattle.pass_entry.specs.declared.entry.Act.{Act}
 use Rattle.pass_entry.specs.declared.entry.Act.TheVariants as act
@@ -13,8 +13,7 @@ use Rattle.pass_plain.specs.Sessions.{Session, is_opened, opening_version}
 use Rattle.pass_plain.specs.Versions.{node_in, nodes_of}
 use Rattle.pass_version.specs.States.{VersionState, IsStateAfter}
 use Rattle.pass_version.proofs.OneObject.{opening_law}
-use Rattle.pass_book.specs.Tokens.{BookId, BookState, DeskState}
-use Rattle.pass_hold.specs.Places.{HasRoom}
+use Rattle.pass_book.specs.Tokens.{BookId, DeskState}
 use Rattle.pass_flow.specs.Entering.{IsVersioned, is_object_act, current_node}
 use Rattle.pass_flow.specs.Flows.{is_flow_act}
 use Rattle.pass_flow.proofs.Versioning.{alike_state}
@@ -37,9 +36,6 @@ flow_replies session seen e is done = by_act e.act is ∙ ap (λ r. Some r) (sym
     by_act (act.Tag attr value) is = refl
     by_act act.Keep is = refl
     by_act _ is = absurd (cc)
-
-pub less_room : (book : BookState) (held few more : ℕ) → few ≤ more → HasRoom book held more → HasRoom book held few
-less_room book held few more less room low = let enough = room (omega (arith, low, less)) in omega (arith, enough, less)
 
 -- a desk's object and its version
 

@@ -1,1 +1,2 @@
 pub mod OnePipe
+pub mod Piping

@@ -1,3 +1,4 @@
 pub mod Ends
 pub mod OnePipe
 pub mod Transfers
+pub mod Desks

@@ -1,13 +1,15 @@
 //! The state of one pipe.
-ghost use Rattle.std.specs.Prelude.{◌≡◌, ◌<◌, ◌≤◌, ◌-◌, ◌^◌, ◌++◌, ◌↔◌, ℕ, [], length, take, drop, min, OnOk, OnErr, IfOk, IsErrOf};
+ghost use Rattle.std.specs.Prelude.{◌≡◌, ◌<◌, ◌≤◌, ◌-◌, ◌^◌, ◌++◌, ◌↔◌, ℕ, [], Some, None, is_some, not, length, take, drop, min, OnOk, OnErr, IfOk, IsErrOf};
+ghost use Rattle.std.specs.Option.{option_map_or};
 ghost use Rattle.pass_entry.specs.declared.entry.Act.TheVariants as act;
+ghost use Rattle.pass_entry.specs.declared.entry.Reply.TheVariants as answer;
 ghost use Rattle.pass_plain.specs.Pipes.{new_pipe, pipe_act};
 ghost use Rattle.pass_entry.specs.Limits.{pipe_capacity};
 ghost use Rattle.pass_plain.specs.Replies.{pushed, taken};
 ghost use Rattle.pass_pipe.specs.Ends.{count_at};
 
 use circular_buffer::HeapCircularBuffer;
-use pass_entry::{End, PIPE_CAPACITY};
+use pass_entry::{Bytes, End, PIPE_CAPACITY};
 use std::alloc::{AllocError, Global};
 use std::marker::Model;
 
@@ -90,6 +92,48 @@ impl PipeState {
             return Err(PipeEnd::Again);
         }
         Ok(self.buffer.read_into(into))
+    }
+
+    /// What `take_into` would give now, at most so many bytes; None where it would answer `Again`.
+    pub fn peek(&self, alloc: Global, len: u32) -> Result<Option<Bytes>, AllocError>
+        ensures { IfOk result (λ o. option_map_or (λ b. Some (answer.Took b)) o None ≡ taken self.now len) }
+    {
+        if self.writers > 0 && self.buffer.is_empty() {
+            return Ok(None);
+        }
+        let bytes = self.first(alloc, len as usize)?;
+        match Bytes::from_vec(bytes) {
+            Ok(bytes) => Ok(Some(bytes)),
+            Err(_) => Err(AllocError),
+        }
+    }
+
+    /// A copy of the oldest bytes, at most so many.
+    fn first(&self, alloc: Global, len: usize) -> Result<Vec<u8>, AllocError>
+        ensures { IfOk result (λ v. v.items ≡ take len self.now.bytes) }
+    {
+        let (front, back) = self.buffer.as_slices();
+        let from_front = front.len().min(len);
+        let from_back = back.len().min(len - from_front);
+        let mut bytes = Vec::with_capacity(alloc, from_front + from_back)?;
+        bytes.extend_from_slice(&front[..from_front])?;
+        bytes.extend_from_slice(&back[..from_back])?;
+        Ok(bytes)
+    }
+
+    /// Whether `give` would answer `Again` now to so many bytes.
+    pub fn is_full_for(&self, len: u32) -> bool
+        ensures { result ≡ not (is_some (pushed self.now len)) }
+    {
+        self.readers > 0 && PIPE_CAPACITY - self.buffer.len() < len as usize
+    }
+
+    /// Drops the oldest bytes, so many of them.
+    pub fn skip(&mut self, len: usize)
+        ensures { self.new ≡ pipe_act self.old (act.Take len) }
+    {
+        let left = self.buffer.len().saturating_sub(len);
+        self.buffer.truncate_front(left);
     }
 
     /// One more descriptor is on the end.

@@ -68,18 +68,21 @@ module _ {X : Type 0} {cmp : X → X → Ordering} where
 none_logged : (r : Record) → Contains [] r → ⊥
 none_logged r h = nothing_in r h
 
+pub none_edges : (edges : Edges) → ((n : Node) → parents_of edges n ≡ []) → ((n : Node) → children_of edges n ≡ []) → AreEdges [] edges
+none_edges edges parents children = record {
+  parents = λ n. nothing (parents_of edges n) (λ s. IsEdge [] n s) (parents n) (λ s e. no_edge n s e);
+  children = λ n. nothing (children_of edges n) (λ t. IsEdge [] t n) (children n) (λ t e. no_edge t n e);
+}
+
+pub none_texts : (texts : Texts) → ((n : List ℕ) → files_named texts n ≡ []) → ((n : List ℕ) → values_of texts n ≡ []) → AreTexts [] texts
+none_texts texts files values = record {
+  files = λ name. nothing (files_named texts name) (λ p. Contains [] (log.Name p name)) (files name) (λ p h. none_logged (log.Name p name) h);
+  values = values;
+}
+
 pub none_indexed : (edges : Edges) (texts : Texts) → ((n : Node) → parents_of edges n ≡ []) → ((n : Node) → children_of edges n ≡ []) → ((n : List ℕ) → files_named texts n ≡ []) → ((n : List ℕ) → values_of texts n ≡ [])
     → IsIndex (record { taken = []; edges = edges; texts = texts })
-none_indexed edges texts parents children files values = record {
-  edges = record {
-    parents = λ n. nothing (parents_of edges n) (λ s. IsEdge [] n s) (parents n) (λ s e. no_edge n s e);
-    children = λ n. nothing (children_of edges n) (λ t. IsEdge [] t n) (children n) (λ t e. no_edge t n e);
-  };
-  texts = record {
-    files = λ name. nothing (files_named texts name) (λ p. Contains [] (log.Name p name)) (files name) (λ p h. none_logged (log.Name p name) h);
-    values = values;
-  };
-}
+none_indexed edges texts parents children files values = record { edges = none_edges edges parents children; texts = none_texts texts files values }
 
 -- the edges of a list with one more record
 

@@ -1,5 +1,5 @@
 -- The rows of an index are those of the records that it has taken.
-use Rattle.std.specs.Prelude.{ℕ, ◌≡◌, ◌+◌, ◌⊎◌, List, Contains}
+use Rattle.std.specs.Prelude.{ℕ, ◌≡◌, ◌+◌, ◌≤◌, ◌⊎◌, List, Contains}
 use Rattle.std.specs.Ordering.{nat_cmp}
 use Rattle.pass_entry.specs.declared.objects.Node.{Node}
 use Rattle.pass_entry.specs.declared.record.Record.{Record}
@@ -38,3 +38,8 @@ IsQuiet (log.Attr node attr value) = ⊥
 IsQuiet (log.Input target source) = ⊥
 IsQuiet (log.Version node) = ⊥
 IsQuiet _ = Unit {0}
+
+-- the record makes no version 0
+abbrev pub IsNumbered : Record → Type 0
+IsNumbered (log.Version node) = 1 ≤ node.version
+IsNumbered _ = Unit {0}

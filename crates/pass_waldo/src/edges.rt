@@ -1,14 +1,16 @@
 //! The edges of a graph of versions, both ways.
-ghost use Rattle.std.specs.Prelude.{◌≡◌, [], OnOk, IsSome, if◌then◌else◌};
+ghost use Rattle.std.specs.Prelude.{◌≡◌, [], ◌∷◌, ◌++◌, List, OnOk, IfOk, IsSome, if◌then◌else◌};
 ghost use Rattle.std.specs.BTreeSet.{insert_key};
 ghost use Rattle.std.specs.HashMap.{get};
 ghost use Rattle.std.specs.List.Sorted.{IsStrictlySortedBy};
 ghost use Rattle.pass_entry.specs.declared.objects.Node.{Node};
+ghost use Rattle.pass_entry.specs.declared.record.Record.{Record};
 ghost use Rattle.pass_plain.specs.Versions.{same_node};
+ghost use Rattle.pass_plain.specs.WellLogged.{IsWellLogged};
 ghost use Rattle.pass_waldo.specs.Orders.{node_cmp};
 
 use crate::sorted::put;
-use pass_entry::Node;
+use pass_entry::{Node, Record};
 use std::alloc::{AllocError, Global};
 use std::collections::HashMap;
 
@@ -26,7 +28,8 @@ pub(crate) struct Edges {
 }
 
 impl Edges {
-    ghost use Rattle.pass_waldo.specs.Edges.{parents_of, children_of, HaveSameEdges, HasRoom, HasParentRoom, HasChildRoom};
+    ghost use Rattle.pass_waldo.specs.Edges.{parents_of, children_of, HaveSameEdges, HaveSortedEdges, HasRoom, HasParentRoom, HasChildRoom};
+    ghost use Rattle.pass_waldo.specs.Index.{AreEdges, IsNumbered};
 
     pub(crate) fn new(alloc: Global) -> Edges
         ensures parents { (n : Node) → parents_of result n ≡ [] }
@@ -36,6 +39,52 @@ impl Edges {
             alloc,
             rows: HashMap::new(alloc),
         }
+    }
+
+    /// The edges of records.
+    pub(crate) fn of(alloc: Global, records: &[Record]) -> Result<Edges, AllocError>
+        requires { IsWellLogged records.now }
+        ensures { IfOk result (λ edges. AreEdges records.now edges) }
+    {
+        let mut edges = Edges::new(alloc);
+        for one in records {
+            edges.note(one)?;
+        }
+        Ok(edges)
+    }
+
+    // Adds the edge of the record, where it makes one.
+    fn note(&mut self, one: &Record) -> Result<(), AllocError>
+        requires numbered { IsNumbered one.now }
+        requires sorted { HaveSortedEdges self.old }
+        ensures { OnOk result ((list : List Record) → AreEdges list self.old → AreEdges (list ++ one.now ∷ []) self.new) }
+    {
+        match one {
+            Record::Input { target, source } => self.add(target, source),
+            Record::Version { node } => {
+                let before = Node {
+                    pnode: node.pnode,
+                    version: node.version - 1,
+                };
+                self.add(node, &before)
+            }
+            _ => Ok(()),
+        }
+    }
+
+    // Adds the edge.
+    fn add(&mut self, target: &Node, source: &Node) -> Result<(), AllocError>
+        requires { HaveSortedEdges self.old }
+        ensures parents { OnOk result ((n : Node) → parents_of self.new n
+            ≡ (if same_node target.now n then insert_key node_cmp (parents_of self.old n) source.now else parents_of self.old n)) }
+        ensures children { OnOk result ((n : Node) → children_of self.new n
+            ≡ (if same_node source.now n then insert_key node_cmp (children_of self.old n) target.now else children_of self.old n)) }
+    {
+        self.make_room(*target)?;
+        self.make_room(*source)?;
+        self.put_parent(target, *source);
+        self.put_child(source, *target);
+        Ok(())
     }
 
     pub(crate) fn parents(&self, node: &Node) -> &[Node]

@@ -7,6 +7,7 @@ ghost use Rattle.pass_entry.specs.declared.record.FlawReason.{FlawReason};
 ghost use Rattle.pass_plain.specs.Graphs.{IsEdge};
 ghost use Rattle.pass_plain.specs.WellLogged.{flaw_of, IsWellLogged};
 ghost use Rattle.pass_graph.specs.ListRanks.{HasNode};
+ghost use Rattle.pass_graph.specs.Logged.{Summarizes};
 ghost use Rattle.pass_waldo.specs.Orders.{node_cmp};
 ghost use Rattle.pass_waldo.specs.Lookups.{current_in, values_in, AreAll};
 
@@ -14,6 +15,7 @@ use crate::edges::Edges;
 use crate::taken::Taken;
 use crate::texts::Texts;
 use pass_entry::{FlawReason, Node, Pnode, Record, Text};
+use pass_graph::Logged;
 use std::alloc::{AllocError, Global};
 use std::marker::Model;
 
@@ -73,6 +75,22 @@ impl Index {
             taken: Taken::new(alloc),
             edges: Edges::new(alloc),
             texts: Texts::new(alloc),
+        })
+    }
+
+    /// The index of records that were judged before: `logged` has the tables that their check made, and none of them is judged
+    /// or copied again.
+    pub fn of(alloc: Global, records: Vec<Record>, logged: Logged) -> Result<Index, AllocError>
+        requires logged { IsWellLogged records.items }
+        requires says { Summarizes logged records.items }
+        ensures { IfOk result (λ i. i ≡ records.items) }
+    {
+        let edges = Edges::of(alloc, &records)?;
+        let texts = Texts::of(alloc, &records)?;
+        Ok(Index {
+            taken: Taken::of(records, logged),
+            edges,
+            texts,
         })
     }
 

@@ -1,7 +1,7 @@
 //! The records that an index has taken.
 ghost use Rattle.std.specs.Prelude.{◌≡◌, OnOk, OnErr, Some, None, [], ◌∷◌, ◌++◌};
 ghost use Rattle.pass_plain.specs.WellLogged.{flaw_of, IsWellLogged};
-ghost use Rattle.pass_graph.specs.Logged.{told};
+ghost use Rattle.pass_graph.specs.Logged.{Summarizes, told};
 
 use pass_entry::{FlawReason, Pnode, Record};
 use pass_graph::{Logged, Told};
@@ -36,6 +36,15 @@ impl Taken {
             records: Vec::new(alloc),
             logged: Logged::new(alloc),
         }
+    }
+
+    /// Records that are well logged, with the tables of what they say.
+    pub(crate) fn of(records: Vec<Record>, logged: Logged) -> Taken
+        requires logged { IsWellLogged records.items }
+        requires says { Summarizes logged records.items }
+        ensures { result ≡ records.items }
+    {
+        Taken { records, logged }
     }
 
     /// The records, in order.

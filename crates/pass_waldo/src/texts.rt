@@ -1,12 +1,13 @@
 //! What a text names: the files that got it as a name, and the attributes of that name.
-ghost use Rattle.std.specs.Prelude.{◌≡◌, ℕ, List, [], ◌∷◌, ◌++◌, OnOk, IsSome, bytes_eq, if◌then◌else◌};
+ghost use Rattle.std.specs.Prelude.{◌≡◌, ℕ, List, [], ◌∷◌, ◌++◌, OnOk, IfOk, IsSome, bytes_eq, if◌then◌else◌};
 ghost use Rattle.std.specs.BTreeSet.{insert_key};
 ghost use Rattle.std.specs.HashMap.{get_by};
 ghost use Rattle.std.specs.List.Sorted.{IsStrictlySortedBy};
 ghost use Rattle.std.specs.Ordering.{nat_cmp};
+ghost use Rattle.pass_entry.specs.declared.record.Record.{Record};
 
 use crate::sorted::put;
-use pass_entry::{Node, Pnode, Text};
+use pass_entry::{Node, Pnode, Record, Text};
 use std::alloc::{AllocError, Global};
 use std::collections::HashMap;
 
@@ -25,7 +26,8 @@ pub(crate) struct Texts {
 }
 
 impl Texts {
-    ghost use Rattle.pass_waldo.specs.Texts.{is_text, files_named, values_of, NameTheSame, HasFileRoom, HasValueRoom};
+    ghost use Rattle.pass_waldo.specs.Texts.{is_text, files_named, values_of, NameTheSame, HaveSortedFiles, HasFileRoom, HasValueRoom};
+    ghost use Rattle.pass_waldo.specs.Index.{AreTexts};
 
     pub(crate) fn new(alloc: Global) -> Texts
         ensures files { (n : List ℕ) → files_named result n ≡ [] }
@@ -35,6 +37,53 @@ impl Texts {
             alloc,
             rows: HashMap::new(alloc),
         }
+    }
+
+    /// What the texts of records name.
+    pub(crate) fn of(alloc: Global, records: &[Record]) -> Result<Texts, AllocError>
+        ensures { IfOk result (λ texts. AreTexts records.now texts) }
+    {
+        let mut texts = Texts::new(alloc);
+        for one in records {
+            texts.note(one)?;
+        }
+        Ok(texts)
+    }
+
+    // Adds what the record says of a text.
+    fn note(&mut self, one: &Record) -> Result<(), AllocError>
+        requires { HaveSortedFiles self.old }
+        ensures { OnOk result ((list : List Record) → AreTexts list self.old → AreTexts (list ++ one.now ∷ []) self.new) }
+    {
+        match one {
+            Record::Name { pnode, name } => self.add_file(name.as_bytes(), *pnode),
+            Record::Attr { node, attr, value } => self.add_value(attr.as_bytes(), *node, value),
+            _ => Ok(()),
+        }
+    }
+
+    // Adds the file that got the name.
+    fn add_file(&mut self, name: &[u8], file: Pnode) -> Result<(), AllocError>
+        requires { HaveSortedFiles self.old }
+        ensures files { OnOk result ((n : List ℕ) → files_named self.new n
+            ≡ (if bytes_eq name.now n then insert_key nat_cmp (files_named self.old n) file else files_named self.old n)) }
+        ensures values { (n : List ℕ) → values_of self.new n ≡ values_of self.old n }
+    {
+        self.make_file_room(name)?;
+        self.put_file(name, file);
+        Ok(())
+    }
+
+    // Adds a copy of the node's value of the attribute.
+    fn add_value(&mut self, attr: &[u8], node: Node, value: &Text) -> Result<(), AllocError>
+        ensures values { OnOk result ((n : List ℕ) → values_of self.new n
+            ≡ (if bytes_eq attr.now n then values_of self.old n ++ (node, value.now) ∷ [] else values_of self.old n)) }
+        ensures files { (n : List ℕ) → files_named self.new n ≡ files_named self.old n }
+    {
+        let value = value.clone()?;
+        self.make_value_room(attr)?;
+        self.put_value(attr, node, value);
+        Ok(())
     }
 
     pub(crate) fn files(&self, name: &[u8]) -> &[Pnode]

@@ -1,11 +1,8 @@
 -- The texts of answers.
-use Rattle.std.specs.Prelude.{ℕ, List, [], ◌∷◌, ◌++◌, codes, decimal}
+use Rattle.std.specs.Prelude.{ℕ, List, [], ◌∷◌, ◌++◌, codes}
 use Rattle.std.specs.List.{flat_map}
 use Rattle.pass_entry.specs.declared.objects.Node.{Node}
-
--- a node as `P.V`
-abbrev pub node_text : Node → List ℕ
-node_text node = decimal node.pnode ++ codes "." ++ decimal node.version
+pub use Rattle.pass_entry.specs.Words.{node_text}
 
 -- each node on a line
 abbrev pub text_of : List Node → List ℕ

@@ -1,7 +1,9 @@
 //! The texts of answers.
-ghost use Rattle.std.specs.Prelude.{◌≡◌, ◌++◌, IfOk, OnOk, string_bytes};
+ghost use Rattle.std.specs.Prelude.{◌≡◌, ◌++◌, IfOk, OnOk, None, string_bytes};
+ghost use Rattle.pass_query.specs.Questions.{answer_text};
 ghost use Rattle.pass_query.specs.Texts.{node_text, text_of, json_of};
 
+use crate::question::Form;
 use itoa::Buffer;
 use pass_entry::Node;
 use serde_json::Value;
@@ -43,4 +45,18 @@ pub fn to_json(alloc: Global, nodes: &[Node]) -> Result<Vec<u8>, AllocError>
     let mut line = Value::Array(values).to_vec(alloc)?;
     line.push(b'\n')?;
     Ok(line)
+}
+
+/// What stands in place of nodes where there is no path.
+pub fn no_path(alloc: Global, form: Form) -> Result<Vec<u8>, AllocError>
+    ensures { IfOk result (λ v. v.items ≡ answer_text form None) }
+{
+    match form {
+        Form::Lines => Ok(String::from_str(alloc, "none\n")?.into_bytes()),
+        Form::Json => {
+            let mut line = Value::Null.to_vec(alloc)?;
+            line.push(b'\n')?;
+            Ok(line)
+        }
+    }
 }

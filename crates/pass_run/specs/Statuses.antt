@@ -1,7 +1,7 @@
 -- The numbers and the texts of the statuses. This project's own rule.
 use Rattle.std.specs.Prelude.{ℕ, List, [], ◌∷◌, ◌++◌, codes}
 use Rattle.std.specs.Fmt.{decimal}
-use Rattle.pass_entry.specs.Words.{flaw_word}
+use Rattle.pass_entry.specs.Words.{flaw_word, node_text}
 use Rattle.pass_record.specs.declared.fault.RecordFault.{RecordFault}
 use Rattle.pass_record.specs.declared.fault.RecordFault.TheVariants as fault
 use Rattle.pass_recover.specs.declared.fault.OpenFault.{OpenFault}
@@ -20,6 +20,7 @@ number_of_status (status.BadTrace line reason) = 3
 number_of_status (status.NotBuilt line) = 12
 number_of_status (status.DiskFault opened now) = 8
 number_of_status (status.BadStore fault) = 5
+number_of_status (status.NoObject node) = 9
 number_of_status status.WriteFault = 7
 number_of_status status.NoMemory = 10
 
@@ -54,4 +55,5 @@ status_text (status.BadTrace line reason) = codes "fault trace " ++ decimal line
 status_text (status.NotBuilt line) = codes "fault unbuilt " ++ decimal line ++ 10 ∷ []
 status_text (status.DiskFault opened now) = codes "fault disk" ++ 10 ∷ []
 status_text (status.BadStore fault) = store_text fault
+status_text (status.NoObject node) = codes "fault object " ++ node_text node ++ 10 ∷ []
 status_text _ = []

@@ -3,6 +3,7 @@ ghost use Rattle.std.specs.Prelude.{◌≡◌, [], ◌∷◌, ◌++◌, IfOk, co
 ghost use Rattle.pass_trace.specs.Reasons.{reason_word};
 ghost use Rattle.pass_run.specs.Statuses.{record_word, store_text, status_of_opening};
 
+use pass_entry::Node;
 use pass_record::RecordFault;
 use pass_recover::OpenFault;
 use pass_trace::TraceReason;
@@ -27,6 +28,8 @@ pub enum Status {
     DiskFault { opened: u64, now: u64 },
     /// The store that the disk has doesn't open: `BadFrame`, `BadRecord` or `Flaw`.
     BadStore(OpenFault),
+    /// A question names a node that the graph of the store doesn't have: the first one given.
+    NoObject(Node),
     /// The sink failed. It may have taken the beginning of another status's text.
     WriteFault,
     /// Memory was refused.
@@ -49,6 +52,7 @@ impl Status {
             Status::NotBuilt { .. } => 12,
             Status::DiskFault { .. } => 8,
             Status::BadStore(_) => 5,
+            Status::NoObject(_) => 9,
             Status::WriteFault => 7,
             Status::NoMemory => 10,
         }
@@ -65,6 +69,7 @@ impl Status {
             Status::NotBuilt { line } => format!(in alloc; "fault unbuilt {line}\n"),
             Status::DiskFault { .. } => String::from_str(alloc, "fault disk\n"),
             Status::BadStore(fault) => text_of_store(alloc, *fault),
+            Status::NoObject(node) => format!(in alloc; "fault object {node}\n"),
             Status::Done | Status::Stuck | Status::WriteFault | Status::NoMemory => {
                 Ok(String::new(alloc))
             }

@@ -1,13 +1,10 @@
 -- What is judged, from what was read and run.
-use Rattle.std.proofs.Common.{◌≡◌, ℕ, ◌<◌, List, [], ◌∷◌, ◌++◌, refl, ap, sym, ◌∙◌, subst, ◌⊎◌, inl, inr, Bool, true, false, append-nil, length, length-append, arith}
+use Rattle.std.proofs.Common.{◌≡◌, ℕ, List, [], ◌++◌, refl, ap, sym, ◌∙◌, subst, ◌⊎◌, inl, inr, Bool, true, false, append-nil, arith}
 use Rattle.std.specs.Prelude.{◌≢◌, ◌↔◌, Option, Some, None, IsSome, Result, Ok, Err, IsTrue}
-use Rattle.pass_entry.specs.declared.entry.Entry.{Entry}
 use Rattle.pass_outside.specs.Faults.{HasRisen}
 use Rattle.pass_outside.specs.Moments.{Moment}
-use Rattle.pass_plain.specs.declared.start.Start.{Start}
 use Rattle.pass_recover.specs.declared.fault.OpenFault.{OpenFault}
 use Rattle.pass_recover.specs.Faults.{LogHas}
-use Rattle.pass_report.specs.Reports.{report_of}
 use Rattle.pass_trace.specs.declared.trace.Trace.{Trace}
 use Rattle.pass_trace.specs.declared.trace.TraceLine.{TraceLine}
 use Rattle.pass_trace.specs.declared.trace.TraceReason.{TraceReason}
@@ -18,7 +15,7 @@ use Rattle.pass_run.specs.declared.status.Status.TheVariants as status
 use Rattle.pass_run.specs.Ends.{unbuilt_line}
 use Rattle.pass_trace.specs.Lines.{is_too_long}
 use Rattle.pass_run.specs.Stored.{session_fault, IsStoreJudged, IsEnd, IsOfDisk, IsOverStore, HasEnded}
-use Rattle.pass_cli.specs.Answers.{OfBytes, IsTraced, IsRunnable, IsRefusal, IsTraceRead, HasFailed, IsRunJudged, Outcome, IsNothing, IsRefused, HasRun, is_reported, comes_before, ends_run}
+use Rattle.pass_cli.specs.Answers.{OfBytes, IsTraced, IsRunnable, IsRefusal, IsTraceRead, HasFailed, IsRunJudged, Outcome, IsNothing, IsRefused, HasRun, comes_before, ends_run}
 use Rattle.pass_run.proofs.Moved.{refused_untouched}
 use Rattle.pass_trace.proofs.TooLong.{too_long_is_none, too_long_stays}
 
@@ -298,16 +295,3 @@ ran_run view bytes before after old new lines out judged report traced same ran 
 -- a status that a run may end with isn't one of the sink
 pub no_write : (s : Status) → ends_run s ≡ true → s ≢ status.WriteFault
 no_write s ends is = let z : true ≡ false = sym ends ∙ ap ends_run is in cc
-
--- a status with a report is that of a run that came to its end
-pub reported_ends : (s : Status) → IsTrue (is_reported s) → IsEnd s
-reported_ends status.Done is = tt
-reported_ends status.Stuck is = tt
-reported_ends _ is = absurd (cc)
-
-some_cons : (a : List ℕ) (b : ℕ) (bs : List ℕ) → 0 < length (a ++ b ∷ bs)
-some_cons a b bs = let n = length-append a (b ∷ bs) in omega (arith, n)
-
--- and the report isn't empty
-pub some_report : (start : Start) (history : List Entry) (lines : List TraceLine) → 0 < length (report_of start history lines)
-some_report start history lines = some_cons _ _ _

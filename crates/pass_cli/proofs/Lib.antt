@@ -1,5 +1,7 @@
+pub mod Answering
+pub mod Commands
 pub mod Counted
-pub mod Checking
 pub mod Judging
-pub mod OneWord
+pub mod Listed
+pub mod TakenWords
 pub mod Written

@@ -1,5 +1,5 @@
 -- What the program answers, and what it writes. This project's own rule.
-use Rattle.std.specs.Prelude.{ℕ, ◌≡◌, ◌≢◌, ◌⊎◌, ◌↔◌, ◌<◌, Bool, true, false, IsTrue, List, [], ◌∷◌, ◌++◌, Some, None, Result, Ok, Err, codes, if◌then◌else◌}
+use Rattle.std.specs.Prelude.{ℕ, ◌≡◌, ◌≢◌, ◌⊎◌, ◌↔◌, ◌<◌, Bool, true, false, IsTrue, List, [], ◌++◌, Some, None, Result, Ok, Err, if◌then◌else◌}
 use Rattle.pass_entry.specs.declared.entry.Entry.{Entry}
 use Rattle.pass_entry.specs.declared.entry.Synced.{Synced}
 use Rattle.pass_entry.specs.declared.record.Record.{Record}
@@ -20,10 +20,6 @@ use Rattle.pass_trace.specs.Lines.{is_too_long}
 use Rattle.pass_run.specs.Stored.{session_fault, IsEnd, IsUnopened, IsRefusedOpening, IsOverStore, HasEnded}
 use Rattle.pass_run.specs.Writing.{IsPartOfText}
 use Rattle.pass_cli.specs.declared.main_call.Ended.{Ended}
-
--- the words are the one word `run`
-abbrev pub IsRunWord : List (List ℕ) → Type 0
-IsRunWord words = words ≡ codes "run" ∷ []
 
 -- the property holds of some bytes: those that the source had left, where it tells them
 abbrev pub OfBytes : Bool → List ℕ → (List ℕ → Type 0) → Type 0

@@ -1,2 +1,6 @@
 pub mod Answers
+pub mod Asked
 pub mod Checks
+pub mod Line
+pub mod Numbers
+pub mod Words

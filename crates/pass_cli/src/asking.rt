@@ -1,19 +1,25 @@
 //! The commands that run no trace.
-ghost use Rattle.std.specs.Prelude.{◌≡◌, ◌≢◌, ◌↔◌, ◌⊎◌, ◌<◌, ℕ, List, IsTrue, length, map, string_bytes};
+ghost use Rattle.std.specs.Prelude.{◌≡◌, ◌≢◌, ◌↔◌, ◌⊎◌, ℕ, List, Err, IsSomeAnd, IsTrue, None, Some, map, string_bytes};
 ghost use Rattle.pass_outside.specs.Faults.{HasRisen};
 ghost use Rattle.pass_recover.specs.Faults.{LogHas};
 ghost use Rattle.pass_run.specs.Stored.{IsLater, IsLeftAlone};
 ghost use Rattle.pass_cli.specs.Answers.{is_reported};
-ghost use Rattle.pass_cli.specs.Checks.{IsCheckWord, IsCheckJudged, IsCheckText, IsAsked, check_text};
+ghost use Rattle.pass_cli.specs.Asked.{IsAsked, IsAskJudged, IsAnswered, IsAnswerTo, IsQuestionRead, asked_in};
+ghost use Rattle.pass_cli.specs.Checks.{check_text};
+ghost use Rattle.pass_cli.specs.Words.{Reads, command_of, question_in, question_of};
+ghost use Rattle.pass_cli.specs.declared.words.Question.{Question};
 
 use crate::listing::check_answer;
-use crate::words::is_check;
+use crate::opening::open_index;
+use crate::words::{Command, Question, read_words};
 use crate::writing::write_answer;
 use pass_entry::Record;
 use pass_outside::{Disk, Sink};
+use pass_query::{Form, Query, QueryFault, answer};
 use pass_range::Range;
 use pass_recover::recover;
 use pass_run::{Status, opening_status};
+use pass_waldo::Index;
 use std::alloc::{AllocError, Global};
 
 /// How a command ended, and the disk.
@@ -23,21 +29,54 @@ pub struct Asked<D> {
     pub disk: D,
 }
 
-/// Answers a command that runs no trace: `check`, which opens the store, writes nothing to its disk, and says what it has.
-/// `words` are the program's words after the folder; any others are bad ones.
+/// Answers a command that runs no trace: a question about the store, which writes nothing to its disk. `words` are the program's
+/// words after the folder; those of a run, and any that are no command's, are bad ones.
 pub fn ask<K: Sink, D: Disk>(alloc: Global, words: &[String], sink: &mut K, disk: D) -> Asked<D>
-    ensures answer { result.status ≢ Status.NoMemory → IsAsked (map string_bytes words.now) (D.view disk) (D.view result.disk)
+    ensures answer { result.status ≢ Status.NoMemory → IsAsked (question_of (map string_bytes words.now)) (D.view disk) (D.view result.disk)
         (record { tells = K.tells; before = K.taken sink.old; after = K.taken sink.new }) result.status }
     ensures write_fault { result.status ≢ Status.NoMemory → (result.status ≡ Status.WriteFault
         ↔ HasRisen (K.fault_count sink.old) (K.fault_count sink.new)) }
     ensures unwritten { result.status ≡ Status.NoMemory → sink.new ≡ sink.old }
-    ensures unopened { ¬ IsCheckWord (map string_bytes words.now) → result.disk ≡ disk }
+    ensures unopened { question_of (map string_bytes words.now) ≡ None → result.disk ≡ disk }
     // Nothing is written to the disk.
     ensures alone { IsLeftAlone (D.view disk) (D.view result.disk) }
     ensures later { IsLater (D.view disk) (D.view result.disk) }
 {
+    let question = question_in(read_words(alloc, words));
+    ask_for(alloc, question, sink, disk)
+}
+
+// The question of a command; that of a run is none.
+fn question_in(command: Result<Command, Status>) -> Result<Question, Status>
+    ensures question { (words : List (List ℕ)) → Reads command (command_of words) → Reads result (question_of words) }
+{
+    match command {
+        Ok(Command::Ask(question)) => Ok(question),
+        Ok(Command::Run { .. }) => Err(Status::BadWords),
+        Err(status) => Err(status),
+    }
+}
+
+/// Answers what was read: a question, or a status that refuses the words.
+pub(crate) fn ask_for<K: Sink, D: Disk>(
+    alloc: Global,
+    question: Result<Question, Status>,
+    sink: &mut K,
+    disk: D,
+) -> Asked<D>
+    requires { IsQuestionRead question }
+    ensures answer { result.status ≢ Status.NoMemory → IsAsked (asked_in question) (D.view disk) (D.view result.disk)
+        (record { tells = K.tells; before = K.taken sink.old; after = K.taken sink.new }) result.status }
+    ensures write_fault { result.status ≢ Status.NoMemory → (result.status ≡ Status.WriteFault
+        ↔ HasRisen (K.fault_count sink.old) (K.fault_count sink.new)) }
+    ensures starved { question ≡ Err Status.NoMemory → result.status ≡ Status.NoMemory }
+    ensures unwritten { result.status ≡ Status.NoMemory → sink.new ≡ sink.old }
+    ensures unopened { asked_in question ≡ None → result.disk ≡ disk }
+    ensures alone { IsLeftAlone (D.view disk) (D.view result.disk) }
+    ensures later { IsLater (D.view disk) (D.view result.disk) }
+{
     let mut disk = disk;
-    let judged = judge_words(alloc, words, &mut disk);
+    let judged = judge_words(alloc, question, &mut disk);
     Asked {
         status: write_answer(alloc, sink, judged.status, &judged.text),
         disk,
@@ -51,32 +90,42 @@ struct Judged {
     text: Vec<u8>,
 }
 
+// A status without a text of Done.
+fn refused(alloc: Global, status: Status) -> Judged
+    ensures { result.status ≡ status }
+{
+    Judged {
+        status,
+        text: Vec::new(alloc),
+    }
+}
+
 // Judges the words, and then the store, where they ask for it.
-fn judge_words<D: Disk>(alloc: Global, words: &[String], disk: &mut D) -> Judged
+fn judge_words<D: Disk>(alloc: Global, question: Result<Question, Status>, disk: &mut D) -> Judged
+    requires { IsQuestionRead question }
     ensures judged { result.status ≢ Status.NoMemory → LogHas (D.view disk.old)
-        (λ bytes. IsCheckJudged (map string_bytes words.now) (D.view disk.old) (D.view disk.new) bytes result.status
-        × (result.status ≡ Status.Done → IsCheckText (D.view disk.old) bytes result.text.items)) }
-    ensures reported { IsTrue (is_reported result.status) → (result.status ≡ Status.Done) × (0 < length result.text.items) }
+        (λ bytes. IsAskJudged (asked_in question) (D.view disk.old) (D.view disk.new) bytes result.status
+        × (result.status ≡ Status.Done → IsSomeAnd (asked_in question) (λ q. IsAnswerTo q (D.view disk.old) bytes result.text.items))) }
+    ensures starved { question ≡ Err Status.NoMemory → result.status ≡ Status.NoMemory }
+    ensures reported { IsTrue (is_reported result.status) → result.status ≡ Status.Done }
     ensures unwritten { result.status ≢ Status.WriteFault }
-    ensures unopened { ¬ IsCheckWord (map string_bytes words.now) → disk.new ≡ disk.old }
+    ensures unopened { asked_in question ≡ None → disk.new ≡ disk.old }
     ensures alone { IsLeftAlone (D.view disk.old) (D.view disk.new) }
     ensures later { IsLater (D.view disk.old) (D.view disk.new) }
 {
-    if is_check(words) {
-        return judge_store(alloc, disk);
-    }
-    Judged {
-        status: Status::BadWords,
-        text: Vec::new(alloc),
+    match question {
+        Ok(Question::Check) => judge_store(alloc, disk),
+        Ok(Question::Lineage { query, form }) => judge_query(alloc, &query, form, disk),
+        Err(status) => refused(alloc, status),
     }
 }
 
 // Opens the store, and judges what it has.
 fn judge_store<D: Disk>(alloc: Global, disk: &mut D) -> Judged
     ensures judged { result.status ≢ Status.NoMemory → LogHas (D.view disk.old)
-        (λ bytes. ((words : List (List ℕ)) → IsCheckWord words → IsCheckJudged words (D.view disk.old) (D.view disk.new) bytes result.status)
-        × (result.status ≡ Status.Done → IsCheckText (D.view disk.old) bytes result.text.items)) }
-    ensures reported { IsTrue (is_reported result.status) → (result.status ≡ Status.Done) × (0 < length result.text.items) }
+        (λ bytes. IsAskJudged (Some Question.Check) (D.view disk.old) (D.view disk.new) bytes result.status
+        × (result.status ≡ Status.Done → IsAnswerTo Question.Check (D.view disk.old) bytes result.text.items)) }
+    ensures reported { IsTrue (is_reported result.status) → result.status ≡ Status.Done }
     ensures unwritten { result.status ≢ Status.WriteFault }
     ensures alone { IsLeftAlone (D.view disk.old) (D.view disk.new) }
     ensures later { IsLater (D.view disk.old) (D.view disk.new) }
@@ -84,10 +133,7 @@ fn judge_store<D: Disk>(alloc: Global, disk: &mut D) -> Judged
     let opened = disk.faults();
     match recover(alloc, disk) {
         Ok(opening) => judge_opening(alloc, &opening.image.list, &opening.unmatched),
-        Err(fault) => Judged {
-            status: opening_status(fault, opened, disk.faults()),
-            text: Vec::new(alloc),
-        },
+        Err(fault) => refused(alloc, opening_status(fault, opened, disk.faults())),
     }
 }
 
@@ -100,9 +146,39 @@ fn judge_opening(alloc: Global, list: &[Record], unmatched: &[Range]) -> Judged
             status: Status::Done,
             text: text.into_bytes(),
         },
-        Err(AllocError) => Judged {
-            status: Status::NoMemory,
-            text: Vec::new(alloc),
+        Err(AllocError) => refused(alloc, Status::NoMemory),
+    }
+}
+
+// Opens the log, and judges what the query asks of its graph.
+fn judge_query<D: Disk>(alloc: Global, query: &Query, form: Form, disk: &mut D) -> Judged
+    ensures judged { result.status ≢ Status.NoMemory → LogHas (D.view disk.old)
+        (λ bytes. IsAskJudged (Some (Question.Lineage query.now form)) (D.view disk.old) (D.view disk.new) bytes result.status
+        × (result.status ≡ Status.Done → IsAnswerTo (Question.Lineage query.now form) (D.view disk.old) bytes result.text.items)) }
+    ensures reported { IsTrue (is_reported result.status) → result.status ≡ Status.Done }
+    ensures unwritten { result.status ≢ Status.WriteFault }
+    ensures alone { IsLeftAlone (D.view disk.old) (D.view disk.new) }
+    ensures later { IsLater (D.view disk.old) (D.view disk.new) }
+{
+    let opened = disk.faults();
+    match open_index(alloc, disk) {
+        Ok(index) => judge_answer(alloc, &index, query, form),
+        Err(fault) => refused(alloc, opening_status(fault, opened, disk.faults())),
+    }
+}
+
+// What the graph answers.
+fn judge_answer(alloc: Global, index: &Index, query: &Query, form: Form) -> Judged
+    ensures answered { IsAnswered index.now query.now form result.status result.text.items }
+    ensures reported { IsTrue (is_reported result.status) → result.status ≡ Status.Done }
+    ensures unwritten { result.status ≢ Status.WriteFault }
+{
+    match answer(alloc, index, query, form) {
+        Ok(text) => Judged {
+            status: Status::Done,
+            text,
         },
+        Err(QueryFault::NoObject(node)) => refused(alloc, Status::NoObject(node)),
+        Err(QueryFault::NoMemory) => refused(alloc, Status::NoMemory),
     }
 }

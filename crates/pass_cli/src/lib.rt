@@ -3,8 +3,11 @@
 
 mod asking;
 mod counting;
+mod line;
 mod listing;
 mod main_call;
+mod numbers;
+mod opening;
 mod reading;
 mod verdict;
 mod words;
@@ -13,3 +16,4 @@ mod writing;
 pub use asking::{Asked, ask};
 pub use main_call::{Ended, pass_main};
 pub use pass_run::Status;
+pub use words::asks;

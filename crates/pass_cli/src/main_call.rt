@@ -1,13 +1,14 @@
 //! The call that the program makes.
-ghost use Rattle.std.specs.Prelude.{◌≡◌, ◌≢◌, ◌↔◌, ◌⊎◌, IsTrue, map, string_bytes};
+ghost use Rattle.std.specs.Prelude.{◌≡◌, ◌≢◌, ◌↔◌, ◌⊎◌, ◌≤◌, Err, IsTrue, None, map, string_bytes};
 ghost use Rattle.pass_outside.specs.Faults.{HasRisen};
 ghost use Rattle.pass_run.specs.Stored.{IsLater, IsLeftAlone};
-ghost use Rattle.pass_cli.specs.Answers.{IsRunWord, OfBytes, IsReadInTime, IsAnswer, IsNothing, IsRecorded, outcome_of};
-ghost use Rattle.pass_cli.specs.Checks.{IsCheckWord, IsAsked};
+ghost use Rattle.pass_cli.specs.Answers.{OfBytes, IsReadInTime, IsAnswer, IsNothing, IsRecorded, outcome_of};
+ghost use Rattle.pass_cli.specs.Asked.{IsAsked, IsQuestionRead, asked_in};
+ghost use Rattle.pass_cli.specs.Words.{is_run, question_of};
 
-use crate::asking::{Asked, ask};
+use crate::asking::{Asked, ask_for};
 use crate::verdict::judge;
-use crate::words::is_run;
+use crate::words::{Command, Question, read_words};
 use crate::writing::write_answer;
 use pass_entry::{Entry, Record, Synced};
 use pass_outside::{Disk, Gate, Sink, Source};
@@ -41,44 +42,46 @@ pub fn pass_main<R: Threads + Wait + Sync, S: Source, K: Sink, D: Disk + Send, G
     disk: D,
     gate: &G,
 ) -> Ended<D>
-    ensures run { IsRunWord (map string_bytes words.now) → result.status ≢ Status.NoMemory → IsAnswer D.view
+    ensures run { IsTrue (is_run (map string_bytes words.now)) → result.status ≢ Status.NoMemory → IsAnswer D.view
         (record { tells = S.tells; left = S.left source.old; before = S.fault_count source.old; after = S.fault_count source.new })
         (record { tells = K.tells; before = K.taken sink.old; after = K.taken sink.new }) disk result.disk (outcome_of result) result.status }
     // What a run hands out, also where memory was refused.
-    ensures recorded { IsRunWord (map string_bytes words.now) → OfBytes S.tells (S.left source.old)
+    ensures recorded { IsTrue (is_run (map string_bytes words.now)) → OfBytes S.tells (S.left source.old)
         (λ bytes. (IsNothing (outcome_of result) × IsLeftAlone (D.view disk) (D.view result.disk)) ⊎ IsRecorded (D.view disk) (D.view result.disk) bytes (outcome_of result)) }
-    // Every other command is answered by `ask`, and records nothing.
-    ensures asked { ¬ IsRunWord (map string_bytes words.now) → result.status ≢ Status.NoMemory → IsAsked (map string_bytes words.now) (D.view disk) (D.view result.disk)
+    // Every other command is answered as by `ask`, and records nothing.
+    ensures asked { ¬ IsTrue (is_run (map string_bytes words.now)) → result.status ≢ Status.NoMemory → IsAsked (question_of (map string_bytes words.now)) (D.view disk) (D.view result.disk)
         (record { tells = K.tells; before = K.taken sink.old; after = K.taken sink.new }) result.status }
-    ensures unrecorded { ¬ IsRunWord (map string_bytes words.now) → IsNothing (outcome_of result) }
-    ensures alone { ¬ IsRunWord (map string_bytes words.now) → IsLeftAlone (D.view disk) (D.view result.disk) }
-    ensures unopened { ¬ IsRunWord (map string_bytes words.now) → ¬ IsCheckWord (map string_bytes words.now) → result.disk ≡ disk }
+    ensures unrecorded { ¬ IsTrue (is_run (map string_bytes words.now)) → IsNothing (outcome_of result) }
+    ensures alone { ¬ IsTrue (is_run (map string_bytes words.now)) → IsLeftAlone (D.view disk) (D.view result.disk) }
+    ensures unopened { ¬ IsTrue (is_run (map string_bytes words.now)) → question_of (map string_bytes words.now) ≡ None → result.disk ≡ disk }
     // What the disk tells stays, and its counts never fall.
     ensures later { IsLater (D.view disk) (D.view result.disk) }
     ensures write_fault { result.status ≢ Status.NoMemory → (result.status ≡ Status.WriteFault
         ↔ HasRisen (K.fault_count sink.old) (K.fault_count sink.new)) }
     ensures untaken { result.status ≡ Status.NoMemory → sink.new ≡ sink.old }
     // Only a run reads the source.
-    ensures unread { ¬ IsRunWord (map string_bytes words.now) → source.new ≡ source.old }
+    ensures unread { ¬ IsTrue (is_run (map string_bytes words.now)) → source.new ≡ source.old }
     // The source is read to its end, or to where its bytes are seen to be too long for a trace.
-    ensures stops { IsTrue S.tells → IsRunWord (map string_bytes words.now) → result.status ≢ Status.NoMemory → ¬ HasRisen (S.fault_count source.old) (S.fault_count source.new)
+    ensures stops { IsTrue S.tells → IsTrue (is_run (map string_bytes words.now)) → result.status ≢ Status.NoMemory → ¬ HasRisen (S.fault_count source.old) (S.fault_count source.new)
         → IsReadInTime (S.left source.old) (S.left source.new) }
 {
-    if is_run(words) {
-        run_words(alloc, source, sink, disk, gate)
-    } else {
-        asked(alloc, ask(alloc, words, sink, disk))
+    match read_words(alloc, words) {
+        Ok(Command::Run { workers }) => run_words(alloc, workers, source, sink, disk, gate),
+        Ok(Command::Ask(question)) => answered(alloc, Ok(question), sink, disk),
+        Err(status) => answered(alloc, Err(status), sink, disk),
     }
 }
 
 // Runs the trace of the source.
 fn run_words<S: Source, K: Sink, D: Disk + Send, G: Gate + Sync>(
     alloc: Global,
+    workers: u32,
     source: &mut S,
     sink: &mut K,
     disk: D,
     gate: &G,
 ) -> Ended<D>
+    requires { (1 ≤ workers) × (workers ≤ 64) }
     ensures run { result.status ≢ Status.NoMemory → IsAnswer D.view
         (record { tells = S.tells; left = S.left source.old; before = S.fault_count source.old; after = S.fault_count source.new })
         (record { tells = K.tells; before = K.taken sink.old; after = K.taken sink.new }) disk result.disk (outcome_of result) result.status }
@@ -99,7 +102,7 @@ fn run_words<S: Source, K: Sink, D: Disk + Send, G: Gate + Sync>(
         start,
         report,
         disk,
-    } = judge(alloc, source, disk, gate);
+    } = judge(alloc, workers, source, disk, gate);
     Ended {
         status: write_answer(alloc, sink, status, &report),
         history,
@@ -108,6 +111,28 @@ fn run_words<S: Source, K: Sink, D: Disk + Send, G: Gate + Sync>(
         start,
         disk,
     }
+}
+
+// Answers what was read, where that is no run.
+fn answered<K: Sink, D: Disk>(
+    alloc: Global,
+    question: Result<Question, Status>,
+    sink: &mut K,
+    disk: D,
+) -> Ended<D>
+    requires { IsQuestionRead question }
+    ensures answer { result.status ≢ Status.NoMemory → IsAsked (asked_in question) (D.view disk) (D.view result.disk)
+        (record { tells = K.tells; before = K.taken sink.old; after = K.taken sink.new }) result.status }
+    ensures write_fault { result.status ≢ Status.NoMemory → (result.status ≡ Status.WriteFault
+        ↔ HasRisen (K.fault_count sink.old) (K.fault_count sink.new)) }
+    ensures starved { question ≡ Err Status.NoMemory → result.status ≡ Status.NoMemory }
+    ensures untaken { result.status ≡ Status.NoMemory → sink.new ≡ sink.old }
+    ensures unopened { asked_in question ≡ None → result.disk ≡ disk }
+    ensures nothing { IsNothing (outcome_of result) }
+    ensures alone { IsLeftAlone (D.view disk) (D.view result.disk) }
+    ensures later { IsLater (D.view disk) (D.view result.disk) }
+{
+    asked(alloc, ask_for(alloc, question, sink, disk))
 }
 
 // The end of a command that runs no trace.

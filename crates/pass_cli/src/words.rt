@@ -1,24 +1,244 @@
-//! The words that the program knows.
-ghost use Rattle.std.specs.Prelude.{◌↔◌, IsTrue, map, string_bytes};
-ghost use Rattle.pass_cli.specs.Answers.{IsRunWord};
-ghost use Rattle.pass_cli.specs.Checks.{IsCheckWord};
+//! The commands of the program, and how its words name them.
+ghost use Rattle.std.specs.Prelude.{◌≡◌, ◌≢◌, ◌⊎◌, ◌≤◌, IfOk, IfSome, IsSome, IsTrue, map, option_map, string_bytes};
+ghost use Rattle.clap.specs.Words.{found_of, kind_of, rows_of};
+ghost use Rattle.pass_cli.specs.Words.{Reads, HasWorkers, check_in, command_found, command_in, command_of, form_of, question_of, is_set, path_on, query_in, query_on, name_in, run_in, workers_in};
+ghost use Rattle.pass_cli.specs.Numbers.{node_in};
+ghost use Rattle.pass_query.specs.declared.question.Query.{Query};
 
-/// The words are the one word `run`.
-pub fn is_run(words: &[String]) -> bool
-    ensures { IsTrue result ↔ IsRunWord (map string_bytes words.now) }
+use crate::line::command_line;
+use crate::numbers::{node_in, number_in};
+use clap::error::ErrorKind;
+use clap::{ArgMatches, Error};
+use pass_entry::{Text, TextFault};
+use pass_query::{Form, Query};
+use pass_run::Status;
+use std::alloc::Global;
+
+/// How many workers take the turns where the words don't say it.
+const WORKERS: u32 = 4;
+
+/// How many workers may take turns.
+const MOST_WORKERS: u64 = 64;
+
+/// A question about the store, which is answered without writing to it.
+#[derive(Debug, Drop)]
+pub enum Question {
+    /// What the store has, and which data differ from what was recorded.
+    Check,
+    /// A question to the graph of the log.
+    Lineage { query: Query, form: Form },
+}
+
+/// What the program's words ask for.
+#[derive(Debug, Drop)]
+pub enum Command {
+    /// To run the trace of the source.
+    Run { workers: u32 },
+    /// To answer a question.
+    Ask(Question),
+}
+
+/// Whether the words ask a question, which may share the store with others; not told where memory is refused.
+pub fn asks(alloc: Global, words: &[String]) -> bool
+    ensures { IsTrue result → IsSome (question_of (map string_bytes words.now)) }
 {
-    match words {
-        [word] => word.as_str() == "run",
+    match read_words(alloc, words) {
+        Ok(Command::Ask(_)) => true,
         _ => false,
     }
 }
 
-/// The words are the one word `check`.
-pub fn is_check(words: &[String]) -> bool
-    ensures { IsTrue result ↔ IsCheckWord (map string_bytes words.now) }
+/// The command of the words behind the folder. A fault is `BadWords`, or want of memory.
+pub fn read_words(alloc: Global, words: &[String]) -> Result<Command, Status>
+    ensures command { Reads result (command_of (map string_bytes words.now)) }
+    ensures workers { IfOk result HasWorkers }
+{
+    let Ok(line) = command_line(alloc) else {
+        return Err(Status::NoMemory);
+    };
+    match line.try_get_matches_from(words) {
+        Ok(matches) => command_found(alloc, &matches),
+        Err(error) => Err(status_of(&error)),
+    }
+}
+
+// The status of words that the command line doesn't take.
+fn status_of(error: &Error) -> Status
+    ensures only { (result ≡ Status.NoMemory) ⊎ (result ≡ Status.BadWords) }
+    ensures memory { kind_of error.now ≡ ErrorKind.OutOfMemory → result ≡ Status.NoMemory }
+    ensures bad { kind_of error.now ≢ ErrorKind.OutOfMemory → result ≡ Status.BadWords }
+{
+    match error.kind() {
+        ErrorKind::OutOfMemory => Status::NoMemory,
+        _ => Status::BadWords,
+    }
+}
+
+// The command of what the command line found.
+fn command_found(alloc: Global, matches: &ArgMatches<'_>) -> Result<Command, Status>
+    ensures command { Reads result (command_found (rows_of (found_of matches.now))) }
+    ensures workers { IfOk result HasWorkers }
+{
+    let Some(name) = matches.get_str("command") else {
+        return Err(Status::BadWords);
+    };
+    let json = is_set(matches.get_str("json"));
+    let workers = matches.get_str("workers");
+    match matches.get_strs("word") {
+        Some(words) => command_in(alloc, json, workers, name.as_bytes(), words),
+        None => command_in(alloc, json, workers, name.as_bytes(), &[]),
+    }
+}
+
+// A flag that was given has the value true.
+fn is_set(value: Option<&str>) -> bool
+    ensures { result ≡ is_set (option_map (λ s. s.now) value.entry) }
+{
+    match value {
+        Some(text) => text.as_bytes() == b"true".as_slice(),
+        None => false,
+    }
+}
+
+// The command by what was given.
+fn command_in(
+    alloc: Global,
+    json: bool,
+    workers: Option<&str>,
+    name: &[u8],
+    words: &[&str],
+) -> Result<Command, Status>
+    ensures command { Reads result (command_in json (option_map (λ w. w.now) workers.entry) name.now (map (λ w. w.now) words.now)) }
+    ensures workers { IfOk result HasWorkers }
+{
+    if name == b"run".as_slice() {
+        return or_bad(run_in(json, workers, words));
+    }
+    if name == b"check".as_slice() {
+        return or_bad(check_in(json, workers, words));
+    }
+    if workers.is_some() {
+        return Err(Status::BadWords);
+    }
+    let query = query_in(alloc, name, words)?;
+    let form = form_of(json);
+    Ok(Command::Ask(Question::Lineage { query, form }))
+}
+
+// Words that name no command are bad ones.
+fn or_bad(command: Option<Command>) -> Result<Command, Status>
+    ensures command { Reads result command }
+    ensures workers { IfSome command HasWorkers → IfOk result HasWorkers }
+{
+    match command {
+        Some(command) => Ok(command),
+        None => Err(Status::BadWords),
+    }
+}
+
+fn run_in(json: bool, workers: Option<&str>, words: &[&str]) -> Option<Command>
+    ensures command { result ≡ run_in json (option_map (λ w. w.now) workers.entry) (map (λ w. w.now) words.now) }
+    ensures workers { IfSome result HasWorkers }
+{
+    if json || !words.is_empty() {
+        return None;
+    }
+    let workers = workers_in(workers)?;
+    Some(Command::Run { workers })
+}
+
+fn workers_in(workers: Option<&str>) -> Option<u32>
+    ensures value { result ≡ workers_in (option_map (λ w. w.now) workers.entry) }
+    ensures within { IfSome result (λ n. (1 ≤ n) × (n ≤ 64)) }
+{
+    match workers {
+        Some(word) => {
+            let number = number_in(word.as_bytes(), 1, MOST_WORKERS)?;
+            Some(number as u32)
+        }
+        None => Some(WORKERS),
+    }
+}
+
+fn check_in(json: bool, workers: Option<&str>, words: &[&str]) -> Option<Command>
+    ensures command { result ≡ check_in json (option_map (λ w. w.now) workers.entry) (map (λ w. w.now) words.now) }
+    ensures workers { IfSome result HasWorkers }
+{
+    if json || workers.is_some() || !words.is_empty() {
+        return None;
+    }
+    Some(Command::Ask(Question::Check))
+}
+
+fn form_of(json: bool) -> Form
+    ensures { result ≡ form_of json }
+{
+    if json { Form::Json } else { Form::Lines }
+}
+
+#[tactic(auto, using(crate::proofs::Listed::too_few, crate::proofs::Listed::too_many))]
+fn query_in(alloc: Global, name: &[u8], words: &[&str]) -> Result<Query, Status>
+    ensures { Reads result (query_in name.now (map (λ w. w.now) words.now)) }
 {
     match words {
-        [word] => word.as_str() == "check",
-        _ => false,
+        [] => Err(Status::BadWords),
+        [word] => query_on(alloc, name, word.as_bytes()),
+        [from, to] => path_on(name, from.as_bytes(), to.as_bytes()),
+        [_, _, _, ..] => Err(Status::BadWords),
+    }
+}
+
+fn query_on(alloc: Global, name: &[u8], word: &[u8]) -> Result<Query, Status>
+    ensures { Reads result (query_on name.now word.now) }
+{
+    if name == b"ancestors".as_slice() {
+        return ancestors_in(word);
+    }
+    if name == b"descendants".as_slice() {
+        return descendants_in(word);
+    }
+    if name == b"named".as_slice() {
+        return named_in(alloc, word);
+    }
+    Err(Status::BadWords)
+}
+
+fn ancestors_in(word: &[u8]) -> Result<Query, Status>
+    ensures { Reads result (option_map Query.Ancestors (node_in word.now)) }
+{
+    match node_in(word) {
+        Some(node) => Ok(Query::Ancestors(node)),
+        None => Err(Status::BadWords),
+    }
+}
+
+fn descendants_in(word: &[u8]) -> Result<Query, Status>
+    ensures { Reads result (option_map Query.Descendants (node_in word.now)) }
+{
+    match node_in(word) {
+        Some(node) => Ok(Query::Descendants(node)),
+        None => Err(Status::BadWords),
+    }
+}
+
+fn named_in(alloc: Global, word: &[u8]) -> Result<Query, Status>
+    ensures { Reads result (option_map Query.Named (name_in word.now)) }
+{
+    match Text::name(alloc, word) {
+        Ok(name) => Ok(Query::Named(name)),
+        Err(TextFault::NoMemory) => Err(Status::NoMemory),
+        Err(TextFault::BadLength | TextFault::BadByte) => Err(Status::BadWords),
+    }
+}
+
+fn path_on(name: &[u8], from: &[u8], to: &[u8]) -> Result<Query, Status>
+    ensures { Reads result (path_on name.now from.now to.now) }
+{
+    if name != b"path".as_slice() {
+        return Err(Status::BadWords);
+    }
+    match (node_in(from), node_in(to)) {
+        (Some(from), Some(to)) => Ok(Query::Path(from, to)),
+        _ => Err(Status::BadWords),
     }
 }

@@ -1,6 +1,6 @@
 //! Writes the text of what was judged.
-ghost use Rattle.std.specs.Prelude.{◌≡◌, ◌≢◌, ◌↔◌, ◌⊎◌, ◌<◌, ◌++◌, IsTrue, length};
-ghost use Rattle.pass_outside.specs.Faults.{HasRisen};
+ghost use Rattle.std.specs.Prelude.{◌≡◌, ◌≢◌, ◌↔◌, ◌⊎◌, ◌++◌, IsTrue, OnErr, OnOk};
+ghost use Rattle.pass_outside.specs.Faults.{FailsByCount, HasRisen};
 ghost use Rattle.pass_run.specs.Writing.{IsPartOfText};
 ghost use Rattle.pass_cli.specs.Answers.{is_reported, text_with};
 
@@ -10,8 +10,7 @@ use std::alloc::{AllocError, Global};
 
 /// Writes the text of a status: the report of a run that ended, and else the status's own. A fault of the sink replaces it.
 pub fn write_answer<K: Sink>(alloc: Global, sink: &mut K, status: Status, report: &[u8]) -> Status
-    requires unwritten { status ≢ Status.WriteFault }
-    requires some { IsTrue (is_reported status) → 0 < length report.now }
+    requires { status ≢ Status.WriteFault }
     ensures stands { (result ≡ status) ⊎ ((result ≡ Status.WriteFault) ⊎ (result ≡ Status.NoMemory)) }
     ensures whole { result ≢ Status.WriteFault → result ≢ Status.NoMemory → IsTrue K.tells → K.taken sink.new ≡ K.taken sink.old ++ text_with status report.now }
     ensures part { result ≡ Status.WriteFault → IsTrue K.tells → IsPartOfText (text_with status report.now) (K.taken sink.old) (K.taken sink.new) }
@@ -32,15 +31,27 @@ pub fn write_answer<K: Sink>(alloc: Global, sink: &mut K, status: Status, report
 
 // The status whose text was written, which a fault of the sink replaces.
 fn written<K: Sink>(sink: &mut K, text: &[u8], status: Status) -> Status
-    requires some { 0 < length text.now }
-    requires unwritten { status ≢ Status.WriteFault }
+    requires { status ≢ Status.WriteFault }
     ensures stands { (result ≡ status) ⊎ (result ≡ Status.WriteFault) }
     ensures whole { result ≢ Status.WriteFault → IsTrue K.tells → K.taken sink.new ≡ K.taken sink.old ++ text.now }
     ensures part { result ≡ Status.WriteFault → IsTrue K.tells → IsPartOfText text.now (K.taken sink.old) (K.taken sink.new) }
     ensures fault { result ≡ Status.WriteFault ↔ HasRisen (K.fault_count sink.old) (K.fault_count sink.new) }
 {
-    match write_text(sink, text) {
+    match write_all(sink, text) {
         Ok(()) => status,
         Err(Failed) => Status::WriteFault,
     }
+}
+
+// Writes the text, an empty one by one piece: so a sink that fails is seen there too.
+fn write_all<K: Sink>(sink: &mut K, text: &[u8]) -> Result<(), Failed>
+    ensures whole { OnOk result (IsTrue K.tells → K.taken sink.new ≡ K.taken sink.old ++ text.now) }
+    ensures part { OnErr result (IsTrue K.tells → IsPartOfText text.now (K.taken sink.old) (K.taken sink.new)) }
+    ensures faults { FailsByCount (K.fault_count sink.old) (K.fault_count sink.new) result }
+{
+    if text.is_empty() {
+        let _none = sink.write(text)?;
+        return Ok(());
+    }
+    write_text(sink, text)
 }

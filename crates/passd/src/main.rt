@@ -2,7 +2,7 @@
 //! a trace comes on standard input, and the answer goes to standard output.
 #![tactic(auto)]
 
-use pass_cli::{Status, ask, pass_main};
+use pass_cli::{Status, ask, asks, pass_main};
 use pass_host::{HostDisk, HostFault, HostSink, HostSource};
 use pass_outside::{NoDisk, OpenGate};
 use std::fs::File;
@@ -38,11 +38,12 @@ fn main(rt: HostRuntime) -> ExitCode {
     ExitCode::from(ended.status.number())
 }
 
-// Opens the folder for this program alone, or beside others for the command that writes nothing.
+// Opens the folder beside others for words that ask a question, and else for this program alone.
 fn open(rt: &HostRuntime, folder: &str, words: &[String]) -> Result<HostDisk<File>, HostFault> {
-    match words {
-        [word] if word.as_str() == "check" => HostDisk::open_to_read(rt, rt.alloc(), folder),
-        _ => HostDisk::open(rt, rt.alloc(), folder),
+    if asks(rt.alloc(), words) {
+        HostDisk::open_to_read(rt, rt.alloc(), folder)
+    } else {
+        HostDisk::open(rt, rt.alloc(), folder)
     }
 }
 

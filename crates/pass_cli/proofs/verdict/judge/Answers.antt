@@ -1,11 +1,11 @@
-use Rattle.std.proofs.Common.{◌≡◌, ◌∙◌, sym, subst, List, ℕ, ◌<◌, length, ◌⊎◌, inl, inr, ⊎_elim}
+use Rattle.std.proofs.Common.{◌≡◌, ◌∙◌, sym, subst, List, ◌⊎◌, inl, inr, ⊎_elim}
 use Rattle.pass_trace.specs.declared.trace.TraceLine.{TraceLine}
 use Rattle.pass_run.specs.declared.status.Status.{Status}
 use Rattle.pass_run.specs.declared.status.Status.TheVariants as status
 use Rattle.pass_run.specs.Stored.{IsLeftAlone, IsOverStore}
 use Rattle.pass_run.proofs.Moved.{alone_untouched}
 use Rattle.pass_cli.specs.Answers.{IsRefusal, IsRefused, HasRun, outcome_of_run}
-use Rattle.pass_cli.proofs.Judging.{ran_run, refusal_run, same_error, no_write, reported_ends, some_report}
+use Rattle.pass_cli.proofs.Judging.{ran_run, refusal_run, same_error, no_write}
 use Rattle.pass_cli.proofs.verdict.judge.Goals as goal
 
 pub returns-in-Ok-clause-judged : goal.returns-in-Ok-clause-judged
@@ -41,11 +41,6 @@ returns-in-Ok-clause-recorded g c =
           inr (subst (λ (ls : List TraceLine). IsOverStore old.calls old new ls r.list.items r.start r.history.items r.syncs.items) same over))
           c.run_trace.ensures.recorded,
     )
-
-pub returns-in-Ok-clause-some : goal.returns-in-Ok-clause-some
-returns-in-Ok-clause-some g c = λ reported.
-    let whole = c.run_trace.ensures.ended (reported_ends c.run_trace.result.status reported) in
-    subst (λ (text : List ℕ). 0 < length text) (sym whole.reported.report) (some_report whole.opened c.run_trace.result.history.items c.in-Ok.trace.lines.items)
 
 pub returns-in-Ok-clause-no_write : goal.returns-in-Ok-clause-no_write
 returns-in-Ok-clause-no_write g c = λ is.

@@ -1,0 +1,245 @@
+-- What is judged of a question.
+use Rattle.std.proofs.Common.{ℕ, ◌≡◌, ◌<◌, refl, sym, ap, ◌∙◌, subst, List, ◌⊎◌, inl, inr, arith}
+use Rattle.std.specs.Prelude.{◌≢◌, Option, Some, None, Result, Ok, Err, option_map, IsSomeAnd, IsTrue}
+use Rattle.pass_entry.specs.declared.objects.Node.{Node}
+use Rattle.pass_entry.specs.declared.record.Record.{Record}
+use Rattle.pass_log.specs.declared.fault.LogFault.{LogFault}
+use Rattle.pass_log.specs.declared.image.LogImage.{LogImage}
+use Rattle.pass_log.specs.LogImage.{IsRead, held_in}
+use Rattle.pass_log.specs.Records.{Held, image_of}
+use Rattle.pass_outside.specs.Moments.{Moment, IsAtEnd}
+use Rattle.pass_plain.specs.WellLogged.{first_flaw, IsWellLogged}
+use Rattle.pass_query.specs.Questions.{IsAbsent, IsAnswerText}
+use Rattle.pass_query.specs.declared.question.Form.{Form}
+use Rattle.pass_query.specs.declared.question.Query.{Query}
+use Rattle.pass_range.specs.declared.range.Range.{Range}
+use Rattle.pass_range.specs.Tables.{AreUnmatched}
+use Rattle.pass_recover.specs.declared.fault.OpenFault.{OpenFault}
+use Rattle.pass_recover.specs.declared.fault.OpenFault.TheVariants.{DiskFault, BadFrame, BadRecord, Flaw, NoMemory}
+use Rattle.pass_recover.specs.Faults.{LogHas, IsCauseOf}
+use Rattle.pass_run.specs.declared.status.Status.{Status}
+use Rattle.pass_run.specs.declared.status.Status.TheVariants as status
+use Rattle.pass_run.specs.Statuses.{status_of_opening}
+use Rattle.pass_run.specs.Stores.{store_fault, image_fault}
+use Rattle.pass_cli.specs.Answers.{is_reported}
+use Rattle.pass_cli.specs.Asked.{IsAskJudged, IsAnswered, IsAnswerTo, IsLogOf, IsQuestionRead, IsUnknown, asked_in}
+use Rattle.pass_cli.specs.Checks.{check_text}
+use Rattle.pass_cli.specs.declared.words.Question.{Question}
+use Rattle.pass_cli.specs.declared.words.Question.TheVariants.{Check, Lineage}
+
+-- words that ask nothing
+pub words_judged : (m : Moment) (bytes : List ℕ) → IsAskJudged None m m bytes status.BadWords
+words_judged m bytes = record {
+  bad_words = (λ is. refl, λ is. refl);
+  disk_fault = λ opened now is. absurd (cc);
+  unhidden = λ asked rose. absurd (cc);
+  bad_store = λ fault. (λ is. absurd (cc), λ is. absurd (let z = is.0 in cc));
+  no_object = λ node. (λ is. absurd (cc), λ is. absurd is.1);
+  done = (λ is. absurd (cc), λ is. absurd is.1);
+  reads = λ quiet. refl;
+}
+
+module _ (q : Question) (old new : Moment) (bytes : List ℕ) where
+  abbrev Judged : Status → Type 0
+  Judged judged = IsAskJudged (Some q) old new bytes judged
+
+  asks : ◌≡◌ {A = Option Question} (Some q) None → ⊥
+  asks is = cc
+
+  -- a device call failed
+  pub disk_judged : (old.faults < new.faults) ⊎ IsAtEnd new → Judged (status.DiskFault old.faults new.faults)
+  disk_judged failed = record {
+    bad_words = (λ is. absurd (cc), λ none. absurd (asks none));
+    disk_fault = λ opened now is. (
+      refl,
+      record {
+        before = opened_is opened now is;
+        after = now_is opened now is;
+        risen = by opened now (opened_is opened now is) (now_is opened now is) failed;
+      },
+    );
+    unhidden = λ asked rose. refl;
+    bad_store = λ fault. (λ is. absurd (cc), λ is. absurd (is.1 old.faults new.faults refl));
+    no_object = λ node. (λ is. absurd (cc), λ is. absurd (is.0.0 old.faults new.faults refl));
+    done = (λ is. absurd (cc), λ is. absurd (is.0.0 old.faults new.faults refl));
+    reads = λ quiet. absurd (quiet old.faults new.faults refl);
+  }
+    where
+      opened_is : (opened now : ℕ) → ◌≡◌ {A = Status} (status.DiskFault old.faults new.faults) (status.DiskFault opened now) → opened ≡ old.faults
+      opened_is opened now is = cc
+
+      now_is : (opened now : ℕ) → ◌≡◌ {A = Status} (status.DiskFault old.faults new.faults) (status.DiskFault opened now) → now ≡ new.faults
+      now_is opened now is = cc
+
+      by : (opened now : ℕ) → opened ≡ old.faults → now ≡ new.faults → (old.faults < new.faults) ⊎ IsAtEnd new → (opened < now) ⊎ IsAtEnd new
+      by opened now is are (inl rose) = inl (omega (arith, is, are, rose))
+      by opened now is are (inr stands) = inr stands
+
+  module _ (still : new.faults ≡ old.faults) (same_seen : new.seen ≡ old.seen) where
+    -- the log has a fault
+    pub store_judged : (fault : OpenFault) → store_fault bytes ≡ Some fault → Judged (status.BadStore fault)
+    store_judged fault has = record {
+      bad_words = (λ is. absurd (cc), λ none. absurd (asks none));
+      disk_fault = λ opened now is. absurd (cc);
+      unhidden = λ asked rose. absurd (omega (arith, still, rose));
+      bad_store = λ other. (λ is. (refl, λ opened now fails. absurd (cc), has ∙ ap Some (same other is)), λ is. only other (sym has ∙ is.2));
+      no_object = λ node. (λ is. absurd (cc), λ is. absurd (none (sym has ∙ is.0.1)));
+      done = (λ is. absurd (cc), λ is. absurd (none (sym has ∙ is.0.1)));
+      reads = λ quiet. same_seen;
+    }
+      where
+        same : (other : OpenFault) → ◌≡◌ {A = Status} (status.BadStore fault) (status.BadStore other) → fault ≡ other
+        same other is = cc
+
+        only : (other : OpenFault) → ◌≡◌ {A = Option OpenFault} (Some fault) (Some other) → ◌≡◌ {A = Status} (status.BadStore fault) (status.BadStore other)
+        only other is = cc
+
+        none : ◌≡◌ {A = Option OpenFault} (Some fault) None → ⊥
+        none is = cc
+
+    module _ (held : Held) (holds : image_of bytes ≡ Ok held) (sound : first_flaw held.list ≡ None) where
+      none : store_fault bytes ≡ None
+      none = ap image_fault holds ∙ ap (option_map (λ flaw. Flaw flaw.0 flaw.1)) sound
+
+      some : (fault : OpenFault) → ◌≡◌ {A = Option OpenFault} None (Some fault) → ⊥
+      some fault is = cc
+
+      -- it has none, and each node of the question
+      pub done_judged : ((node : Node) → IsUnknown q bytes node → ⊥) → Judged status.Done
+      done_judged known = record {
+        bad_words = (λ is. absurd (cc), λ none. absurd (asks none));
+        disk_fault = λ opened now is. absurd (cc);
+        unhidden = λ asked rose. absurd (omega (arith, still, rose));
+        bad_store = λ fault. (λ is. absurd (cc), λ is. absurd (some fault (sym none ∙ is.2)));
+        no_object = λ node. (λ is. absurd (cc), λ is. absurd (known node is.1));
+        done = (λ is. ((λ opened now fails. absurd (cc), none), known), λ is. refl);
+        reads = λ quiet. same_seen;
+      }
+
+      -- it has none, and lacks a node of the question
+      pub object_judged : (node : Node) → IsUnknown q bytes node → ((other : Node) → IsUnknown q bytes other → other ≡ node) → Judged (status.NoObject node)
+      object_judged node unknown alone = record {
+        bad_words = (λ is. absurd (cc), λ none. absurd (asks none));
+        disk_fault = λ opened now is. absurd (cc);
+        unhidden = λ asked rose. absurd (omega (arith, still, rose));
+        bad_store = λ fault. (λ is. absurd (cc), λ is. absurd (some fault (sym none ∙ is.2)));
+        no_object = λ other. (λ is. ((λ opened now fails. absurd (cc), none), subst (λ n. IsUnknown q bytes n) (same other is) unknown), λ is. ap status.NoObject (sym (alone other is.1)));
+        done = (λ is. absurd (cc), λ is. absurd (is.1 node unknown));
+        reads = λ quiet. same_seen;
+      }
+        where
+          same : (other : Node) → ◌≡◌ {A = Status} (status.NoObject node) (status.NoObject other) → node ≡ other
+          same other is = cc
+
+-- what is judged of a store by a question, and the text where it is answered
+abbrev pub Judges : Question → Moment → Moment → Status → List ℕ → Type 0
+Judges q old new judged text =
+    LogHas old (λ bytes. IsAskJudged (Some q) old new bytes judged × (judged ≡ status.Done → IsAnswerTo q old bytes text))
+
+-- the question is the one that was asked
+pub for_question : (asked : Option Question) (q : Question) (old new : Moment) (judged : Status) (text : List ℕ) → asked ≡ Some q → Judges q old new judged text
+    → LogHas old (λ bytes. IsAskJudged asked old new bytes judged × (judged ≡ status.Done → IsSomeAnd asked (λ p. IsAnswerTo p old bytes text)))
+for_question asked q old new judged text is (bytes, told, (by, says)) = (
+  bytes,
+  told,
+  (
+    subst (λ (a : Option Question). IsAskJudged a old new bytes judged) (sym is) by,
+    λ done. subst (λ (a : Option Question). IsSomeAnd a (λ p. IsAnswerTo p old bytes text)) (sym is) (says done),
+  ),
+)
+
+-- words that were refused
+pub refused_judges : (question : Result Question Status) (s : Status) (m : Moment) (text : List ℕ) → question ≡ Err s → IsQuestionRead question → s ≢ status.NoMemory
+    → LogHas m (λ bytes. IsAskJudged (asked_in question) m m bytes s × (s ≡ status.Done → IsSomeAnd (asked_in question) (λ q. IsAnswerTo q m bytes text)))
+refused_judges question s m text is read known =
+    subst (λ (r : Result Question Status). LogHas m (λ bytes. IsAskJudged (asked_in r) m m bytes s × (s ≡ status.Done → IsSomeAnd (asked_in r) (λ q. IsAnswerTo q m bytes text)))) (sym is)
+    (by s (subst IsQuestionRead is read) known)
+  where
+    by : (t : Status) → IsQuestionRead (Err t) → t ≢ status.NoMemory → LogHas m (λ bytes. IsAskJudged None m m bytes t × (t ≡ status.Done → ⊥))
+    by status.BadWords read known = (m.seen.log, λ tells. refl, (words_judged m m.seen.log, λ done. absurd (cc)))
+    by status.NoMemory read known = absurd (known refl)
+    by _ read known = absurd read
+
+pub refused_reports : (s : Status) → IsQuestionRead (Err s) → IsTrue (is_reported s) → s ≡ status.Done
+refused_reports status.BadWords read is = absurd (cc)
+refused_reports status.NoMemory read is = absurd (cc)
+refused_reports _ read is = absurd read
+
+pub refused_writes : (s : Status) → IsQuestionRead (Err s) → s ≢ status.WriteFault
+refused_writes status.BadWords read is = absurd (cc)
+refused_writes status.NoMemory read is = absurd (cc)
+refused_writes _ read is = absurd read
+
+-- a store that opened
+pub opened_judges : (old new : Moment) (image : LogImage) (unmatched : List Range) (judged : Status) (text : List ℕ) → IsRead old image → IsWellLogged image.list.items
+    → (IsTrue old.tells → AreUnmatched image.list.items old.seen.store unmatched) → new.faults ≡ old.faults → new.seen ≡ old.seen → judged ≢ status.NoMemory
+    → ((judged ≡ status.Done) × (text ≡ check_text image.list.items unmatched)) ⊎ (judged ≡ status.NoMemory) → Judges Check old new judged text
+opened_judges old new image unmatched judged text (bytes, told, read) sound tells still same known (inl (is, says)) = (
+  bytes,
+  told,
+  (
+    subst (λ (s : Status). IsAskJudged (Some Check) old new bytes s) (sym is) (done_judged Check old new bytes still same (held_in image) read.holds sound (λ node unknown. unknown)),
+    λ done. (held_in image, read.holds, (unmatched, tells, says)),
+  ),
+)
+opened_judges old new image unmatched judged text read sound tells still same known (inr starved) = absurd (known starved)
+
+-- a log that was read, and what its graph answers
+pub answered_judges : (old new : Moment) (list : List Record) (query : Query) (form : Form) (judged : Status) (text : List ℕ) → LogHas old (λ bytes. IsLogOf bytes list)
+    → new.faults ≡ old.faults → new.seen ≡ old.seen → judged ≢ status.NoMemory → IsAnswered list query form judged text → Judges (Lineage query form) old new judged text
+answered_judges old new list query form judged text (bytes, told, of) still same known answered = (bytes, told, by judged known answered)
+  where
+    q : Question
+    q = Lineage query form
+
+    sound : first_flaw of.held.list ≡ None
+    sound = subst IsWellLogged (sym of.list_is) of.logged
+
+    same_held : (other : Held) → image_of bytes ≡ Ok other → of.held ≡ other
+    same_held other holds = held_is (sym of.image ∙ holds)
+      where
+        held_is : ◌≡◌ {A = Result Held LogFault} (Ok of.held) (Ok other) → of.held ≡ other
+        held_is is = cc
+
+    -- a node that this log hasn't is one that the graph hasn't
+    absent : (node : Node) → IsUnknown q bytes node → IsAbsent list query node
+    absent node (other, holds, is) = subst (λ l. IsAbsent l query node) of.list_is (subst (λ (h : Held). IsAbsent h.list query node) (sym (same_held other holds)) is)
+
+    unknown : (node : Node) → IsAbsent list query node → IsUnknown q bytes node
+    unknown node is = (of.held, of.image, subst (λ l. IsAbsent l query node) (sym of.list_is) is)
+
+    by : (s : Status) → s ≢ status.NoMemory → IsAnswered list query form s text → IsAskJudged (Some q) old new bytes s × (s ≡ status.Done → IsAnswerTo q old bytes text)
+    by status.Done known (none, says) = (
+      done_judged q old new bytes still same of.held of.image sound (λ node is. none node (absent node is)),
+      λ done. (of.held, of.image, subst (λ l. IsAnswerText l query form text) (sym of.list_is) says),
+    )
+    by (status.NoObject node) known (is, alone) = (
+      object_judged q old new bytes still same of.held of.image sound node (unknown node is) (λ other also. alone other (absent other also)),
+      λ done. absurd (cc),
+    )
+    by status.NoMemory known is = absurd (known refl)
+    by _ known is = absurd is
+
+-- a store that didn't open
+pub fault_judges : (q : Question) (old new : Moment) (fault : OpenFault) (judged : Status) (text : List ℕ) → judged ≡ status_of_opening old.faults new.faults fault → judged ≢ status.NoMemory
+    → IsCauseOf old new fault → ((fault ≡ DiskFault → ⊥) → new.faults ≡ old.faults) → ((fault ≡ DiskFault → ⊥) → new.seen ≡ old.seen) → Judges q old new judged text
+fault_judges q old new fault judged text is known cause still reads =
+    subst (λ (s : Status). Judges q old new s text) (sym is) (by fault (λ starved. known (is ∙ starved)) cause still reads)
+  where
+    by : (f : OpenFault) → status_of_opening old.faults new.faults f ≢ status.NoMemory → IsCauseOf old new f → ((f ≡ DiskFault → ⊥) → new.faults ≡ old.faults)
+        → ((f ≡ DiskFault → ⊥) → new.seen ≡ old.seen) → Judges q old new (status_of_opening old.faults new.faults f) text
+    by DiskFault known cause still reads = (old.seen.log, λ tells. refl, (disk_judged q old new old.seen.log cause, λ done. absurd (cc)))
+    by (BadFrame at) known (bytes, told, has) still reads =
+        (bytes, told, (store_judged q old new bytes (still (λ other. absurd (cc))) (reads (λ other. absurd (cc))) (BadFrame at) (ap image_fault has), λ done. absurd (cc)))
+    by (BadRecord place why) known (bytes, told, has) still reads =
+        (bytes, told, (store_judged q old new bytes (still (λ other. absurd (cc))) (reads (λ other. absurd (cc))) (BadRecord place why) (ap image_fault has), λ done. absurd (cc)))
+    by (Flaw place reason) known (bytes, told, (held, has, flaw)) still reads = (
+      bytes,
+      told,
+      (
+        store_judged q old new bytes (still (λ other. absurd (cc))) (reads (λ other. absurd (cc))) (Flaw place reason)
+            (ap image_fault has ∙ ap (option_map (λ one. Flaw one.0 one.1)) flaw),
+        λ done. absurd (cc),
+      ),
+    )
+    by NoMemory known cause still reads = absurd (known refl)

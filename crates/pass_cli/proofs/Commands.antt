@@ -1,0 +1,72 @@
+-- What the command of the words is, from what was read of them.
+use Rattle.std.proofs.Common.{◌≡◌, ◌∙◌, true, false, refl, sym, ap, subst, List, ℕ}
+use Rattle.std.specs.Prelude.{◌≢◌, Option, Some, None, Result, Ok, Err, IsTrue, option_and_then}
+use Rattle.std.specs.Option.{option_map_or}
+use Rattle.pass_run.specs.declared.status.Status.{Status}
+use Rattle.pass_run.specs.declared.status.Status.TheVariants as status
+use Rattle.pass_cli.specs.Asked.{IsQuestionRead, asked_in}
+use Rattle.pass_cli.specs.Words.{Reads, Text, command_of, is_run, is_run_command, question_in, question_of}
+use Rattle.pass_cli.specs.declared.words.Command.{Command}
+use Rattle.pass_cli.specs.declared.words.Command.TheVariants.{Run, Ask}
+use Rattle.pass_cli.specs.declared.words.Question.{Question}
+
+-- what stands in a value that was read
+pub ok_same : {A : Type 0} (r : Result A Status) (a b : A) → r ≡ Ok a → a ≡ b → r ≡ Ok b
+ok_same r a b is same = is ∙ ap (λ x. Ok x) same
+
+module _ (words : List Text) (r : Result Command Status) (read : Reads r (command_of words)) where
+  pub runs : (workers : ℕ) → r ≡ Ok (Run workers) → IsTrue (is_run words)
+  runs workers is = ap (λ (o : Option Command). option_map_or is_run_command o false) (subst (λ (x : Result Command Status). Reads x (command_of words)) is read)
+
+  pub asks : (q : Question) → r ≡ Ok (Ask q) → (¬ (IsTrue (is_run words))) × (question_of words ≡ Some q)
+  asks q is =
+      let named : command_of words ≡ Some (Ask q) = subst (λ (x : Result Command Status). Reads x (command_of words)) is read in (
+        λ runs. let z : true ≡ false = sym runs ∙ ap (λ (o : Option Command). option_map_or is_run_command o false) named in cc,
+        ap (λ (o : Option Command). option_and_then question_in o) named,
+      )
+
+  pub refuses : (s : Status) → r ≡ Err s → s ≢ status.NoMemory → (¬ (IsTrue (is_run words))) × (question_of words ≡ None)
+  refuses s is known = by s (subst (λ (x : Result Command Status). Reads x (command_of words)) is read) known
+    where
+      by : (t : Status) → Reads {X = Command} (Err t) (command_of words) → t ≢ status.NoMemory → (¬ (IsTrue (is_run words))) × (question_of words ≡ None)
+      by status.BadWords none known = (
+        λ runs. let z : true ≡ false = sym runs ∙ ap (λ (o : Option Command). option_map_or is_run_command o false) none in cc,
+        ap (λ (o : Option Command). option_and_then question_in o) none,
+      )
+      by status.NoMemory none known = absurd (known refl)
+      by _ none known = absurd none
+
+  pub refusal_read : (s : Status) → r ≡ Err s → IsQuestionRead (Err s)
+  refusal_read s is = by s (subst (λ (x : Result Command Status). Reads x (command_of words)) is read)
+    where
+      by : (t : Status) → Reads {X = Command} (Err t) (command_of words) → IsQuestionRead (Err t)
+      by status.BadWords none = tt
+      by status.NoMemory none = tt
+      by _ none = absurd none
+
+-- the question that was read
+module _ (r : Result Question Status) (asked : Option Question) (read : Reads r asked) where
+  pub question_read : IsQuestionRead r
+  question_read = by r read
+    where
+      by : (x : Result Question Status) → Reads x asked → IsQuestionRead x
+      by (Ok q) is = tt
+      by (Err status.BadWords) is = tt
+      by (Err status.NoMemory) is = tt
+      by (Err _) is = absurd is
+
+  pub same_asked : (r ≡ Err status.NoMemory → ⊥) → asked_in r ≡ asked
+  same_asked known = by r read known
+    where
+      by : (x : Result Question Status) → Reads x asked → (x ≡ Err status.NoMemory → ⊥) → asked_in x ≡ asked
+      by (Ok q) is known = sym is
+      by (Err status.BadWords) is known = sym is
+      by (Err status.NoMemory) is known = absurd (known refl)
+      by (Err _) is known = absurd is
+
+  pub none_asked : asked ≡ None → asked_in r ≡ None
+  none_asked none = by r read
+    where
+      by : (x : Result Question Status) → Reads x asked → asked_in x ≡ None
+      by (Ok q) is = absurd (let z : ◌≡◌ {A = Option Question} (Some q) None = sym is ∙ none in cc)
+      by (Err s) is = refl

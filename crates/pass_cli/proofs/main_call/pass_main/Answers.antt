@@ -1,0 +1,69 @@
+use Rattle.std.proofs.Common.{◌≡◌, ◌∙◌, refl, sym, ap, subst, inl}
+use Rattle.std.specs.Prelude.{Option, Some, None, Err, map, string_bytes}
+use Rattle.pass_cli.specs.Asked.{IsAsked}
+use Rattle.pass_cli.specs.declared.words.Question.{Question}
+use Rattle.pass_cli.specs.declared.words.Command.TheVariants.{Run, Ask}
+use Rattle.pass_cli.proofs.Commands.{ok_same, runs, asks, refuses, refusal_read}
+use Rattle.pass_cli.proofs.main_call.pass_main.Goals as goal
+
+pub returns-in-Ok-Run-clause-asked : goal.returns-in-Ok-Run-clause-asked
+returns-in-Ok-Run-clause-asked g c = λ other. absurd (other (runs (map string_bytes c.args.words.now) c.read_words.result c.read_words.ensures.command c.in-Ok-Run.workers (ok_same c.read_words.result c.in-Ok-Run.field-0 (Run c.in-Ok-Run.workers) c.in-Ok-Run.is c.in-Ok-Run.field-0-is)))
+
+pub returns-in-Ok-Run-clause-unrecorded : goal.returns-in-Ok-Run-clause-unrecorded
+returns-in-Ok-Run-clause-unrecorded g c = λ other. absurd (other (runs (map string_bytes c.args.words.now) c.read_words.result c.read_words.ensures.command c.in-Ok-Run.workers (ok_same c.read_words.result c.in-Ok-Run.field-0 (Run c.in-Ok-Run.workers) c.in-Ok-Run.is c.in-Ok-Run.field-0-is)))
+
+pub returns-in-Ok-Run-clause-alone : goal.returns-in-Ok-Run-clause-alone
+returns-in-Ok-Run-clause-alone g c = λ other. absurd (other (runs (map string_bytes c.args.words.now) c.read_words.result c.read_words.ensures.command c.in-Ok-Run.workers (ok_same c.read_words.result c.in-Ok-Run.field-0 (Run c.in-Ok-Run.workers) c.in-Ok-Run.is c.in-Ok-Run.field-0-is)))
+
+pub returns-in-Ok-Run-clause-unopened : goal.returns-in-Ok-Run-clause-unopened
+returns-in-Ok-Run-clause-unopened g c = λ other. absurd (other (runs (map string_bytes c.args.words.now) c.read_words.result c.read_words.ensures.command c.in-Ok-Run.workers (ok_same c.read_words.result c.in-Ok-Run.field-0 (Run c.in-Ok-Run.workers) c.in-Ok-Run.is c.in-Ok-Run.field-0-is)))
+
+pub returns-in-Ok-Run-clause-unread : goal.returns-in-Ok-Run-clause-unread
+returns-in-Ok-Run-clause-unread g c = λ other. absurd (other (runs (map string_bytes c.args.words.now) c.read_words.result c.read_words.ensures.command c.in-Ok-Run.workers (ok_same c.read_words.result c.in-Ok-Run.field-0 (Run c.in-Ok-Run.workers) c.in-Ok-Run.is c.in-Ok-Run.field-0-is)))
+
+pub returns-in-Ok-Ask-clause-run : goal.returns-in-Ok-Ask-clause-run
+returns-in-Ok-Ask-clause-run g c = λ run. absurd ((asks (map string_bytes c.args.words.now) c.read_words.result c.read_words.ensures.command c.in-Ok-Ask.question (ok_same c.read_words.result c.in-Ok-Ask.field-0 (Ask c.in-Ok-Ask.question) c.in-Ok-Ask.is c.in-Ok-Ask.field-0-is)).0 run)
+
+pub returns-in-Ok-Ask-clause-recorded : goal.returns-in-Ok-Ask-clause-recorded
+returns-in-Ok-Ask-clause-recorded g c = λ run. absurd ((asks (map string_bytes c.args.words.now) c.read_words.result c.read_words.ensures.command c.in-Ok-Ask.question (ok_same c.read_words.result c.in-Ok-Ask.field-0 (Ask c.in-Ok-Ask.question) c.in-Ok-Ask.is c.in-Ok-Ask.field-0-is)).0 run)
+
+pub returns-in-Ok-Ask-clause-stops : goal.returns-in-Ok-Ask-clause-stops
+returns-in-Ok-Ask-clause-stops g c = λ tells run. absurd ((asks (map string_bytes c.args.words.now) c.read_words.result c.read_words.ensures.command c.in-Ok-Ask.question (ok_same c.read_words.result c.in-Ok-Ask.field-0 (Ask c.in-Ok-Ask.question) c.in-Ok-Ask.is c.in-Ok-Ask.field-0-is)).0 run)
+
+pub returns-in-Ok-Ask-clause-asked : goal.returns-in-Ok-Ask-clause-asked
+returns-in-Ok-Ask-clause-asked g c = λ other known.
+    let words = map string_bytes c.args.words.now in
+    subst (λ (asked : Option Question). IsAsked asked (g.D.Disk.view c.args.disk) (g.D.Disk.view c.answered.result.disk)
+    (record { tells = g.K.Sink.tells; before = g.K.Sink.taken c.args.sink.now; after = g.K.Sink.taken c.answered.new.sink }) c.answered.result.status)
+    (sym (asks words c.read_words.result c.read_words.ensures.command c.in-Ok-Ask.question (ok_same c.read_words.result c.in-Ok-Ask.field-0 (Ask c.in-Ok-Ask.question) c.in-Ok-Ask.is c.in-Ok-Ask.field-0-is)).1)
+    (c.answered.ensures.answer known)
+
+pub returns-in-Ok-Ask-clause-unopened : goal.returns-in-Ok-Ask-clause-unopened
+returns-in-Ok-Ask-clause-unopened g c = λ other none.
+    let words = map string_bytes c.args.words.now in
+    absurd (let z : ◌≡◌ {A = Option Question} (Some c.in-Ok-Ask.question) None = sym (asks words c.read_words.result c.read_words.ensures.command c.in-Ok-Ask.question (ok_same c.read_words.result c.in-Ok-Ask.field-0 (Ask c.in-Ok-Ask.question) c.in-Ok-Ask.is c.in-Ok-Ask.field-0-is)).1 ∙ none in cc)
+
+pub answered-requires-in-Err : goal.answered-requires-in-Err
+answered-requires-in-Err g c = refusal_read (map string_bytes c.args.words.now) c.read_words.result c.read_words.ensures.command c.in-Err.status c.in-Err.is
+
+pub returns-in-Err-clause-run : goal.returns-in-Err-clause-run
+returns-in-Err-clause-run g c = λ run known.
+    absurd ((refuses (map string_bytes c.args.words.now) c.read_words.result c.read_words.ensures.command c.in-Err.status c.in-Err.is (λ starved. known (c.answered-in-Err.ensures.starved (ap Err starved)))).0 run)
+
+pub returns-in-Err-clause-recorded : goal.returns-in-Err-clause-recorded
+returns-in-Err-clause-recorded g c = λ run. (g.S.Source.left c.args.source.now, λ tells. refl, inl (c.answered-in-Err.ensures.nothing, c.answered-in-Err.ensures.alone))
+
+pub returns-in-Err-clause-stops : goal.returns-in-Err-clause-stops
+returns-in-Err-clause-stops g c = λ tells run known.
+    absurd ((refuses (map string_bytes c.args.words.now) c.read_words.result c.read_words.ensures.command c.in-Err.status c.in-Err.is (λ starved. known (c.answered-in-Err.ensures.starved (ap Err starved)))).0 run)
+
+pub returns-in-Err-clause-asked : goal.returns-in-Err-clause-asked
+returns-in-Err-clause-asked g c = λ other known.
+    let words = map string_bytes c.args.words.now in
+    subst (λ (asked : Option Question). IsAsked asked (g.D.Disk.view c.args.disk) (g.D.Disk.view c.answered-in-Err.result.disk)
+    (record { tells = g.K.Sink.tells; before = g.K.Sink.taken c.args.sink.now; after = g.K.Sink.taken c.answered-in-Err.new.sink }) c.answered-in-Err.result.status)
+    (sym (refuses words c.read_words.result c.read_words.ensures.command c.in-Err.status c.in-Err.is (λ starved. known (c.answered-in-Err.ensures.starved (ap Err starved)))).1)
+    (c.answered-in-Err.ensures.answer known)
+
+pub returns-in-Err-clause-unopened : goal.returns-in-Err-clause-unopened
+returns-in-Err-clause-unopened g c = λ other none. c.answered-in-Err.ensures.unopened refl

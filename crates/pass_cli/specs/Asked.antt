@@ -1,0 +1,86 @@
+-- What a question about a store is answered, and what is written. This project's own rule.
+use Rattle.std.specs.Prelude.{ℕ, ◌≡◌, ◌≢◌, ◌⊎◌, ◌↔◌, ◌<◌, IsTrue, List, ◌++◌, Option, Some, None, Result, Ok, Err, IsSome, IsSomeAnd}
+use Rattle.pass_entry.specs.declared.objects.Node.{Node}
+use Rattle.pass_entry.specs.declared.record.Record.{Record}
+use Rattle.pass_log.specs.Records.{Held, image_of}
+use Rattle.pass_outside.specs.Moments.{Moment}
+use Rattle.pass_plain.specs.WellLogged.{IsWellLogged}
+use Rattle.pass_query.specs.Questions.{IsAbsent, IsAnswerText}
+use Rattle.pass_query.specs.declared.question.Form.{Form}
+use Rattle.pass_query.specs.declared.question.Query.{Query}
+use Rattle.pass_recover.specs.declared.fault.OpenFault.{OpenFault}
+use Rattle.pass_run.specs.declared.status.Status.{Status}
+use Rattle.pass_run.specs.declared.status.Status.TheVariants as status
+use Rattle.pass_run.specs.Statuses.{status_text}
+use Rattle.pass_run.specs.Stores.{store_fault}
+use Rattle.pass_run.specs.Writing.{IsPartOfText}
+use Rattle.pass_cli.specs.Answers.{SinkSeen, IsNoDiskFault, HasFailed}
+use Rattle.pass_cli.specs.Checks.{IsCheckText}
+use Rattle.pass_cli.specs.declared.words.Question.{Question}
+use Rattle.pass_cli.specs.declared.words.Question.TheVariants.{Check, Lineage}
+
+-- the text that answers a question, for a log area with these bytes
+abbrev pub IsAnswerTo : Question → Moment → List ℕ → List ℕ → Type 0
+IsAnswerTo Check old bytes text = IsCheckText old bytes text
+IsAnswerTo (Lineage query form) old bytes text = (held : Held) × (image_of bytes ≡ Ok held) × IsAnswerText held.list query form text
+
+-- the question is about this node, the first one given that the graph of the log hasn't
+abbrev pub IsUnknown : Question → List ℕ → Node → Type 0
+IsUnknown Check bytes node = ⊥
+IsUnknown (Lineage query form) bytes node = (held : Held) × (image_of bytes ≡ Ok held) × IsAbsent held.list query node
+
+-- the log has no fault
+abbrev pub IsSoundLog : List ℕ → Status → Type 0
+IsSoundLog bytes judged = IsNoDiskFault judged × (store_fault bytes ≡ None)
+
+-- What is judged by the question that the words ask, the disk before and after, and the bytes of its log area. The words come
+-- first, then the device's faults, then what the log has, and then the nodes of the question.
+pub record IsAskJudged (asked : Option Question) (old new : Moment) (bytes : List ℕ) (judged : Status) : Type 0 where
+  pub bad_words : judged ≡ status.BadWords ↔ (asked ≡ None)
+  pub disk_fault : (opened now : ℕ) → judged ≡ status.DiskFault opened now → IsSome asked × HasFailed old new opened now
+  -- and wherever the count rose
+  pub unhidden : IsSome asked → old.faults < new.faults → judged ≡ status.DiskFault old.faults new.faults
+  pub bad_store : (fault : OpenFault) → judged ≡ status.BadStore fault ↔ (IsSome asked × IsNoDiskFault judged × (store_fault bytes ≡ Some fault))
+  pub no_object : (node : Node) → judged ≡ status.NoObject node ↔ (IsSoundLog bytes judged × IsSomeAnd asked (λ q. IsUnknown q bytes node))
+  pub done : judged ≡ status.Done ↔ (IsSoundLog bytes judged × IsSomeAnd asked (λ q. (node : Node) → ¬ (IsUnknown q bytes node)))
+  -- what the disk reads is as it was
+  pub reads : IsNoDiskFault judged → new.seen ≡ old.seen
+
+-- What stands behind an answer other than want of memory: the bytes of the log area, where the disk tells them; the status
+-- that was judged by them, which is the answer unless the sink failed; and its text, which the sink took
+pub record IsAsked (asked : Option Question) (old new : Moment) (sink : SinkSeen) (answered : Status) : Type 0 where
+  pub bytes : List ℕ
+  pub told : IsTrue old.tells → bytes ≡ old.seen.log
+  pub judged : Status
+  pub by : IsAskJudged asked old new bytes judged
+  pub text : List ℕ
+  pub answer : judged ≡ status.Done → IsSomeAnd asked (λ q. IsAnswerTo q old bytes text)
+  pub refusal : judged ≢ status.Done → text ≡ status_text judged
+  pub stands : (answered ≡ judged) ⊎ (answered ≡ status.WriteFault)
+  pub whole : answered ≢ status.WriteFault → IsTrue sink.tells → sink.after ≡ sink.before ++ text
+  pub part : answered ≡ status.WriteFault → IsTrue sink.tells → IsPartOfText text sink.before sink.after
+
+-- the records are those of a log area with these bytes, and well logged
+pub record IsLogOf (bytes : List ℕ) (list : List Record) : Type 0 where
+  pub held : Held
+  pub image : image_of bytes ≡ Ok held
+  pub list_is : held.list ≡ list
+  pub logged : IsWellLogged list
+
+-- what is judged of a query to the graph of records, and its text
+abbrev pub IsAnswered : List Record → Query → Form → Status → List ℕ → Type 0
+IsAnswered list query form status.Done text = ((n : Node) → ¬ (IsAbsent list query n)) × IsAnswerText list query form text
+IsAnswered list query form (status.NoObject node) text = IsAbsent list query node × ((n : Node) → IsAbsent list query n → n ≡ node)
+IsAnswered list query form status.NoMemory text = Unit {0}
+IsAnswered list query form _ text = ⊥
+
+-- a question was read, or bad words, unless memory was refused
+abbrev pub IsQuestionRead : Result Question Status → Type 0
+IsQuestionRead (Ok question) = Unit {0}
+IsQuestionRead (Err status.BadWords) = Unit {0}
+IsQuestionRead (Err status.NoMemory) = Unit {0}
+IsQuestionRead (Err _) = ⊥
+
+abbrev pub asked_in : Result Question Status → Option Question
+asked_in (Ok question) = Some question
+asked_in (Err judged) = None

@@ -1,5 +1,5 @@
 -- The nodes of a list, as tests find them.
-use Rattle.std.proofs.Common.{ℕ, ◌≡◌, ◌<◌, zero, suc, Bool, true, false, ◌⊎◌, inl, inr, refl, sym, ap, ◌∙◌, List, [], ◌∷◌, length, take, get_or, arith}
+use Rattle.std.proofs.Common.{ℕ, ◌≡◌, ◌<◌, zero, suc, Bool, true, false, refl, sym, ap, ◌∙◌, List, [], ◌∷◌, length, take, get_or, arith}
 use Rattle.std.specs.Prelude.{Some, slice_get, Contains}
 use Rattle.std.specs.List.{list_any, IsDistinct}
 use Rattle.std.proofs.lemmas.List.{get_or-take}
@@ -32,10 +32,6 @@ not_there nodes n none = not_any (list_any (same_node n) nodes) (λ any. none (t
 
 pub true_false : (b : Bool) → b ≡ true → b ≡ false → ⊥
 true_false b so not_so = let z : true ≡ false = sym so ∙ not_so in cc
-
-pub true_or_not : (b : Bool) → (b ≡ true) ⊎ (b ≡ false)
-true_or_not true = inl refl
-true_or_not false = inr refl
 
 -- no element stands in a list of none
 pub nothing_there : {X : Type 0} (x : X) → Contains [] x → ⊥

@@ -1,12 +1,13 @@
 //! A process at work: its line, and the places that it holds.
 ghost use Rattle.std.specs.Prelude.{◌≡◌, ◌<◌, ◌≤◌, ◌^◌, IsSomeAnd, IfErr, OnOk, OnErr, None, length};
 ghost use mathlib.Core.List.{IsPrefix};
+ghost use Rattle.pass_plain.specs.Legal.{IsLegal};
 ghost use Rattle.pass_plain.specs.Places.{call_places, freed_places, left_for};
 ghost use Rattle.pass_hold.specs.Callers.{caller_of, moved_on};
 ghost use Rattle.pass_hold.specs.Callings.{HasLooked};
 ghost use Rattle.pass_hold.specs.Places.{HasRoom, IsKept};
 
-use crate::claims::{line_in, line_out};
+use crate::claims::{line_in, line_out, seen_by};
 use crate::shelf::Shelf;
 use crate::whose::Whose;
 use pass_book::{Claim, Full, Note};
@@ -61,6 +62,14 @@ impl<J: Whose> Caller<J> {
         ensures call { self.now.held ≡ call_places self.now.seen self.now.who }
     {
         self.held
+    }
+
+    /// How many entries the process has seen of the history.
+    pub fn seen(&self) -> u64
+        ensures seen { result ≡ length self.now.seen }
+        ensures legal { IsLegal J.book.session self.now.seen }
+    {
+        seen_by(&self.claim)
     }
 
     /// Sees to it that there are places for a new call. It claims none: they are claimed with the call's first entry. Where fewer are

@@ -1,5 +1,5 @@
 //! What lies in a claim beside its places, put in and taken out.
-ghost use Rattle.std.specs.Prelude.{◌≡◌, ◌+◌, ◌≤◌, [], None, Some, IsSomeAnd, length};
+ghost use Rattle.std.specs.Prelude.{◌≡◌, ◌+◌, ◌≤◌, [], None, Some, IsSome, IfSome, IsSomeAnd, length};
 
 use pass_book::{Book, Claim, Last, Line, Slip};
 
@@ -23,6 +23,17 @@ pub(crate) fn line_out(claim: &mut Claim) -> Option<Line>
     ensures claim { claim.new ≡ record claim.old { line = None } }
 {
     claim.line.take()
+}
+
+/// How many entries the holder of a claim's line has seen.
+pub(crate) fn seen_by(claim: &Claim) -> u64
+    requires { IsSome claim.now.line }
+    ensures { IfSome claim.now.line (λ line. result ≡ length line.seen) }
+{
+    match &claim.line {
+        Some(line) => line.seen(),
+        None => unreachable!(),
+    }
 }
 
 /// Lays a line into a claim.

@@ -89,6 +89,14 @@ impl<J: Whose> Shelf<J> {
         self.book.look(line);
     }
 
+    /// What the book has now. It takes no memory.
+    pub fn note(&mut self) -> Note
+        ensures shelf { self.new ≡ self.old }
+        ensures note { result ≡ record { book = J.book; seen = self.old.history; syncs = self.old.syncs } }
+    {
+        self.book.note()
+    }
+
     /// The records of the entries from a place on, in parts for the log, and what the book has now.
     pub fn parts(&mut self, from: u64) -> Result<(Vec<Vec<Record>>, Note), AllocError>
         ensures shelf { self.new ≡ self.old }

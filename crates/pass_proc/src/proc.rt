@@ -82,6 +82,13 @@ impl<J: Whose> Proc<J> {
         self.number
     }
 
+    /// How many entries the process has seen of the history.
+    pub fn seen(&self) -> u64
+        ensures { result ≡ length self.now.seen }
+    {
+        self.caller.seen()
+    }
+
     /// The bytes of its last answered read: none before the first one and after an exec.
     pub fn last(&self) -> &[u8]
         ensures { result.now ≡ self.now.state.last_read }

@@ -7,7 +7,7 @@ use pass_book::{Book, Claim, Desk, Full, Line, Slip};
 use pass_entry::{Act, Ask, CallFault, CallName, Entry, Pnode, Reply};
 use pass_hold::{Caller, Shelf, Whose};
 use std::alloc::Global;
-use std::marker::{Model, PhantomData};
+use std::marker::Model;
 
 /// A process that holds no descriptor 3, with its own desk and the number of its last call. Both have seen the same.
 #[derive(Drop)]

@@ -1,3 +1,4 @@
+pub mod Beginnings
 pub mod Births
 pub mod Denials
 pub mod Endings

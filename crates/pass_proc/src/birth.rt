@@ -5,7 +5,7 @@ ghost use Rattle.pass_plain.specs.Places.{keeps};
 ghost use Rattle.pass_plain.specs.Processes.{new_process};
 ghost use Rattle.pass_plain.specs.Sessions.{is_opened};
 ghost use Rattle.pass_plain.specs.Versions.{nodes_of, source_in};
-ghost use Rattle.pass_book.specs.Openings.{new_desk};
+ghost use Rattle.pass_book.specs.Openings.{fresh_desk, fresh_last, fresh_line, new_desk};
 ghost use Rattle.pass_hold.specs.Callers.{moved_on};
 ghost use Rattle.pass_hold.specs.Callings.{IsEntered};
 ghost use Rattle.pass_proc.specs.Births.{birth_entry};
@@ -77,6 +77,24 @@ fn last_out(desk: &mut Desk) -> Option<Last>
     ensures desk { desk.new ≡ record desk.old { last = None } }
 {
     desk.last.take()
+}
+
+/// Takes the line and the last out of the desk of an object that is new.
+pub(crate) fn parted<J: Whose>(desk: Desk, pnode: Pnode) -> (Desk, Line, Last)
+    requires { desk ≡ new_desk J.book pnode }
+    ensures desk { result.0 ≡ fresh_desk J.book pnode None None }
+    ensures line { result.1 ≡ fresh_line J.book pnode }
+    ensures last { result.2 ≡ fresh_last J.book pnode }
+{
+    let mut desk = desk;
+    let Some(line) = line_out(&mut desk) else {
+        unreachable!()
+    };
+    let Some(last) = last_out(&mut desk) else {
+        unreachable!()
+    };
+    let _ = pnode;
+    (desk, line, last)
 }
 
 impl<J: Whose> Proc<J> {

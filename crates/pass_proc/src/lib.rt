@@ -8,6 +8,7 @@ mod desk;
 mod ended;
 mod exec;
 mod holdings;
+mod opening;
 mod proc;
 mod refusals;
 mod refusing;

@@ -102,7 +102,9 @@ impl<J: Whose> Shelf<J> {
         ensures shelf { self.new ≡ self.old }
         ensures note { IfOk result (λ r. r.1 ≡ record { book = J.book; seen = self.old.history; syncs = self.old.syncs }) }
         ensures parts { IfOk result (λ r. AreParts J.book.session self.old.history from (lists_of r.0.items)) }
+        ensures few { length self.old.history ≤ 16777216 }
     {
+        let _ = self.book.len();
         let Ok(parts) = self.book.parts(from) else {
             return Err(AllocError);
         };

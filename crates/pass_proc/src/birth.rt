@@ -156,7 +156,7 @@ impl<J: Whose> Proc<J> {
         let (_, born) = parent.born(shelf, &mut desk, line, slip, entry);
         (
             Proc::begin(alloc, desk, born, versions, held),
-            Living::of(last),
+            Living::of(child, last),
         )
     }
 }

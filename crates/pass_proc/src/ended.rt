@@ -26,6 +26,7 @@ use std::marker::{Model, PhantomData};
 /// The right to end a process, which lies in the process's slot as long as the process lives.
 #[derive(Drop)]
 pub struct Living<J: Whose> {
+    who: Pnode,
     last: Last,
     whose: PhantomData<J>,
 }
@@ -40,21 +41,29 @@ impl<J: Whose> Model for Living<J> {
 
     ghost coded = { Prim.hlevel (codes, entry_type.the_row.coded) };
 
-    ghost view = { λ l. record { who = l.last.what; seen = l.last.seen } };
+    ghost view = { λ l. record { who = l.who; seen = l.last.seen } };
 
-    ghost invariant = { λ l. l.last.book ≡ J.book };
+    ghost invariant = { λ l. (l.last.book ≡ J.book) × (l.last.what ≡ l.who) };
 }
 
 impl<J: Whose> Living<J> {
     /// A process that has begun.
-    pub fn of(last: Last) -> Living<J>
-        requires { last.book ≡ J.book }
-        ensures { result ≡ record { who = last.what; seen = last.seen } }
+    pub fn of(who: Pnode, last: Last) -> Living<J>
+        requires { (last.book ≡ J.book) × (last.what ≡ who) }
+        ensures { result ≡ record { who = who; seen = last.seen } }
     {
         Living {
+            who,
             last,
             whose: PhantomData,
         }
+    }
+
+    /// The process's number as an object.
+    pub fn pnode(&self) -> Pnode
+        ensures { result ≡ self.now.who }
+    {
+        self.who
     }
 
     /// It sees what the holder of a note had seen. Where it is found here, the process has not ended in that.
@@ -160,7 +169,11 @@ impl<J: Whose> ProcessDesk<J> {
             mut desk,
             whose: _,
         } = self;
-        let Living { last, whose: _ } = living;
+        let Living {
+            who: _,
+            last,
+            whose: _,
+        } = living;
         let entry = Entry {
             who,
             number,

@@ -73,6 +73,6 @@ impl<J: Whose> Proc<J> {
         };
         let versions = Versions::new(alloc, pnode, 1, false);
         let proc = Proc::begin(alloc, desk, caller, versions, Descriptors::new());
-        Ok((proc, Living::of(last)))
+        Ok((proc, Living::of(pnode, last)))
     }
 }

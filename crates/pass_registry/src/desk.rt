@@ -1,5 +1,6 @@
 //! The registry, as it lies under its lock.
 ghost use Rattle.std.specs.Prelude.{◌≡◌, ◌≤◌, ◌+◌, ◌^◌, ◌↔◌, [], false, length, vec_capacity, IfOk, IfSome, IsSome, OnOk, OnErr};
+ghost use Rattle.std.specs.FinMap as finite_map;
 ghost use mathlib.Core.List.{IsPrefix};
 ghost use Rattle.pass_entry.specs.declared.entry.Act.TheVariants as act;
 ghost use Rattle.pass_entry.specs.declared.entry.CallName.TheVariants as calls;
@@ -20,7 +21,7 @@ ghost use Rattle.pass_registry.specs.States.{IsOf};
 use crate::registry::Registry;
 use crate::rooms::{BindRoom, MoveRoom, UnbindRoom};
 use crate::slips::{bind_slip, mint_slip, move_slip, unbind_slip};
-use pass_book::{Desk, Slip};
+use pass_book::{Desk, Note, Slip};
 use pass_entry::{Act, CallFault, CallName, Entry, Kind, Pnode, Record, Reply, Text};
 use pass_hold::{Caller, Shelf, Whose};
 use std::alloc::{AllocError, Global};
@@ -132,6 +133,26 @@ impl<J: Whose> RegistryDesk<J> {
         ensures some { IsSome result ↔ Exists (registry_after J.book.session self.now.seen) file kinds.File }
     {
         self.registry.number(file)
+    }
+
+    /// The file that has the name now.
+    pub fn named(&self, name: &Text) -> Option<Pnode>
+        ensures { result ≡ finite_map.get (registry_after J.book.session self.now.seen).names name.now }
+    {
+        match self.registry.find(name) {
+            Ok(file) => Some(file),
+            Err(_) => None,
+        }
+    }
+
+    /// It sees what the holder of a note had seen.
+    pub fn meet(&mut self, note: Note)
+        requires { note.book ≡ J.book }
+        ensures same { self.new ≡ record self.old { seen = self.new.seen } }
+        ensures begins { IsPrefix self.old.seen self.new.seen }
+        ensures told { IsPrefix note.seen self.new.seen }
+    {
+        self.desk.meet(note);
     }
 
     /// It sees the whole history.

@@ -9,9 +9,6 @@ use Rattle.pass_log.specs.LogImage.{IsRead, held_in}
 use Rattle.pass_log.specs.Records.{Held, image_of}
 use Rattle.pass_outside.specs.Moments.{Moment, IsAtEnd}
 use Rattle.pass_plain.specs.WellLogged.{first_flaw, IsWellLogged}
-use Rattle.pass_query.specs.Questions.{IsAbsent, IsAnswerText}
-use Rattle.pass_query.specs.declared.question.Form.{Form}
-use Rattle.pass_query.specs.declared.question.Query.{Query}
 use Rattle.pass_range.specs.declared.range.Range.{Range}
 use Rattle.pass_range.specs.Tables.{AreUnmatched}
 use Rattle.pass_recover.specs.declared.fault.OpenFault.{OpenFault}
@@ -24,8 +21,10 @@ use Rattle.pass_run.specs.Stores.{store_fault, image_fault}
 use Rattle.pass_cli.specs.Answers.{is_reported}
 use Rattle.pass_cli.specs.Asked.{IsAskJudged, IsAnswered, IsAnswerTo, IsLogOf, IsQuestionRead, IsUnknown, asked_in}
 use Rattle.pass_cli.specs.Checks.{check_text}
+use Rattle.pass_cli.specs.GraphAnswers.{IsGraphText, IsMissing}
+use Rattle.pass_cli.specs.declared.words.GraphQuestion.{GraphQuestion}
 use Rattle.pass_cli.specs.declared.words.Question.{Question}
-use Rattle.pass_cli.specs.declared.words.Question.TheVariants.{Check, Lineage}
+use Rattle.pass_cli.specs.declared.words.Question.TheVariants.{Check, Graph}
 
 -- words that ask nothing
 pub words_judged : (m : Moment) (bytes : List ℕ) → IsAskJudged None m m bytes status.BadWords
@@ -185,12 +184,12 @@ opened_judges old new image unmatched judged text (bytes, told, read) sound tell
 opened_judges old new image unmatched judged text read sound tells still same known (inr starved) = absurd (known starved)
 
 -- a log that was read, and what its graph answers
-pub answered_judges : (old new : Moment) (list : List Record) (query : Query) (form : Form) (judged : Status) (text : List ℕ) → LogHas old (λ bytes. IsLogOf bytes list)
-    → new.faults ≡ old.faults → new.seen ≡ old.seen → judged ≢ status.NoMemory → IsAnswered list query form judged text → Judges (Lineage query form) old new judged text
-answered_judges old new list query form judged text (bytes, told, of) still same known answered = (bytes, told, by judged known answered)
+pub answered_judges : (old new : Moment) (list : List Record) (asked : GraphQuestion) (judged : Status) (text : List ℕ) → LogHas old (λ bytes. IsLogOf bytes list)
+    → new.faults ≡ old.faults → new.seen ≡ old.seen → judged ≢ status.NoMemory → IsAnswered list asked judged text → Judges (Graph asked) old new judged text
+answered_judges old new list asked judged text (bytes, told, of) still same known answered = (bytes, told, by judged known answered)
   where
     q : Question
-    q = Lineage query form
+    q = Graph asked
 
     sound : first_flaw of.held.list ≡ None
     sound = subst IsWellLogged (sym of.list_is) of.logged
@@ -202,16 +201,16 @@ answered_judges old new list query form judged text (bytes, told, of) still same
         held_is is = cc
 
     -- a node that this log hasn't is one that the graph hasn't
-    absent : (node : Node) → IsUnknown q bytes node → IsAbsent list query node
-    absent node (other, holds, is) = subst (λ l. IsAbsent l query node) of.list_is (subst (λ (h : Held). IsAbsent h.list query node) (sym (same_held other holds)) is)
+    absent : (node : Node) → IsUnknown q bytes node → IsMissing list asked node
+    absent node (other, holds, is) = subst (λ l. IsMissing l asked node) of.list_is (subst (λ (h : Held). IsMissing h.list asked node) (sym (same_held other holds)) is)
 
-    unknown : (node : Node) → IsAbsent list query node → IsUnknown q bytes node
-    unknown node is = (of.held, of.image, subst (λ l. IsAbsent l query node) (sym of.list_is) is)
+    unknown : (node : Node) → IsMissing list asked node → IsUnknown q bytes node
+    unknown node is = (of.held, of.image, subst (λ l. IsMissing l asked node) (sym of.list_is) is)
 
-    by : (s : Status) → s ≢ status.NoMemory → IsAnswered list query form s text → IsAskJudged (Some q) old new bytes s × (s ≡ status.Done → IsAnswerTo q old bytes text)
+    by : (s : Status) → s ≢ status.NoMemory → IsAnswered list asked s text → IsAskJudged (Some q) old new bytes s × (s ≡ status.Done → IsAnswerTo q old bytes text)
     by status.Done known (none, says) = (
       done_judged q old new bytes still same of.held of.image sound (λ node is. none node (absent node is)),
-      λ done. (of.held, of.image, subst (λ l. IsAnswerText l query form text) (sym of.list_is) says),
+      λ done. (of.held, of.image, subst (λ l. IsGraphText l asked text) (sym of.list_is) says),
     )
     by (status.NoObject node) known (is, alone) = (
       object_judged q old new bytes still same of.held of.image sound node (unknown node is) (λ other also. alone other (absent other also)),

@@ -1,8 +1,8 @@
--- Words that are too few or too many for a query.
-use Rattle.std.proofs.Common.{◌≡◌, ◌<◌, ◌≤◌, List, [], ◌∷◌, length, refl, arith}
+-- Words that are too few or too many for a question.
+use Rattle.std.proofs.Common.{◌≡◌, ◌<◌, ◌≤◌, false, List, [], ◌∷◌, length, refl, arith}
 use Rattle.std.specs.Prelude.{None, map}
 use Rattle.std.specs.Borrow.{Bor}
-use Rattle.pass_cli.specs.Words.{Text, query_in}
+use Rattle.pass_cli.specs.Words.{Text, query_in, recipe_in}
 
 pub too_few : (name : Text) (words : List (Bor Text)) → length words < 1 → query_in name (map (λ w. w.now) words) ≡ None
 too_few name [] few = refl
@@ -13,3 +13,12 @@ too_many name [] many = absurd (omega arith)
 too_many name (x ∷ []) many = absurd (omega arith)
 too_many name (x ∷ y ∷ []) many = absurd (omega arith)
 too_many name (x ∷ y ∷ z ∷ words) many = refl
+
+pub no_recipe : (words : List (Bor Text)) → length words < 1 → recipe_in false (map (λ w. w.now) words) ≡ None
+no_recipe [] few = refl
+no_recipe (x ∷ words) few = absurd (omega arith)
+
+pub recipe_too_long : (words : List (Bor Text)) → 2 ≤ length words → recipe_in false (map (λ w. w.now) words) ≡ None
+recipe_too_long [] many = absurd (omega arith)
+recipe_too_long (x ∷ []) many = absurd (omega arith)
+recipe_too_long (x ∷ y ∷ words) many = refl

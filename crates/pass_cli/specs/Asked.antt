@@ -5,9 +5,6 @@ use Rattle.pass_entry.specs.declared.record.Record.{Record}
 use Rattle.pass_log.specs.Records.{Held, image_of}
 use Rattle.pass_outside.specs.Moments.{Moment}
 use Rattle.pass_plain.specs.WellLogged.{IsWellLogged}
-use Rattle.pass_query.specs.Questions.{IsAbsent, IsAnswerText}
-use Rattle.pass_query.specs.declared.question.Form.{Form}
-use Rattle.pass_query.specs.declared.question.Query.{Query}
 use Rattle.pass_recover.specs.declared.fault.OpenFault.{OpenFault}
 use Rattle.pass_run.specs.declared.status.Status.{Status}
 use Rattle.pass_run.specs.declared.status.Status.TheVariants as status
@@ -16,18 +13,20 @@ use Rattle.pass_run.specs.Stores.{store_fault}
 use Rattle.pass_run.specs.Writing.{IsPartOfText}
 use Rattle.pass_cli.specs.Answers.{SinkSeen, IsNoDiskFault, HasFailed}
 use Rattle.pass_cli.specs.Checks.{IsCheckText}
+use Rattle.pass_cli.specs.GraphAnswers.{IsGraphText, IsMissing}
+use Rattle.pass_cli.specs.declared.words.GraphQuestion.{GraphQuestion}
 use Rattle.pass_cli.specs.declared.words.Question.{Question}
-use Rattle.pass_cli.specs.declared.words.Question.TheVariants.{Check, Lineage}
+use Rattle.pass_cli.specs.declared.words.Question.TheVariants.{Check, Graph}
 
 -- the text that answers a question, for a log area with these bytes
 abbrev pub IsAnswerTo : Question → Moment → List ℕ → List ℕ → Type 0
 IsAnswerTo Check old bytes text = IsCheckText old bytes text
-IsAnswerTo (Lineage query form) old bytes text = (held : Held) × (image_of bytes ≡ Ok held) × IsAnswerText held.list query form text
+IsAnswerTo (Graph q) old bytes text = (held : Held) × (image_of bytes ≡ Ok held) × IsGraphText held.list q text
 
 -- the question is about this node, the first one given that the graph of the log hasn't
 abbrev pub IsUnknown : Question → List ℕ → Node → Type 0
 IsUnknown Check bytes node = ⊥
-IsUnknown (Lineage query form) bytes node = (held : Held) × (image_of bytes ≡ Ok held) × IsAbsent held.list query node
+IsUnknown (Graph q) bytes node = (held : Held) × (image_of bytes ≡ Ok held) × IsMissing held.list q node
 
 -- the log has no fault
 abbrev pub IsSoundLog : List ℕ → Status → Type 0
@@ -67,12 +66,12 @@ pub record IsLogOf (bytes : List ℕ) (list : List Record) : Type 0 where
   pub list_is : held.list ≡ list
   pub logged : IsWellLogged list
 
--- what is judged of a query to the graph of records, and its text
-abbrev pub IsAnswered : List Record → Query → Form → Status → List ℕ → Type 0
-IsAnswered list query form status.Done text = ((n : Node) → ¬ (IsAbsent list query n)) × IsAnswerText list query form text
-IsAnswered list query form (status.NoObject node) text = IsAbsent list query node × ((n : Node) → IsAbsent list query n → n ≡ node)
-IsAnswered list query form status.NoMemory text = Unit {0}
-IsAnswered list query form _ text = ⊥
+-- what is judged of a question to the graph of records, and its text
+abbrev pub IsAnswered : List Record → GraphQuestion → Status → List ℕ → Type 0
+IsAnswered list q status.Done text = ((n : Node) → ¬ (IsMissing list q n)) × IsGraphText list q text
+IsAnswered list q (status.NoObject node) text = IsMissing list q node × ((n : Node) → IsMissing list q n → n ≡ node)
+IsAnswered list q status.NoMemory text = Unit {0}
+IsAnswered list q _ text = ⊥
 
 -- a question was read, or bad words, unless memory was refused
 abbrev pub IsQuestionRead : Result Question Status → Type 0

@@ -18,8 +18,10 @@ use Rattle.pass_cli.specs.Line.{command_line}
 use Rattle.pass_cli.specs.Numbers.{number_in, node_in}
 use Rattle.pass_cli.specs.declared.words.Command.{Command}
 use Rattle.pass_cli.specs.declared.words.Command.TheVariants.{Run, Ask}
+use Rattle.pass_cli.specs.declared.words.GraphQuestion.{GraphQuestion}
+use Rattle.pass_cli.specs.declared.words.GraphQuestion.TheVariants.{Lineage, Recipe}
 use Rattle.pass_cli.specs.declared.words.Question.{Question}
-use Rattle.pass_cli.specs.declared.words.Question.TheVariants.{Check, Lineage}
+use Rattle.pass_cli.specs.declared.words.Question.TheVariants.{Check, Graph}
 
 abbrev pub Text : Type 0
 Text = List ℕ
@@ -67,6 +69,17 @@ abbrev pub form_of : Bool → Form
 form_of true = Json
 form_of false = Lines
 
+-- recipe NODE
+abbrev pub recipe_in : Bool → List Text → Option GraphQuestion
+recipe_in false (word ∷ []) = option_map Recipe (node_in word)
+recipe_in _ _ = None
+
+-- a question to the graph
+abbrev pub graph_in : Bool → Text → List Text → Option GraphQuestion
+graph_in json name words =
+    if is_text name (codes "recipe") then recipe_in json words
+    else option_map (λ query. Lineage query (form_of json)) (query_in name words)
+
 -- The command by whether --json is given, what --workers gives, COMMAND and its words. --workers goes with run alone, --json with the
 -- queries alone.
 abbrev pub command_in : Bool → Option Text → Text → List Text → Option Command
@@ -74,7 +87,7 @@ command_in json workers name words =
     if is_text name (codes "run") then run_in json workers words
     else if is_text name (codes "check") then check_in json workers words
     else if is_some workers then None
-    else option_map (λ query. Ask (Lineage query (form_of json))) (query_in name words)
+    else option_map (λ q. Ask (Graph q)) (graph_in json name words)
 
 -- a flag that was given has the value true
 abbrev pub is_set : Option Text → Bool

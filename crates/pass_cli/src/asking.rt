@@ -9,13 +9,14 @@ ghost use Rattle.pass_cli.specs.Checks.{check_text};
 ghost use Rattle.pass_cli.specs.Words.{Reads, command_of, question_in, question_of};
 ghost use Rattle.pass_cli.specs.declared.words.Question.{Question};
 
+use crate::graph::graph_answer;
 use crate::listing::check_answer;
 use crate::opening::open_index;
-use crate::words::{Command, Question, read_words};
+use crate::words::{Command, GraphQuestion, Question, read_words};
 use crate::writing::write_answer;
 use pass_entry::Record;
 use pass_outside::{Disk, Sink};
-use pass_query::{Form, Query, QueryFault, answer};
+use pass_query::QueryFault;
 use pass_range::Range;
 use pass_recover::recover;
 use pass_run::{Status, opening_status};
@@ -115,7 +116,7 @@ fn judge_words<D: Disk>(alloc: Global, question: Result<Question, Status>, disk:
 {
     match question {
         Ok(Question::Check) => judge_store(alloc, disk),
-        Ok(Question::Lineage { query, form }) => judge_query(alloc, &query, form, disk),
+        Ok(Question::Graph(question)) => judge_graph(alloc, &question, disk),
         Err(status) => refused(alloc, status),
     }
 }
@@ -150,11 +151,11 @@ fn judge_opening(alloc: Global, list: &[Record], unmatched: &[Range]) -> Judged
     }
 }
 
-// Opens the log, and judges what the query asks of its graph.
-fn judge_query<D: Disk>(alloc: Global, query: &Query, form: Form, disk: &mut D) -> Judged
+// Opens the log, and judges what is asked of its graph.
+fn judge_graph<D: Disk>(alloc: Global, question: &GraphQuestion, disk: &mut D) -> Judged
     ensures judged { result.status ≢ Status.NoMemory → LogHas (D.view disk.old)
-        (λ bytes. IsAskJudged (Some (Question.Lineage query.now form)) (D.view disk.old) (D.view disk.new) bytes result.status
-        × (result.status ≡ Status.Done → IsAnswerTo (Question.Lineage query.now form) (D.view disk.old) bytes result.text.items)) }
+        (λ bytes. IsAskJudged (Some (Question.Graph question.now)) (D.view disk.old) (D.view disk.new) bytes result.status
+        × (result.status ≡ Status.Done → IsAnswerTo (Question.Graph question.now) (D.view disk.old) bytes result.text.items)) }
     ensures reported { IsTrue (is_reported result.status) → result.status ≡ Status.Done }
     ensures unwritten { result.status ≢ Status.WriteFault }
     ensures alone { IsLeftAlone (D.view disk.old) (D.view disk.new) }
@@ -162,18 +163,18 @@ fn judge_query<D: Disk>(alloc: Global, query: &Query, form: Form, disk: &mut D) 
 {
     let opened = disk.faults();
     match open_index(alloc, disk) {
-        Ok(index) => judge_answer(alloc, &index, query, form),
+        Ok(index) => judge_answer(alloc, &index, question),
         Err(fault) => refused(alloc, opening_status(fault, opened, disk.faults())),
     }
 }
 
 // What the graph answers.
-fn judge_answer(alloc: Global, index: &Index, query: &Query, form: Form) -> Judged
-    ensures answered { IsAnswered index.now query.now form result.status result.text.items }
+fn judge_answer(alloc: Global, index: &Index, question: &GraphQuestion) -> Judged
+    ensures answered { IsAnswered index.now question.now result.status result.text.items }
     ensures reported { IsTrue (is_reported result.status) → result.status ≡ Status.Done }
     ensures unwritten { result.status ≢ Status.WriteFault }
 {
-    match answer(alloc, index, query, form) {
+    match graph_answer(alloc, index, question) {
         Ok(text) => Judged {
             status: Status::Done,
             text,

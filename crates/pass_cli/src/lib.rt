@@ -3,6 +3,7 @@
 
 mod asking;
 mod counting;
+mod graph;
 mod line;
 mod listing;
 mod main_call;

@@ -1,15 +1,16 @@
 //! The commands of the program, and how its words name them.
 ghost use Rattle.std.specs.Prelude.{◌≡◌, ◌≢◌, ◌⊎◌, ◌≤◌, IfOk, IfSome, IsSome, IsTrue, map, option_map, string_bytes};
 ghost use Rattle.clap.specs.Words.{found_of, kind_of, rows_of};
-ghost use Rattle.pass_cli.specs.Words.{Reads, HasWorkers, check_in, command_found, command_in, command_of, form_of, question_of, is_set, path_on, query_in, query_on, name_in, run_in, workers_in};
+ghost use Rattle.pass_cli.specs.Words.{Reads, HasWorkers, check_in, command_found, command_in, command_of, form_of, graph_in, question_of, is_set, path_on, query_in, query_on, name_in, recipe_in, run_in, workers_in};
 ghost use Rattle.pass_cli.specs.Numbers.{node_in};
 ghost use Rattle.pass_query.specs.declared.question.Query.{Query};
+ghost use Rattle.pass_cli.specs.declared.words.GraphQuestion.{GraphQuestion};
 
 use crate::line::command_line;
 use crate::numbers::{node_in, number_in};
 use clap::error::ErrorKind;
 use clap::{ArgMatches, Error};
-use pass_entry::{Text, TextFault};
+use pass_entry::{Node, Text, TextFault};
 use pass_query::{Form, Query};
 use pass_run::Status;
 use std::alloc::Global;
@@ -20,13 +21,22 @@ const WORKERS: u32 = 4;
 /// How many workers may take turns.
 const MOST_WORKERS: u64 = 64;
 
+/// A question to the graph of the log.
+#[derive(Debug, Drop)]
+pub enum GraphQuestion {
+    /// What came from what, or which files had a name.
+    Lineage { query: Query, form: Form },
+    /// By which steps the node can be made again.
+    Recipe(Node),
+}
+
 /// A question about the store, which is answered without writing to it.
 #[derive(Debug, Drop)]
 pub enum Question {
     /// What the store has, and which data differ from what was recorded.
     Check,
-    /// A question to the graph of the log.
-    Lineage { query: Query, form: Form },
+    /// What its graph answers.
+    Graph(GraphQuestion),
 }
 
 /// What the program's words ask for.
@@ -120,9 +130,8 @@ fn command_in(
     if workers.is_some() {
         return Err(Status::BadWords);
     }
-    let query = query_in(alloc, name, words)?;
-    let form = form_of(json);
-    Ok(Command::Ask(Question::Lineage { query, form }))
+    let question = graph_in(alloc, json, name, words)?;
+    Ok(Command::Ask(Question::Graph(question)))
 }
 
 // Words that name no command are bad ones.
@@ -174,6 +183,41 @@ fn form_of(json: bool) -> Form
     ensures { result ≡ form_of json }
 {
     if json { Form::Json } else { Form::Lines }
+}
+
+// The question to the graph.
+fn graph_in(alloc: Global, json: bool, name: &[u8], words: &[&str]) -> Result<GraphQuestion, Status>
+    ensures { Reads result (graph_in json name.now (map (λ w. w.now) words.now)) }
+{
+    if name == b"recipe".as_slice() {
+        return recipe_in(json, words);
+    }
+    let query = query_in(alloc, name, words)?;
+    let form = form_of(json);
+    Ok(GraphQuestion::Lineage { query, form })
+}
+
+#[tactic(auto, using(crate::proofs::Listed::no_recipe, crate::proofs::Listed::recipe_too_long))]
+fn recipe_in(json: bool, words: &[&str]) -> Result<GraphQuestion, Status>
+    ensures { Reads result (recipe_in json (map (λ w. w.now) words.now)) }
+{
+    if json {
+        return Err(Status::BadWords);
+    }
+    match words {
+        [] => Err(Status::BadWords),
+        [word] => recipe_of(word.as_bytes()),
+        [_, _, ..] => Err(Status::BadWords),
+    }
+}
+
+fn recipe_of(word: &[u8]) -> Result<GraphQuestion, Status>
+    ensures { Reads result (option_map GraphQuestion.Recipe (node_in word.now)) }
+{
+    match node_in(word) {
+        Some(node) => Ok(GraphQuestion::Recipe(node)),
+        None => Err(Status::BadWords),
+    }
 }
 
 #[tactic(auto, using(crate::proofs::Listed::too_few, crate::proofs::Listed::too_many))]

@@ -2,7 +2,7 @@ use Rattle.std.proofs.Common.{◌≡◌, ◌∙◌, sym, ap, subst}
 use Rattle.std.specs.Prelude.{Err, Option, Some, None}
 use Rattle.pass_cli.specs.Asked.{IsQuestionRead, asked_in}
 use Rattle.pass_cli.specs.declared.words.Question.{Question}
-use Rattle.pass_cli.specs.declared.words.Question.TheVariants.{Check, Lineage}
+use Rattle.pass_cli.specs.declared.words.Question.TheVariants.{Check, Graph}
 use Rattle.pass_cli.proofs.Answering.{for_question, refused_judges, refused_reports, refused_writes}
 use Rattle.pass_cli.proofs.Commands.{ok_same}
 use Rattle.pass_cli.proofs.asking.judge_words.Goals as goal
@@ -18,14 +18,14 @@ returns-in-Ok-Check-clause-judged g c = λ known.
 pub returns-in-Ok-Check-clause-unopened : goal.returns-in-Ok-Check-clause-unopened
 returns-in-Ok-Check-clause-unopened g c = λ none. absurd (no_question (asked_in c.args.question) Check (ap asked_in (ok_same c.args.question c.in-Ok-Check.field-0 Check c.in-Ok-Check.is c.in-Ok-Check.field-0-is)) none)
 
-pub returns-in-Ok-Lineage-clause-judged : goal.returns-in-Ok-Lineage-clause-judged
-returns-in-Ok-Lineage-clause-judged g c = λ known.
-    for_question (asked_in c.args.question) (Lineage c.in-Ok-Lineage.query c.in-Ok-Lineage.form) (g.D.Disk.view c.args.disk.now) (g.D.Disk.view c.judge_query.new.disk)
-    c.judge_query.result.status c.judge_query.result.text.items (ap asked_in (ok_same c.args.question c.in-Ok-Lineage.field-0 (Lineage c.in-Ok-Lineage.query c.in-Ok-Lineage.form) c.in-Ok-Lineage.is c.in-Ok-Lineage.field-0-is)) (c.judge_query.ensures.judged known)
+pub returns-in-Ok-Graph-clause-judged : goal.returns-in-Ok-Graph-clause-judged
+returns-in-Ok-Graph-clause-judged g c = λ known.
+    for_question (asked_in c.args.question) (Graph c.in-Ok-Graph.question) (g.D.Disk.view c.args.disk.now) (g.D.Disk.view c.judge_graph.new.disk)
+    c.judge_graph.result.status c.judge_graph.result.text.items (ap asked_in (ok_same c.args.question c.in-Ok-Graph.field-0 (Graph c.in-Ok-Graph.question) c.in-Ok-Graph.is c.in-Ok-Graph.field-0-is)) (c.judge_graph.ensures.judged known)
 
-pub returns-in-Ok-Lineage-clause-unopened : goal.returns-in-Ok-Lineage-clause-unopened
-returns-in-Ok-Lineage-clause-unopened g c = λ none.
-    absurd (no_question (asked_in c.args.question) (Lineage c.in-Ok-Lineage.query c.in-Ok-Lineage.form) (ap asked_in (ok_same c.args.question c.in-Ok-Lineage.field-0 (Lineage c.in-Ok-Lineage.query c.in-Ok-Lineage.form) c.in-Ok-Lineage.is c.in-Ok-Lineage.field-0-is)) none)
+pub returns-in-Ok-Graph-clause-unopened : goal.returns-in-Ok-Graph-clause-unopened
+returns-in-Ok-Graph-clause-unopened g c = λ none.
+    absurd (no_question (asked_in c.args.question) (Graph c.in-Ok-Graph.question) (ap asked_in (ok_same c.args.question c.in-Ok-Graph.field-0 (Graph c.in-Ok-Graph.question) c.in-Ok-Graph.is c.in-Ok-Graph.field-0-is)) none)
 
 pub returns-in-Err-clause-judged : goal.returns-in-Err-clause-judged
 returns-in-Err-clause-judged g c = λ known.

@@ -1,0 +1,12 @@
+mod Running
+mod Accepting
+mod Standing
+mod Opening
+mod Judging
+mod Coding
+mod Joining
+mod Holding
+mod Visiting
+mod Looking
+mod Searching
+mod Ordering

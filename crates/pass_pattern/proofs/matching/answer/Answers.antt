@@ -1,0 +1,63 @@
+use Rattle.std.proofs.Common.{◌≡◌, ℕ, sym, ap, ◌∙◌}
+use Rattle.std.specs.Prelude.{◌↔◌, Result, Ok, Err}
+use Rattle.std.specs.Result.{IsErrAnd}
+use Rattle.std.specs.declared.alloc.Global.{Global}
+use Rattle.std.specs.declared.vec.Vec.{Vec}
+use Rattle.std.proofs.lemmas.Result.{err_from_is_err_and}
+use Rattle.pass_entry.specs.declared.objects.Node.{Node}
+use Rattle.pass_graph.specs.ListRanks.{HasNode}
+use Rattle.pass_query.specs.declared.fault.QueryFault.{QueryFault}
+use Rattle.pass_query.specs.declared.fault.QueryFault.TheVariants.{NoObject, NoMemory}
+use Rattle.pass_pattern.proofs.matching.answer.Goals as goal
+
+abbrev Nodes : Type 0
+Nodes = Result (Vec Node Global) QueryFault
+
+abbrev Text : Type 0
+Text = Result (Vec ℕ Global) QueryFault
+
+text_fault : (a b : QueryFault) → ◌≡◌ {A = Text} (Err a) (Err b) → a ≡ b
+text_fault a b is = cc
+
+node_fault : (a b : QueryFault) → ◌≡◌ {A = Nodes} (Err a) (Err b) → a ≡ b
+node_fault a b is = cc
+
+no_nodes : (v : Vec Node Global) (fault : QueryFault) → ◌≡◌ {A = Nodes} (Ok v) (Err fault) → ⊥
+no_nodes v fault is = cc
+
+no_text : (v : Vec ℕ Global) (fault : QueryFault) → ◌≡◌ {A = Text} (Ok v) (Err fault) → ⊥
+no_text v fault is = cc
+
+other_fault : (n : Node) → NoMemory ≡ NoObject n → ⊥
+other_fault n is = cc
+
+-- the fault of what was found is handed on
+handed_on : (fault : QueryFault) (r : Text) (P : Node → Type 0) → IsErrAnd r (λ e. e ≡ fault) → ((n : Node) → (◌≡◌ {A = Nodes} (Err fault) (Err (NoObject n))) ↔ P n) → (n : Node) → (r ≡ Err (NoObject n)) ↔ P n
+handed_on fault r P is each n =
+    let p = err_from_is_err_and r is in (
+      λ same. (each n).0 (ap Err (sym p.2 ∙ text_fault p.0 (NoObject n) (sym p.1 ∙ same))),
+      λ holds. p.1 ∙ ap Err (p.2 ∙ node_fault fault (NoObject n) ((each n).1 holds)),
+    )
+
+-- nodes were found, and memory was refused
+refused : (v : Vec Node Global) (r : Text) (P : Node → Type 0) → IsErrAnd r (λ e. e ≡ NoMemory) → ((n : Node) → (◌≡◌ {A = Nodes} (Ok v) (Err (NoObject n))) ↔ P n) → (n : Node) → (r ≡ Err (NoObject n)) ↔ P n
+refused v r P is each n =
+    let p = err_from_is_err_and r is in (
+      λ same. absurd (other_fault n (sym p.2 ∙ text_fault p.0 (NoObject n) (sym p.1 ∙ same))),
+      λ holds. absurd (no_nodes v (NoObject n) ((each n).1 holds)),
+    )
+
+-- they were written
+written : (v : Vec Node Global) (text : Vec ℕ Global) (P : Node → Type 0) → ((n : Node) → (◌≡◌ {A = Nodes} (Ok v) (Err (NoObject n))) ↔ P n) → (n : Node) → (◌≡◌ {A = Text} (Ok text) (Err (NoObject n))) ↔ P n
+written v text P each n = (λ same. absurd (no_text text (NoObject n) same), λ holds. absurd (no_nodes v (NoObject n) ((each n).1 holds)))
+
+pub returns-in_err-nodes-clause-absent : goal.returns-in_err-nodes-clause-absent
+returns-in_err-nodes-clause-absent c =
+    handed_on c.in_err-nodes.field-0.0 c.from_residual.result (λ n. (n ≡ c.args.from) × ¬ (HasNode c.args.index.now c.args.from)) c.from_residual.ensures.1 c.in_err-nodes.ensures.absent
+
+pub returns-in_err-write_nodes-clause-absent : goal.returns-in_err-write_nodes-clause-absent
+returns-in_err-write_nodes-clause-absent c =
+    refused c.in_ok-nodes.nodes c.from_residual-in_err-write_nodes.result (λ n. (n ≡ c.args.from) × ¬ (HasNode c.args.index.now c.args.from)) c.from_residual-in_err-write_nodes.ensures.1 c.in_ok-nodes.ensures.absent
+
+pub returns-clause-absent : goal.returns-clause-absent
+returns-clause-absent c = written c.in_ok-nodes.nodes c.in_ok-write_nodes.field-0 (λ n. (n ≡ c.args.from) × ¬ (HasNode c.args.index.now c.args.from)) c.in_ok-nodes.ensures.absent

@@ -9,7 +9,7 @@ use Rattle.pass_entry.specs.declared.objects.Node.{Node}
 use Rattle.pass_entry.specs.declared.record.Record.TheVariants as log
 use Rattle.pass_plain.specs.declared.start.StartFile.{StartFile}
 use Rattle.pass_plain.specs.Legal.{IsLegal, last_number}
-use Rattle.pass_plain.specs.Lineages.{Lineage, IsAlike, linked, with_source}
+use Rattle.pass_plain.specs.Lineages.{Lineage, IsAlike, with_source}
 use Rattle.pass_plain.specs.Processes.{Held, new_process, process_act, process_after, has_begun, has_ended}
 use Rattle.pass_plain.specs.Recorded.{entry_records_by, is_freeze_by, node_by}
 use Rattle.pass_plain.specs.Sessions.{Session, is_opened, opened_file, opened_app, opening_version}
@@ -22,7 +22,7 @@ use Rattle.pass_plain.proofs.Playing.{who_begun, zero_not}
 use Rattle.pass_plain.proofs.Replays.{own_step-own}
 use Rattle.pass_version.specs.States.{VersionState, IsStateAfter}
 use Rattle.pass_version.specs.declared.versions.Taken.TheVariants as taken
-use Rattle.pass_version.proofs.OneObject.{linked_alike, opening_law}
+use Rattle.pass_version.proofs.OneObject.{opening_law}
 use Rattle.pass_hold.specs.Callers.{CallerState}
 use Rattle.pass_hold.specs.Callings.{IsEntered, IsIdle}
 use Rattle.pass_hold.proofs.Objects.{object_after, takes}
@@ -153,6 +153,3 @@ module _ (session : Session) (line after : List Entry) (who number child out : �
       sources = (let none = len-empty nat_cmp in omega (arith, none));
       few = few;
     }
-
-pub first_linked : (l : Lineage) (child : ℕ) (source : Node) → IsAlike l (first_lineage child) → IsAlike (linked l source) (with_source (first_lineage child) source)
-first_linked l child source alike = linked_alike l (first_lineage child) source alike

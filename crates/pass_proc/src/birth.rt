@@ -1,19 +1,22 @@
 //! A child begins.
 ghost use Rattle.std.specs.Prelude.{◌≡◌, ◌≤◌, ◌^◌, None, Some, [], false, length, IfOk};
 ghost use Rattle.pass_plain.specs.Legal.{CallerAllows};
+ghost use Rattle.pass_plain.specs.Lineages.{IsAlike, with_source};
 ghost use Rattle.pass_plain.specs.Places.{keeps};
 ghost use Rattle.pass_plain.specs.Processes.{new_process};
 ghost use Rattle.pass_plain.specs.Sessions.{is_opened};
 ghost use Rattle.pass_plain.specs.Versions.{nodes_of, source_in};
+ghost use Rattle.pass_version.specs.declared.versions.Taken.TheVariants as taken;
 ghost use Rattle.pass_book.specs.Openings.{fresh_desk, fresh_last, fresh_line, new_desk};
 ghost use Rattle.pass_hold.specs.Callers.{moved_on};
 ghost use Rattle.pass_hold.specs.Callings.{IsEntered};
-ghost use Rattle.pass_proc.specs.Births.{birth_entry};
+ghost use Rattle.pass_proc.specs.Acts.{taken_records};
+ghost use Rattle.pass_proc.specs.Births.{birth_entry, first_lineage};
 
 use crate::ended::Living;
 use crate::proc::Proc;
 use crate::taking::slip_of;
-use pass_book::{Desk, Last, Line};
+use pass_book::{Desk, Last, Line, Slip};
 use pass_entry::{Act, CallName, Descriptors, Entry, Node, Pnode, Reply};
 use pass_hold::{Caller, Shelf, Whose};
 use pass_version::{Taken, Versions};
@@ -62,6 +65,24 @@ impl ChildRoom {
             given,
             held,
         })
+    }
+
+    /// The child's first version, which has taken from its parent's, with the records of that, and its descriptors, once for the
+    /// entry and once for the child.
+    fn linked(self, alloc: Global, source: &Node) -> (Versions, Slip, Descriptors, Descriptors)
+        ensures version { IsAlike result.0.lineage (with_source (first_lineage self.child) source.now) }
+        ensures slip { result.1 ≡ taken_records taken.Linked result.0.lineage.node source.now [] }
+        ensures descriptors { (result.2 ≡ self.descriptors) × (result.3 ≡ self.descriptors) }
+    {
+        let ChildRoom {
+            mut versions,
+            given,
+            held,
+        } = self;
+        let _ = versions.take(*source);
+        let node = versions.current();
+        let slip = slip_of(Taken::Linked, &node, source, Vec::new(alloc));
+        (versions, slip, given, held)
     }
 }
 
@@ -126,22 +147,9 @@ impl<J: Whose> Proc<J> {
         ensures state { result.0.state ≡ record new_process { descriptors = room.descriptors } }
         ensures living { result.1.who ≡ room.child }
     {
-        let mut desk = desk;
-        let Some(line) = line_out(&mut desk) else {
-            unreachable!()
-        };
-        let Some(last) = last_out(&mut desk) else {
-            unreachable!()
-        };
-        let ChildRoom {
-            mut versions,
-            given,
-            held,
-        } = room;
+        let (versions, slip, given, held) = room.linked(alloc, source);
         let child = versions.current().pnode;
-        let _ = versions.take(*source);
-        let node = versions.current();
-        let slip = slip_of(Taken::Linked, &node, source, Vec::new(alloc));
+        let (mut desk, line, last) = parted::<J>(desk, child);
         let entry = Entry {
             who,
             number,

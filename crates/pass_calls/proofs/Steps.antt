@@ -1,5 +1,5 @@
 -- How the steps of a call follow one another that its process does not refuse.
-use Rattle.std.proofs.Common.{◌≡◌, ℕ, ◌+◌, ◌-◌, List, [], ◌∷◌, ◌++◌, length, ap, sym, ◌∙◌, subst, Bool, true, false}
+use Rattle.std.proofs.Common.{◌≡◌, ℕ, ◌+◌, ◌-◌, List, [], ◌∷◌, ◌++◌, length, ap, sym, ◌∙◌, subst, true, false, ◌==◌}
 use Rattle.std.specs.Prelude.{Option, Some, None, slice_get, if◌then◌else◌}
 use Rattle.std.specs.Option.{option_map_or}
 use Rattle.pass_entry.specs.declared.entry.Act.{Act}
@@ -63,7 +63,7 @@ module _ (session : Session) (before seen : List Entry) (who number : ℕ) (r : 
     pub gone_own : what ≡ who → is_fault reply ≡ false → HasGone session before after who number r p (made ++ (length entered.past, e) ∷ []) (process_act entered.past now a)
     gone_own own went =
         subst (λ q. HasGone session before after who number r p (made ++ (length entered.past, e) ∷ []) q)
-        (own_step-own (λ past p e. process_act past p e.act) who entered.past now e (ap (λ w. Prim.Native.Nat.nat_eq w who) own ∙ same_itself who) went) gone
+        (own_step-own (λ past p e. process_act past p e.act) who entered.past now e (ap (λ w. w == who) own ∙ same_itself who) went) gone
 
 -- a call by the number and the state that its process had
 pub told_call : (session : Session) (before seen : List Entry) (who number : ℕ) (r : Request) (p : Process) (made : Made) (now : Process)

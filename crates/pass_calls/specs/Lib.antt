@@ -1,1 +1,4 @@
 pub mod Answers
+pub mod Endings
+pub mod Grants
+pub mod Renamings

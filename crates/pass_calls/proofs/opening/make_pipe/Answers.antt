@@ -1,0 +1,12 @@
+use Rattle.std.proofs.Common.{refl}
+use Rattle.pass_plain.specs.declared.request.Request.TheVariants as requests
+use Rattle.pass_plain.specs.Calls.{is_fd}
+use Rattle.pass_plain.proofs.Lists.{both_true}
+use Rattle.pass_proc.proofs.Steps.{low_fd}
+use Rattle.pass_calls.proofs.opening.make_pipe.Goals as goal
+
+pub refused-requires-clause-refused : goal.refused-requires-clause-refused
+refused-requires-clause-refused g c = (c.in-Err.ensures.fault c.in-Err.fault).0 refl
+
+pub refused-requires-clause-some : goal.refused-requires-clause-some
+refused-requires-clause-some g c = record { request = requests.MakePipe c.args.reader c.args.writer; named = refl; asked = refl; within = both_true (is_fd c.args.reader) (is_fd c.args.writer) (low_fd c.args.reader c.requires.numbers.0) (low_fd c.args.writer c.requires.numbers.1) }

@@ -1,6 +1,11 @@
 pub mod Between
 pub mod GrantSteps
 pub mod LeftPipe
+pub mod Naming
+pub mod ObjectSteps
+pub mod PipeReads
 pub mod SingleStep
 pub mod Steps
+pub mod VersionCalls
+pub mod Waiting
 pub mod Wrapping

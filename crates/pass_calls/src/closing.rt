@@ -1,5 +1,5 @@
 //! The call `close_fd`.
-ghost use Rattle.std.specs.Prelude.{◌≡◌, ◌+◌, ◌-◌, ◌<◌, ◌≤◌, ◌^◌, None, Some, Ok, false, true, length};
+ghost use Rattle.std.specs.Prelude.{◌≡◌, ◌+◌, ◌-◌, ◌<◌, ◌≤◌, ◌^◌, None, Some, Ok, false, true, IsErrOf, length};
 ghost use Rattle.std.specs.FinMap as finite_map;
 ghost use Rattle.pass_entry.specs.declared.entry.Ask.TheVariants as ask;
 ghost use Rattle.pass_entry.specs.declared.objects.Descriptor.{Descriptor as AnyDescriptor};
@@ -9,6 +9,7 @@ ghost use Rattle.pass_plain.specs.Processes.{is_pipe, refusal};
 ghost use Rattle.pass_hold.specs.Callings.{IsIdle};
 ghost use Rattle.pass_hold.specs.Places.{HasRoom};
 ghost use Rattle.pass_calls.specs.Answers.{Answers, Stepped};
+ghost use Rattle.pass_calls.specs.declared.answer.CallEnd.TheVariants as ends;
 ghost use Rattle.pass_calls.specs.declared.answer.Moved.TheVariants as moved;
 
 use crate::answer::{CallEnd, Moved};
@@ -54,6 +55,7 @@ pub fn close<J: Whose>(
     requires fd { fd < 64 }
     requires object { (d : AnyDescriptor) → finite_map.get proc.old.state.descriptors fd ≡ Some d → is_pipe d ≡ false }
     ensures call { Answers J.book.session J.places proc.old proc.new (requests.CloseFd fd) result }
+    ensures memory { ¬ IsErrOf result ends.NoMemory }
 {
     let ask = Ask::Held { fd };
     if let Err(fault) = proc.deny(&ask) {
@@ -127,6 +129,7 @@ pub fn close_pipe<J: Whose>(
     requires free { refusal proc.old.state (ask.Held fd) ≡ None }
     requires object { (d : AnyDescriptor) → finite_map.get proc.old.state.descriptors fd ≡ Some d → (is_pipe d ≡ true) × (pipe.old.what ≡ d.pnode) }
     ensures call { Answers J.book.session J.places proc.old proc.new (requests.CloseFd fd) result }
+    ensures memory { ¬ IsErrOf result ends.NoMemory }
     ensures what { pipe.new.what ≡ pipe.old.what }
 {
     if let Err(full) = proc.caller.room(shelf, 3) {

@@ -6,6 +6,7 @@ ghost use Rattle.pass_plain.specs.Places.{need_of};
 ghost use Rattle.pass_plain.specs.Processes.{refusal};
 ghost use Rattle.pass_proc.specs.CallEnds.{Asks};
 ghost use Rattle.pass_calls.specs.Answers.{Answers, resumes};
+ghost use Rattle.pass_calls.specs.declared.answer.CallEnd.TheVariants as ends;
 
 use crate::answer::CallEnd;
 use pass_entry::{Ask, CallFault, CallName};
@@ -26,6 +27,7 @@ pub fn refused<J: Whose>(
     requires some { Asks call ask }
     requires need { need_of call ≡ 3 }
     ensures call { (r : Request) → name_of r ≡ call → ask_of r ≡ Some ask → is_within r ≡ true → resumes proc.old.way r ≡ false → Answers J.book.session J.places proc.old proc.new r (Err result) }
+    ensures memory { ¬ (result ≡ ends.NoMemory) }
 {
     match refuse(alloc, shelf, proc, call, ask, fault) {
         Ok(()) => CallEnd::from(fault),

@@ -1,11 +1,12 @@
 //! The call `seek`.
-ghost use Rattle.std.specs.Prelude.{◌≡◌, ◌+◌, ◌-◌, ◌<◌, ◌≤◌, ◌^◌, None, Ok, length};
+ghost use Rattle.std.specs.Prelude.{◌≡◌, ◌+◌, ◌-◌, ◌<◌, ◌≤◌, ◌^◌, None, Ok, IsErrOf, length};
 ghost use Rattle.pass_entry.specs.declared.entry.Ask.TheVariants as ask;
 ghost use Rattle.pass_plain.specs.declared.request.Request.TheVariants as requests;
 ghost use Rattle.pass_plain.specs.Processes.{refusal};
 ghost use Rattle.pass_hold.specs.Callings.{IsIdle};
 ghost use Rattle.pass_hold.specs.Places.{HasRoom};
 ghost use Rattle.pass_calls.specs.Answers.{Answers, Stepped};
+ghost use Rattle.pass_calls.specs.declared.answer.CallEnd.TheVariants as ends;
 ghost use Rattle.pass_calls.specs.declared.answer.Moved.TheVariants as moved;
 
 use crate::answer::{CallEnd, Moved};
@@ -50,6 +51,7 @@ pub fn seek<J: Whose>(
 ) -> Result<Moved, CallEnd>
     requires fd { fd < 64 }
     ensures call { Answers J.book.session J.places proc.old proc.new (requests.Seek fd at) result }
+    ensures memory { ¬ IsErrOf result ends.NoMemory }
 {
     let ask = Ask::ToSeek { fd, at };
     if let Err(fault) = proc.deny(&ask) {

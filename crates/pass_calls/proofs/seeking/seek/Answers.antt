@@ -22,12 +22,10 @@ invariant_of-proc g c =
 pub overflow_add-number : goal.overflow_add-number
 overflow_add-number g c = let i = c.proc.inside in number_fits g.J.Whose.book.session i.process i.number i.caller c.proc.invariant.0
 
-pub returns-in-Err-room : goal.returns-in-Err-room
-returns-in-Err-room g c =
+pub returns-in-Err-room-clause-call : goal.returns-in-Err-room-clause-call
+returns-in-Err-room-clause-call g c =
     let S = g.J.Whose.book.session in
     let i = c.proc.inside in
     let e = c.in-Err-room.ensures in
-    record {
-      call = full_ends S i.process i.number i.caller i.way c.proc.invariant c.room.new.self e.caller e.looked g.J.Whose.places c.args.proc.now c.proc.view_is
-          (requests.Seek c.args.fd c.args.at) 3 c.in-Err-room.full refl e.full c.from.result c.from.ensures;
-    }
+    full_ends S i.process i.number i.caller i.way c.proc.invariant c.room.new.self e.caller e.looked g.J.Whose.places c.args.proc.now c.proc.view_is
+    (requests.Seek c.args.fd c.args.at) 3 c.in-Err-room.full refl e.full c.from.result c.from.ensures

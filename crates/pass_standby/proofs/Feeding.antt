@@ -1,0 +1,263 @@
+-- How pieces of a stream are taken one after another.
+use Rattle.std.proofs.Common.{◌≡◌, ◌⊎◌, ℕ, suc, ◌+◌, ◌-◌, ◌<◌, ◌≤◌, min, Bool, true, false, List, [], ◌∷◌, ◌++◌, length, take, drop, IsTrue, inl, inr, refl, sym, ◌∙◌, ap, subst, arith, append_assoc, length-append, length-take, take-append-drop}
+use Rattle.std.specs.Prelude.{Option, Some, None, if◌then◌else◌}
+use Rattle.std.specs.Option.{option_map_or}
+use Rattle.std.proofs.lemmas.List.{append-nil}
+use Rattle.pass_entry.specs.declared.record.Record.{Record}
+use Rattle.pass_outside.specs.Moments.{Moment, Adds, IsDeviceWork}
+use Rattle.pass_outside.specs.Runs.{adds_nothing, adds_both}
+use Rattle.pass_standby.specs.declared.following.Following.{Following}
+use Rattle.pass_standby.specs.declared.fault.StandbyFault.{StandbyFault}
+use Rattle.pass_standby.specs.declared.fault.StandbyFault.TheVariants as faults
+use Rattle.pass_standby.specs.declared.frame.Judgement.{Judgement}
+use Rattle.pass_standby.specs.declared.frame.Judgement.TheVariants.{Begun, Bad, Whole}
+use Rattle.pass_standby.specs.Streams.{head, judgement, batch_in, Told, spoiled, with_batch, judged, arrived, followed, next_stop, IsBegun, IsWhole, HasFrames, HasSomeFrames}
+use Rattle.pass_standby.specs.Standing.{told_so_far, IsFollowing, HasBegun, Spoils, Stops, Starves, Undone, Ends}
+use Rattle.pass_log.specs.Log.{log_end, LeavesStore}
+use Rattle.pass_standby.proofs.Coming.{followed-append, gathered, whole_is}
+use Rattle.pass_standby.proofs.Keeping.{store_same, store_then, work_none, work_then, work_as}
+
+-- behind a bad frame nothing counts
+pub bad_stays : (t : Told) (xs : List ℕ) → t.bad ≡ true → followed t xs ≡ t
+bad_stays t [] bad = refl
+bad_stays t (x ∷ xs) bad =
+    let one : arrived t x ≡ t = ap (λ (b : Bool). if b then t else judged t (t.begun ++ x ∷ []) (judgement t.at (t.begun ++ x ∷ []))) bad in
+    ap (λ (u : Told). followed u xs) one ∙ bad_stays t xs bad
+
+-- no byte of a frame
+pub begun_none : (at : ℕ) → IsBegun at []
+begun_none at = record { open_gate = λ some. absurd (omega (arith, some)); fits = λ enough. absurd (omega (arith, enough)); short = omega arith }
+
+-- bytes up to the next stop are judged as one
+pub taken_is : (t : Told) (xs : List ℕ) → t.bad ≡ false → IsBegun t.at t.begun → 0 < length xs → length t.begun + length xs ≤ next_stop t.begun
+    → followed t xs ≡ judged t (t.begun ++ xs) (judgement t.at (t.begun ++ xs))
+taken_is t [] fine begun some within = absurd (omega (arith, some))
+taken_is t (x ∷ xs) fine begun some within = gathered t x xs fine begun within
+
+-- how many there are of them
+module _ (begun piece : List ℕ) (at used : ℕ) (is : IsBegun at begun) (count : used ≡ min (next_stop begun - length begun) (length piece)) (some : 0 < length piece) where
+  pub used_some : 0 < used
+  used_some = omega (arith, count, some, is.short)
+
+  pub used_within : used ≤ length piece
+  used_within = omega (arith, count)
+
+  pub used_size : length (take used piece) ≡ used
+  used_size = omega (arith, length-take used piece, used_within)
+
+  pub used_stop : length begun + length (take used piece) ≤ next_stop begun
+  used_stop = omega (arith, used_size, count, is.short)
+
+-- bytes behind others
+pub take_behind : (front rest : List ℕ) (n : ℕ) → take (length front + n) (front ++ rest) ≡ front ++ take n rest
+take_behind [] rest n = let same : 0 + n ≡ n = omega arith in ap (λ (k : ℕ). take k rest) same
+take_behind (x ∷ front) rest n =
+    let same : suc (length front) + n ≡ suc (length front + n) = omega arith in
+    ap (λ (k : ℕ). take k (x ∷ (front ++ rest))) same ∙ ap (λ (l : List ℕ). x ∷ l) (take_behind front rest n)
+
+module _ (t : Told) (front rest : List ℕ) where
+  pub behind : (n : ℕ) → followed t (take (length front + n) (front ++ rest)) ≡ followed (followed t front) (take n rest)
+  behind n = ap (followed t) (take_behind front rest n) ∙ followed-append t front (take n rest)
+
+  within_both : (n : ℕ) → n ≤ length rest → length front + n ≤ length (front ++ rest)
+  within_both n le = omega (arith, length-append front rest, le)
+
+  -- what the rest has done is what all has done
+  pub spoils_behind : (list : List Record) (at : ℕ) → Spoils (followed t front) rest list at → Spoils t (front ++ rest) list at
+  spoils_behind list at s =
+      let all = followed-append t front rest in
+      record { bad = ap (λ (u : Told). u.bad) all ∙ s.bad; list_is = s.list_is ∙ ap (λ (u : Told). u.list) (sym all); at_is = s.at_is ∙ ap (λ (u : Told). u.at) (sym all) }
+
+  pub stops_behind : (list : List Record) (at : ℕ) → Stops (followed t front) rest list at → Stops t (front ++ rest) list at
+  stops_behind list at s =
+      let all = behind s.count in
+      record {
+        count = length front + s.count;
+        within = within_both s.count s.within;
+        good = ap (λ (u : Told). u.bad) all ∙ s.good;
+        list_is = s.list_is ∙ ap (λ (u : Told). u.list) (sym all);
+        at_is = s.at_is ∙ ap (λ (u : Told). u.at) (sym all);
+      }
+
+  pub starves_behind : (list : List Record) (at : ℕ) → length t.list ≤ length (followed t front).list → Starves (followed t front) rest list at → Starves t (front ++ rest) list at
+  starves_behind list at more s =
+      let all = behind s.count in
+      record {
+        count = length front + s.count;
+        within = within_both s.count s.within;
+        good = ap (λ (u : Told). u.bad) all ∙ s.good;
+        lacks = s.lacks;
+        list_is = s.list_is ∙ ap (λ (u : Told). u.list) (sym all);
+        least = omega (arith, s.least, more);
+        at_is = s.at_is ∙ ap (λ (u : Told). u.at) (sym all);
+      }
+
+  pub some_behind : (log : List ℕ) → HasSomeFrames (followed t front) rest log → HasSomeFrames t (front ++ rest) log
+  some_behind log h = (length front + h.0, within_both h.0 h.1, subst (λ (u : Told). HasFrames u log) (sym (behind h.0)) h.2)
+
+-- no record goes
+judged_grows : (t : Told) (frame : List ℕ) (j : Judgement) → length t.list ≤ length (judged t frame j).list
+judged_grows t frame Begun = omega arith
+judged_grows t frame Bad = omega arith
+judged_grows t frame Whole = by_case (batch_in t.list (drop head frame))
+  where
+    by_case : (o : Option (List Record)) → length t.list ≤ length (option_map_or (with_batch t frame) o (spoiled t frame)).list
+    by_case None = omega arith
+    by_case (Some batch) = omega (arith, length-append t.list batch)
+
+arrived_grows : (t : Told) (byte : ℕ) → length t.list ≤ length (arrived t byte).list
+arrived_grows t byte = by_case t.bad
+  where
+    frame : List ℕ
+    frame = t.begun ++ byte ∷ []
+
+    by_case : (b : Bool) → length t.list ≤ length (if b then t else judged t (t.begun ++ byte ∷ []) (judgement t.at (t.begun ++ byte ∷ []))).list
+    by_case true = omega arith
+    by_case false = judged_grows t (t.begun ++ byte ∷ []) (judgement t.at (t.begun ++ byte ∷ []))
+
+pub followed_grows : (t : Told) (bytes : List ℕ) → length t.list ≤ length (followed t bytes).list
+followed_grows t [] = omega arith
+followed_grows t (x ∷ bytes) = omega (arith, arrived_grows t x, followed_grows (arrived t x) bytes)
+
+-- what a fault has left behind bytes that were taken
+pub ends_behind : {D : Type 0} (view : D → Moment) (t : Told) (front rest : List ℕ) (new : Following D) (e : StandbyFault)
+    → Ends view (followed t front) rest new e → Ends view t (front ++ rest) new e
+ends_behind view t front rest new faults.DiskFault h = stops_behind t front rest new.index (log_end new.log) h
+ends_behind view t front rest new (faults.BadStream at) h = (h.0, spoils_behind t front rest new.index (log_end new.log) h.1, h.2)
+ends_behind view t front rest new faults.NoMemory h = starves_behind t front rest new.index (log_end new.log) (followed_grows t front) h
+ends_behind view t front rest new (faults.BadLog at) h = h
+ends_behind view t front rest new (faults.Closed at) h = h
+
+-- what was left of a frame that wasn't kept
+module _ {D : Type 0} (view : D → Moment) (t u : Told) (piece : List ℕ) (used : ℕ) (fine : t.bad ≡ false) (within : used ≤ length piece) (is : followed t (take used piece) ≡ u) where
+  bad_piece : u.bad ≡ true → followed t piece ≡ u
+  bad_piece bad =
+      ap (followed t) (sym (take-append-drop used piece)) ∙ followed-append t (take used piece) (drop used piece)
+      ∙ ap (λ (v : Told). followed v (drop used piece)) is ∙ bad_stays u (drop used piece) bad
+
+  pub spoils_piece : (list : List Record) (at : ℕ) → u.bad ≡ true → list ≡ u.list → at ≡ u.at → Spoils t piece list at
+  spoils_piece list at bad list_is at_is =
+      let all = bad_piece bad in
+      record { bad = ap (λ (v : Told). v.bad) all ∙ bad; list_is = list_is ∙ ap (λ (v : Told). v.list) (sym all); at_is = at_is ∙ ap (λ (v : Told). v.at) (sym all) }
+
+  pub starves_none : (list : List Record) (at : ℕ) → list ≡ t.list → at ≡ t.at → Starves t piece list at
+  starves_none list at list_is at_is = record {
+    count = 0;
+    within = omega arith;
+    good = fine;
+    lacks = [];
+    list_is = append-nil list ∙ list_is;
+    least = omega (arith, ap length list_is);
+    at_is = at_is;
+  }
+
+  pub stops_none : (list : List Record) (at : ℕ) → list ≡ t.list → at ≡ t.at → Stops t piece list at
+  stops_none list at list_is at_is = record { count = 0; within = omega arith; good = fine; list_is = list_is; at_is = at_is }
+
+  pub undone_ends : (new : Following D) (e : StandbyFault) → Undone view t u new e → Ends view t piece new e
+  undone_ends new faults.DiskFault h = stops_none new.index (log_end new.log) h.0 h.1
+  undone_ends new (faults.BadStream at) h = (h.0, spoils_piece new.index (log_end new.log) h.1 h.2 h.3, h.4)
+  undone_ends new faults.NoMemory (inl h) = starves_none new.index (log_end new.log) h.0 h.1
+  undone_ends new faults.NoMemory (inr h) = record {
+    count = used;
+    within = within;
+    good = ap (λ (v : Told). v.bad) is ∙ h.0;
+    lacks = h.1.0;
+    list_is = h.1.1 ∙ ap (λ (v : Told). v.list) (sym is);
+    least = h.2;
+    at_is = h.3 ∙ ap (λ (v : Told). v.at) (sym is);
+  }
+  undone_ends new (faults.BadLog at) h = h
+  undone_ends new (faults.Closed at) h = h
+
+  pub some_of_both : (log : List ℕ) → HasFrames t log ⊎ HasFrames u log → HasSomeFrames t piece log
+  some_of_both log (inl h) = (0, omega arith, h)
+  some_of_both log (inr h) = (used, within, subst (λ (v : Told). HasFrames v log) (sym is) h)
+
+-- the bytes in front of the rest were taken
+pub record IsFeeding {D : Type 0} (view : D → Moment) (piece rest : List ℕ) (first now : Following D) : Type 0 where
+  pub front : List ℕ
+  pub is : piece ≡ front ++ rest
+  pub told : told_so_far now ≡ followed (told_so_far first) front
+  pub following : IsFollowing view now
+  pub begun : HasBegun now
+  pub moments : IsTrue (view first.disk).tells → Adds (view first.disk) (view now.disk) (λ c. HasSomeFrames (told_so_far first) piece c.log)
+  pub store : LeavesStore (view first.disk) (view now.disk)
+  pub work : IsDeviceWork (view first.disk) (view now.disk) ⊥
+
+-- what was there of the frame makes no difference to what is judged now
+pub judged_same : (t : Told) (begun frame : List ℕ) (j : Judgement) → judged (record t { begun = begun }) frame j ≡ judged t frame j
+judged_same t begun frame Begun = refl
+judged_same t begun frame Bad = refl
+judged_same t begun frame Whole = refl
+
+-- what came is judged as one
+pub taken_so : (t : Told) (begun piece : List ℕ) (used : ℕ) → t.bad ≡ false → IsBegun t.at t.begun → used ≡ min (next_stop t.begun - length t.begun) (length piece) → 0 < length piece
+    → begun ≡ t.begun ++ take used piece → followed t (take used piece) ≡ judged (record t { begun = begun }) begun (judgement t.at begun)
+taken_so t begun piece used fine is count some bytes =
+    let size : length (take used piece) ≡ used = used_size t.begun piece t.at used is count some in
+    let more : 0 < length (take used piece) = omega (arith, size, used_some t.begun piece t.at used is count some) in
+    taken_is t (take used piece) fine is more (used_stop t.begun piece t.at used is count some)
+    ∙ ap (λ (f : List ℕ). judged t f (judgement t.at f)) (sym bytes) ∙ sym (judged_same t begun begun (judgement t.at begun))
+
+pub whole_so : (at : ℕ) (begun frame piece : List ℕ) (used : ℕ) → IsBegun at begun → used ≡ min (next_stop begun - length begun) (length piece) → 0 < length piece
+    → frame ≡ begun ++ take used piece → judgement at frame ≡ Whole → IsWhole at frame
+whole_so at begun frame piece used is count some bytes whole =
+    subst (IsWhole at) (sym bytes) (whole_is at begun (take used piece) is (used_stop begun piece at used is count some) (ap (judgement at) (sym bytes) ∙ whole))
+
+pub some_so : (at : ℕ) (begun frame piece : List ℕ) (used : ℕ) → IsBegun at begun → used ≡ min (next_stop begun - length begun) (length piece) → 0 < length piece → frame ≡ begun ++ take used piece
+    → 1 ≤ length frame
+some_so at begun frame piece used is count some bytes =
+    omega (arith, ap length bytes, length-append begun (take used piece), used_size begun piece at used is count some, used_some begun piece at used is count some)
+
+pub feeding_none : {D : Type 0} (view : D → Moment) (piece : List ℕ) (first : Following D) → IsFollowing view first → HasBegun first → IsFeeding view piece piece first first
+feeding_none view piece first following begun = record {
+  front = [];
+  is = refl;
+  told = refl;
+  following = following;
+  begun = begun;
+  moments = λ told. adds_nothing (view first.disk) (λ c. HasSomeFrames (told_so_far first) piece c.log);
+  store = store_same (view first.disk);
+  work = work_none (view first.disk) (λ never. never);
+}
+
+module _ {D : Type 0} (view : D → Moment) (piece rest : List ℕ) (first now : Following D) (f : IsFeeding view piece rest first now) (next : Following D) where
+  some_then : (log : List ℕ) → HasSomeFrames (told_so_far now) rest log → HasSomeFrames (told_so_far first) piece log
+  some_then log x = subst (λ (l : List ℕ). HasSomeFrames (told_so_far first) l log) (sym f.is)
+      (some_behind (told_so_far first) f.front rest log (subst (λ (u : Told). HasSomeFrames u rest log) f.told x))
+
+  pub moments_on : IsTrue (view first.disk).tells → (IsTrue (view now.disk).tells → Adds (view now.disk) (view next.disk) (λ c. HasSomeFrames (told_so_far now) rest c.log))
+      → Adds (view first.disk) (view next.disk) (λ c. HasSomeFrames (told_so_far first) piece c.log)
+  moments_on told any = adds_both (λ c. HasSomeFrames (told_so_far first) piece c.log) (view first.disk) (view now.disk) (view next.disk)
+      (f.moments told) (any (subst IsTrue (sym f.work.tells) told)) (λ c x. x) (λ c x. some_then c.log x)
+
+  pub store_on : LeavesStore (view now.disk) (view next.disk) → LeavesStore (view first.disk) (view next.disk)
+  store_on more = store_then (view first.disk) (view now.disk) (view next.disk) f.work.tells f.store more
+
+  pub work_on : {G : Type 0} → IsDeviceWork (view now.disk) (view next.disk) G → IsDeviceWork (view first.disk) (view next.disk) G
+  work_on {G} more = work_then (view first.disk) (view now.disk) (view next.disk) f.work (λ never. never) more
+
+  pub ends_on : (e : StandbyFault) → Ends view (told_so_far now) rest next e → Ends view (told_so_far first) piece next e
+  ends_on e ended = subst (λ (l : List ℕ). Ends view (told_so_far first) l next e) (sym f.is)
+      (ends_behind view (told_so_far first) f.front rest next e (subst (λ (u : Told). Ends view u rest next e) f.told ended))
+
+  pub feeding_more : {G : Type 0} (used : ℕ) (left : List ℕ) → left ≡ drop used rest → told_so_far next ≡ followed (told_so_far now) (take used rest) → IsFollowing view next → HasBegun next
+      → (IsTrue (view now.disk).tells → Adds (view now.disk) (view next.disk) (λ c. HasSomeFrames (told_so_far now) rest c.log)) → LeavesStore (view now.disk) (view next.disk)
+      → IsDeviceWork (view now.disk) (view next.disk) G → (G → ⊥) → IsFeeding view piece left first next
+  feeding_more {G} used left rest_is told following begun any store work fine = record {
+    front = f.front ++ take used rest;
+    is = f.is ∙ ap (λ (l : List ℕ). f.front ++ l) (sym (take-append-drop used rest)) ∙ sym (append_assoc f.front (take used rest) (drop used rest))
+        ∙ ap (λ (l : List ℕ). (f.front ++ take used rest) ++ l) (sym rest_is);
+    told = told ∙ ap (λ (u : Told). followed u (take used rest)) f.told ∙ sym (followed-append (told_so_far first) f.front (take used rest));
+    following = following;
+    begun = begun;
+    moments = λ tells. moments_on tells any;
+    store = store_on store;
+    work = work_as (view first.disk) (view next.disk) (work_on work) fine (λ never. never);
+  }
+
+pub feeding_done : {D : Type 0} (view : D → Moment) (piece rest : List ℕ) (first now : Following D) → IsFeeding view piece rest first now → length rest ≡ 0
+    → told_so_far now ≡ followed (told_so_far first) piece
+feeding_done view piece [] first now f none = f.told ∙ ap (followed (told_so_far first)) (sym (f.is ∙ append-nil f.front))
+feeding_done view piece (x ∷ rest) first now f none = absurd (omega (arith, none))

@@ -10,7 +10,7 @@ use Rattle.pass_pattern.specs.declared.pattern.EdgeTest.{EdgeTest}
 use Rattle.pass_pattern.specs.declared.pattern.EdgeTest.TheVariants.{Other, Same, Any}
 use Rattle.pass_pattern.specs.Patterns.{Shape}
 use Rattle.pass_pattern.specs.Patterns.Shape.{One, Then, Or, Many}
-use Rattle.pass_pattern.specs.Grammar.{letter, Binding, IsText}
+use Rattle.pass_pattern.specs.Grammar.{letter, Binding, IsText, OnePatternLaw}
 use Rattle.pass_pattern.specs.Grammar.Binding.{alt, seq, rep, atom}
 use Rattle.pass_pattern.specs.Grammar.IsText.{plain, named, group, once, star, only, then_on, alone, or_else}
 use Rattle.pass_pattern.specs.Reading.{Last, Level, State, state, fresh, joined_shape, whole_shape, step_of, pattern_of}
@@ -230,3 +230,9 @@ accepts {p = p} {text = text} has =
       is = r.is;
       whole = ap (option_map (whole_shape r.level)) r.at ∙ ap (λ q. Some q) r.whole;
     }
+
+pub one_pattern_law : OnePatternLaw
+one_pattern_law p q text is also =
+    let a = accepts is in
+    let b = accepts also in
+    some_is p q (sym a.whole ∙ ap pattern_of (some_is a.behind b.behind (sym a.is ∙ b.is)) ∙ b.whole)

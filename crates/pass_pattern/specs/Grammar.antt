@@ -1,5 +1,5 @@
 -- The texts of patterns.
-use Rattle.std.specs.Prelude.{ℕ, ◌≤◌, ◌<◌, ◌+◌, ◌-◌, ◌==◌, ◌⊎◌, Bool, true, false, not, List, [], ◌∷◌, ◌++◌, length, take, Some, None, codes, Contains}
+use Rattle.std.specs.Prelude.{ℕ, ◌≡◌, ◌≤◌, ◌<◌, ◌+◌, ◌-◌, ◌==◌, ◌⊎◌, Bool, true, false, not, List, [], ◌∷◌, ◌++◌, length, take, Some, None, codes, Contains}
 use Rattle.pass_entry.specs.Texts.{IsName}
 use Rattle.pass_pattern.specs.declared.pattern.EdgeTest.{EdgeTest}
 use Rattle.pass_pattern.specs.declared.pattern.EdgeTest.TheVariants.{Other, Same, Any}
@@ -34,6 +34,10 @@ pub data IsText : Binding → Shape → List ℕ → Type 0 where
   then_on : {p q : Shape} {text rest : List ℕ} → IsText seq p text → IsText rep q rest → IsText seq (Then p q) (text ++ codes "/" ++ rest)
   alone : {p : Shape} {text : List ℕ} → IsText seq p text → IsText alt p text
   or_else : {p q : Shape} {text rest : List ℕ} → IsText alt p text → IsText seq q rest → IsText alt (Or p q) (text ++ codes "|" ++ rest)
+
+-- a text is that of one shape at most
+abbrev pub OnePatternLaw : Type 0
+OnePatternLaw = (p q : Shape) (text : List ℕ) → IsText alt p text → IsText alt q text → p ≡ q
 
 -- some pattern has the text
 pub record IsPattern (text : List ℕ) : Type 0 where

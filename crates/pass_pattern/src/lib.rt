@@ -4,6 +4,7 @@
 mod code;
 mod fault;
 mod finding;
+pub mod laws;
 mod matching;
 mod parsing;
 mod pattern;

@@ -4,16 +4,15 @@ use Rattle.std.specs.Prelude.{Result, Ok, Err, is_ok, MatchResult, Contains}
 use Rattle.std.specs.List.Sorted.{IsStrictlySortedBy, IsBinarySearchResult}
 use Rattle.std.specs.Ordering.{nat_cmp}
 use Rattle.std.proofs.lemmas.Grind.{get_or_default_zero}
-use Rattle.std.proofs.lemmas.List.Kept.{AllPairs-from_increasing}
 use Rattle.std.proofs.lemmas.List.Sorted.{searched}
-use Rattle.std.proofs.lemmas.Map.Keys.{IsStrictlyIncreasing-from_sorted}
+use Rattle.std.proofs.lemmas.Map.Keys.{below_from_sorted}
 use Rattle.pass_plain.proofs.Lists.{below_or}
 
 rising : (row : List ℕ) → IsStrictlySortedBy nat_cmp row → (i j : ℕ) → i ≤ j → j < length row → get_or row i 0 ≤ get_or row j 0
 rising row up i j low within = at_order (below_or i j)
   where
     at_order : (i < j) ⊎ ((j < i) ⊎ (i ≡ j)) → get_or row i 0 ≤ get_or row j 0
-    at_order (inl less) = let z = AllPairs-from_increasing row (IsStrictlyIncreasing-from_sorted row up) i j 0 less within in omega (arith, z)
+    at_order (inl less) = let z = below_from_sorted row i j 0 up less within in omega (arith, z)
     at_order (inr (inl over)) = absurd (omega (arith, low, over))
     at_order (inr (inr same)) = let z = ap (λ k. get_or row k 0) same in omega (arith, z)
 

@@ -15,7 +15,7 @@ pub followed-append : (t : Told) (xs ys : List ℕ) → followed t (xs ++ ys) �
 followed-append t xs ys = fold-append arrived t xs ys
 
 -- a judgement by its four tests
-abbrev by_tests : Bool → Bool → Bool → Bool → Judgement
+abbrev pub by_tests : Bool → Bool → Bool → Bool → Judgement
 by_tests gate few fit less = if not gate then Bad else (if few then Begun else (if not fit then Bad else (if less then Begun else Whole)))
 
 record IsBegunBy (gate few fit less : Bool) : Type 0 where
@@ -48,10 +48,10 @@ is_below m n h = grind (arith, nat_tests)
 isnt_below : (m n : ℕ) → nat_lt m n ≡ false → n ≤ m
 isnt_below m n h = grind (arith, nat_tests)
 
-below_is : (m n : ℕ) → m < n → nat_lt m n ≡ true
+pub below_is : (m n : ℕ) → m < n → nat_lt m n ≡ true
 below_is m n h = grind (arith, nat_tests)
 
-below_isnt : (m n : ℕ) → n ≤ m → nat_lt m n ≡ false
+pub below_isnt : (m n : ℕ) → n ≤ m → nat_lt m n ≡ false
 below_isnt m n h = grind (arith, nat_tests)
 
 -- where a frame of so many bytes is judged next
@@ -61,11 +61,11 @@ stop_at_first frame few = grind (arith, nat_tests)
 stop_in_head : (frame : List ℕ) → 1 ≤ length frame → length frame < head → next_stop frame ≡ head
 stop_in_head frame some few = grind (arith, nat_tests)
 
-stop_at_end : (frame : List ℕ) → head ≤ length frame → next_stop frame ≡ head + claimed frame
+pub stop_at_end : (frame : List ℕ) → head ≤ length frame → next_stop frame ≡ head + claimed frame
 stop_at_end frame enough = grind (arith, nat_tests)
 
 -- what a beginning of a frame says stays, whatever comes behind it
-claimed_stays : (frame more : List ℕ) → head ≤ length frame → claimed (frame ++ more) ≡ claimed frame
+pub claimed_stays : (frame more : List ℕ) → head ≤ length frame → claimed (frame ++ more) ≡ claimed frame
 claimed_stays frame more enough =
     ap number (drop-append-le 1 frame more (omega (arith, enough)))
     ∙ ap (from_be_bytes w32) (take-append-le 4 (drop 1 frame) more (omega (arith, enough, length-drop 1 frame)))

@@ -2,7 +2,9 @@ pub mod Coming
 pub mod Batching
 pub mod Keeping
 pub mod Feeding
+pub mod Framing
 pub mod Lawful
 pub mod Walking
+pub mod Unopened
 pub mod Begins
 pub mod Standings

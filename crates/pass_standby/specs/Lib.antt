@@ -1,4 +1,4 @@
 pub mod Streams
-pub mod Laws
 pub mod Logs
+pub mod Laws
 pub mod Standing

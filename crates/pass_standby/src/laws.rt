@@ -1,5 +1,5 @@
-//! What holds of a stream, however it comes. Each function carries a law in its contract and does nothing.
-ghost use Rattle.pass_standby.specs.Laws.{CutsLaw, BadLaw, GrowsLaw, LoggedLaw};
+//! What holds of a stream, however it comes, and of a log with a bad frame. Each function carries a law in its contract and does nothing.
+ghost use Rattle.pass_standby.specs.Laws.{CutsLaw, BadLaw, GrowsLaw, LoggedLaw, BadLogLaw, WholeLaw};
 
 /// What has come is the same however the bytes are cut into pieces.
 pub fn cuts()
@@ -19,4 +19,14 @@ pub fn growing()
 /// The records stay well logged, so that a store opens with them.
 pub fn well_logged()
     ensures { LoggedLaw }
+{}
+
+/// A standby opens on no log with a bad frame: it doesn't hold well logged records.
+pub fn bad_log()
+    ensures { BadLogLaw }
+{}
+
+/// A frame that stands in a log is taken whole.
+pub fn whole_frames()
+    ensures { WholeLaw }
 {}

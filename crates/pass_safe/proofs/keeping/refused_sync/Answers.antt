@@ -1,0 +1,18 @@
+use Rattle.std.proofs.Common.{refl}
+use Rattle.pass_plain.specs.declared.request.Request.TheVariants as requests
+use Rattle.pass_proc.proofs.Steps.{low_fd}
+use Rattle.pass_safe.proofs.Ends.{refused_fault, refused_full}
+use Rattle.pass_safe.proofs.keeping.refused_sync.Goals as goal
+
+pub refuse-requires-clause-some : goal.refuse-requires-clause-some
+refuse-requires-clause-some g c = record { request = requests.Sync c.args.fd; named = refl; asked = refl; within = low_fd c.args.fd c.requires.fd }
+
+pub returns-in-Ok : goal.returns-in-Ok
+returns-in-Ok g c =
+    let e = c.in-Ok.ensures in
+    refused_fault g.J.Whose.book.session g.J.Whose.places c.args.proc.now c.refuse.new.proc c.args.fd c.args.fault (e.call (requests.Sync c.args.fd) refl refl (low_fd c.args.fd c.requires.fd)) e.counted.1 e.same.0 c.from.result c.from.ensures
+
+pub returns-in-Err : goal.returns-in-Err
+returns-in-Err g c =
+    let e = c.in-Err.ensures in
+    refused_full g.J.Whose.book.session g.J.Whose.places c.args.proc.now c.refuse.new.proc c.args.fd c.in-Err.full e.full.0 e.full.1 e.full.2 e.looks e.same c.from-in-Err.result c.from-in-Err.ensures

@@ -1,0 +1,3 @@
+pub mod Safes
+pub mod Syncings
+pub mod Settled

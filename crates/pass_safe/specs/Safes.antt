@@ -1,0 +1,43 @@
+-- What contracts see of a vault under its lock (this project's own rule).
+use Rattle.std.specs.Prelude.{◌≡◌, ◌⊎◌, ℕ, ◌<◌, ◌≤◌, ◌^◌, Option, Some, None, Result, Ok, Err, length}
+use Rattle.pass_outside.specs.Moments.{Moment, IsAtEnd}
+use Rattle.pass_plain.specs.Sessions.{opening_version}
+use Rattle.pass_book.specs.Syncs.{durable}
+use Rattle.pass_book.specs.Tokens.{BookId}
+use Rattle.pass_vault.specs.Rooms.{most_entries}
+use Rattle.pass_vault.specs.Vaulted.{Vaulted}
+use Rattle.pass_safe.specs.declared.fault.Lost.{Lost}
+use Rattle.pass_safe.specs.declared.fault.SafeFault.{SafeFault}
+use Rattle.pass_safe.specs.declared.fault.SafeFault.TheVariants.{DiskFault, NoMemory}
+
+-- the vault, and the counts of the fault after which it is used no more
+pub record SafeView (D : Type 0) : Type 0 where
+  pub vault : Vaulted D
+  pub lost : Option Lost
+
+-- A device call failed, and the disk's count of faults was found to be that. It had risen since the vault was opened, or a count
+-- stands at its end.
+pub record IsLost (m : Moment) (opened : ℕ) (l : Lost) : Type 0 where
+  pub first : l.opened ≡ opened
+  pub rises : l.opened ≤ l.found
+  pub within : l.found ≤ m.faults
+  pub above : (l.opened < l.found) ⊎ IsAtEnd m
+
+-- Before a fault the count of faults is the one of the opening, and all is durable that the vault has seen.
+abbrev pub Stands : {D : Type 0} → (D → Moment) → Vaulted D → Option Lost → Type 0
+Stands view v None = ((view v.disk).faults ≡ v.opened) × (durable v.syncs ≡ length v.seen)
+Stands view v (Some l) = IsLost (view v.disk) v.opened l
+
+-- what the lock keeps between two calls: the session's entries are few enough, and its objects' versions low enough, for the
+-- log to tell them
+pub record IsSafe {D : Type 0} (book : BookId) (view : D → Moment) (v : Vaulted D) (lost : Option Lost) : Type 0 where
+  pub of_book : v.book ≡ book
+  pub low : (object : ℕ) → opening_version book.session.start object ≤ 2 ^ 35
+  pub few : length v.seen ≤ most_entries
+  pub stands : Stands view v lost
+
+-- the fault after which the vault is used no more
+abbrev pub lost_in : {T : Type 0} → Result T SafeFault → Option Lost
+lost_in (Ok x) = None
+lost_in (Err (DiskFault opened now)) = Some (record { opened = opened; found = now })
+lost_in (Err NoMemory) = None

@@ -1,0 +1,8 @@
+//! What holds of the dirty blocks of all files. Each function carries laws in its contract and does nothing.
+ghost use Rattle.pass_safe.specs.Settled.{OwnerLaw, StaysLaw};
+
+/// Only a file with a number has dirty blocks, and a block that is clean stays so by more syncs.
+pub fn settled()
+    ensures owners { OwnerLaw }
+    ensures stays { StaysLaw }
+{}

@@ -7,6 +7,7 @@ pub mod Naming
 pub mod Nodes
 pub mod ObjectSteps
 pub mod PipeReads
+pub mod PipeWrites
 pub mod Reserved
 pub mod Runs
 pub mod Shown

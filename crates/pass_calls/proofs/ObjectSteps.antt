@@ -1,7 +1,6 @@
 -- A call of one step, on an object that is not its process.
-use Rattle.std.proofs.Common.{◌≡◌, ℕ, ◌+◌, ◌-◌, ◌<◌, List, [], ◌∷◌, ◌++◌, length, ap, sym, ◌∙◌, arith, true, false, append_assoc, length-append}
+use Rattle.std.proofs.Common.{◌≡◌, ℕ, ◌+◌, ◌-◌, ◌<◌, List, [], ◌∷◌, length, ap, sym, ◌∙◌, arith, true, false, length-append}
 use Rattle.std.specs.Prelude.{Some, None, slice_get, if◌then◌else◌}
-use Rattle.std.proofs.lemmas.List.{append-nil}
 use Rattle.pass_entry.specs.declared.entry.Act.{Act}
 use Rattle.pass_entry.specs.declared.entry.Entry.{Entry}
 use Rattle.pass_entry.specs.declared.entry.Reply.{Reply}
@@ -11,8 +10,6 @@ use Rattle.pass_plain.specs.Legal.{CallerAllows, is_start}
 use Rattle.pass_plain.specs.Places.{keeps, need_of}
 use Rattle.pass_plain.specs.Processes.{Process, process_act}
 use Rattle.pass_plain.specs.Sessions.{Session}
-use Rattle.pass_plain.specs.Versions.{nodes_of, node_at_entry}
-use Rattle.pass_plain.proofs.Versioned.{nodes_of-append, length-nodes_of, short_get}
 use Rattle.pass_hold.specs.Callings.{IsEntered, IsIdle, IsGoing, HasGone, IsCallMade}
 use Rattle.pass_hold.proofs.Callings.{entry_of, call_made, idle_again}
 use Rattle.pass_proc.proofs.Steps.{begun}
@@ -21,17 +18,6 @@ use Rattle.pass_calls.proofs.Steps.{next_allows, next_keeps, gone_by}
 -- the place of an entry that was made last
 pub place_is : (session : Session) (line desk after : List Entry) (e : Entry) (entered : IsEntered session line desk after e) (place : ℕ) → place + 1 ≡ length after → length entered.past ≡ place
 place_is session line desk after e entered place at = let longer = ap length entered.whole ∙ length-append entered.past (e ∷ []) in omega (arith, longer, at)
-
--- the node of an entry stays as the history grows
-pub node_stays : (session : Session) (seen later : List Entry) (place : ℕ) → place < length seen → slice_get (nodes_of session (seen ++ later)) place ≡ slice_get (nodes_of session seen) place
-node_stays session seen [] place low = ap (λ h. slice_get (nodes_of session h) place) (append-nil seen)
-node_stays session seen (e ∷ later) place low =
-    let longer = length-append seen (e ∷ []) in
-    let nodes = length-nodes_of session seen in
-    ap (λ h. slice_get (nodes_of session h) place) (sym (append_assoc seen (e ∷ []) later))
-    ∙ node_stays session (seen ++ e ∷ []) later place (omega (arith, low, longer))
-    ∙ ap (λ ns. slice_get ns place) (nodes_of-append session seen e)
-    ∙ short_get (nodes_of session seen) (node_at_entry session seen (nodes_of session seen) e ∷ []) place (omega (arith, low, nodes))
 
 module _ (session : Session) (seen : List Entry) (who number : ℕ) (p : Process) (r : Request) (what : ℕ) (a : Act) (reply : Reply)
     (idle : IsIdle session seen who (number - 1) p) (some : 0 < number) (fine : refused_ask p r ≡ None) (at : slice_get (steps_of who p [] r) 0 ≡ Some (what, a))

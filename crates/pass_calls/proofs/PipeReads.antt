@@ -31,11 +31,11 @@ use Rattle.pass_hold.proofs.Callings.{begins_call, call_made, going_looked, idle
 use Rattle.pass_pipe.specs.Desks.{take_entry}
 use Rattle.pass_proc.specs.Acts.{own_entry}
 use Rattle.pass_proc.specs.Procs.{ProcView}
-use Rattle.pass_proc.proofs.Steps.{begun, low_fd}
+use Rattle.pass_proc.proofs.Steps.{begun, low_fd, node_stays}
 use Rattle.pass_calls.specs.Answers.{HasMoved, HasWaited}
 use Rattle.pass_calls.specs.declared.answer.Moved.TheVariants as moved
 use Rattle.pass_calls.proofs.Naming.{at_descriptor, pipe_no_file, read_at}
-use Rattle.pass_calls.proofs.ObjectSteps.{node_stays, place_is}
+use Rattle.pass_calls.proofs.ObjectSteps.{place_is}
 use Rattle.pass_calls.proofs.Waiting.{waits}
 use Rattle.pass_calls.proofs.Steps.{not_refused, step_at, next_allows, next_keeps, gone_by, gone_own}
 

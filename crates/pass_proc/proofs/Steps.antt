@@ -1,8 +1,8 @@
 -- What the steps of every call need.
-use Rattle.std.proofs.Common.{◌≡◌, ℕ, ◌+◌, ◌-◌, ◌<◌, ◌≤◌, ◌^◌, List, [], length, ap, sym, ◌∙◌, subst, arith, Bool, true, false, cond, ◌==◌, ◌&&◌, not, refl, Fits, w64, length-append, ◌∷◌}
-use Rattle.std.specs.Prelude.{Option, Some, None, take}
+use Rattle.std.proofs.Common.{◌≡◌, ℕ, ◌+◌, ◌-◌, ◌<◌, ◌≤◌, ◌^◌, List, [], length, ap, sym, ◌∙◌, subst, arith, Bool, true, false, cond, ◌==◌, ◌&&◌, not, refl, Fits, w64, length-append, ◌∷◌, ◌++◌, append_assoc}
+use Rattle.std.specs.Prelude.{Option, Some, None, slice_get, take}
 use Rattle.std.proofs.lemmas.Bool.Decides.{nat_tests}
-use Rattle.std.proofs.lemmas.List.{take-append-le}
+use Rattle.std.proofs.lemmas.List.{append-nil, take-append-le}
 use Rattle.pass_entry.specs.declared.entry.Entry.{Entry}
 use Rattle.pass_plain.specs.declared.request.Request.{Request}
 use Rattle.pass_plain.specs.declared.request.Request.TheVariants as requests
@@ -11,6 +11,8 @@ use Rattle.pass_plain.specs.Histories.{is_fault, own_step}
 use Rattle.pass_plain.specs.Places.{call_places, freed_places, left_for}
 use Rattle.pass_plain.specs.Processes.{Process, process_act, process_after}
 use Rattle.pass_plain.specs.Sessions.{Session}
+use Rattle.pass_plain.specs.Versions.{nodes_of, node_at_entry}
+use Rattle.pass_plain.proofs.Versioned.{nodes_of-append, length-nodes_of, short_get}
 use Rattle.pass_book.specs.declared.claim.Full.{Full}
 use Rattle.pass_hold.specs.Callers.{CallerState, moved_on}
 use Rattle.pass_hold.specs.Callings.{IsIdle, IsGoing, HasLooked}
@@ -66,6 +68,17 @@ module _ (session : Session) (p : ProcessView) (n : ℕ) (c : CallerState) (is :
   too_few places need d full looked is_full =
       subst (λ w. HasTooFew session places w c.seen d.seen need full) is.of_who (record { looked = looked; needs = is_full.0; fewer = is_full.1; left = is_full.2 })
 
+-- the node of an entry stays as the history grows
+pub node_stays : (session : Session) (seen later : List Entry) (place : ℕ) → place < length seen → slice_get (nodes_of session (seen ++ later)) place ≡ slice_get (nodes_of session seen) place
+node_stays session seen [] place low = ap (λ h. slice_get (nodes_of session h) place) (append-nil seen)
+node_stays session seen (e ∷ later) place low =
+    let longer = length-append seen (e ∷ []) in
+    let nodes = length-nodes_of session seen in
+    ap (λ h. slice_get (nodes_of session h) place) (sym (append_assoc seen (e ∷ []) later))
+    ∙ node_stays session (seen ++ e ∷ []) later place (omega (arith, low, longer))
+    ∙ ap (λ ns. slice_get ns place) (nodes_of-append session seen e)
+    ∙ short_get (nodes_of session seen) (node_at_entry session seen (nodes_of session seen) e ∷ []) place (omega (arith, low, nodes))
+
 -- A write that is under way stays so
 
 pub way_looked : (session : Session) (who number : ℕ) (seen after : List Entry) (now : Process) (o : Option Way) → HasLooked session who seen after → IsWay session who number seen now o → IsWay session who number after now o
@@ -84,4 +97,6 @@ way_looked session who number seen after now (Some w) looked is =
       held = is.held;
       pipe = is.pipe;
       within = omega (arith, longer, low);
+      source = ap (λ h. slice_get (nodes_of session h) w.out) (sym whole) ∙ node_stays session seen later w.out low ∙ is.source;
+      holds = is.holds;
     })

@@ -1,5 +1,5 @@
 -- A write to a pipe that has made its first entry: it may go on, or be left.
-use Rattle.std.specs.Prelude.{◌≡◌, ℕ, ◌<◌, ◌≤◌, true, List, [], ◌∷◌, Option, Some, None, length, take}
+use Rattle.std.specs.Prelude.{◌≡◌, ℕ, ◌<◌, ◌≤◌, true, List, [], ◌∷◌, Option, Some, None, length, slice_get, take}
 use Rattle.std.specs.FinMap as finite_map
 use Rattle.pass_entry.specs.Limits.{transfer_limit}
 use Rattle.pass_entry.specs.declared.entry.Entry.{Entry}
@@ -10,6 +10,7 @@ use Rattle.pass_entry.specs.declared.entry.Reply.TheVariants as answer
 use Rattle.pass_plain.specs.declared.request.Request.TheVariants as requests
 use Rattle.pass_plain.specs.Sessions.{Session}
 use Rattle.pass_plain.specs.Processes.{Process, process_after, refusal, is_pipe}
+use Rattle.pass_plain.specs.Versions.{nodes_of}
 use Rattle.pass_hold.specs.Callings.{IsGoing}
 use Rattle.pass_proc.specs.declared.way.Way.{Way}
 use Rattle.pass_proc.specs.Acts.{own_entry}
@@ -26,6 +27,8 @@ pub record IsUnderWay (session : Session) (who number : ℕ) (before seen : List
   pub held : finite_map.get (process_after before who).descriptors w.fd ≡ Some w.to
   pub pipe : is_pipe w.to ≡ true
   pub within : w.out < length seen
+  pub source : slice_get (nodes_of session seen) w.out ≡ Some w.source
+  pub holds : finite_map.get now.descriptors w.fd ≡ Some w.to
 
 -- where a write is under way, it began behind what stands before its first entry
 abbrev pub IsWay : Session → ℕ → ℕ → List Entry → Process → Option Way → Type 0

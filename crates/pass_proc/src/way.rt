@@ -1,16 +1,17 @@
 //! A write to a pipe that has made its first entry.
 ghost use Rattle.std.specs.Prelude.{◌≡◌, ◌==◌, ◌&&◌, bytes_eq};
 
-use pass_entry::{Bytes, Descriptor};
+use pass_entry::{Bytes, Descriptor, Node};
 
 /// A write to a pipe without room, whose first entry stands at the place `out`: the bytes go by the descriptor that the process held
-/// then. The same call goes on with it, and another call that makes an entry leaves it.
+/// then, from the node `source` that it had. The same call goes on with it, and another call that makes an entry leaves it.
 #[derive(Drop)]
 pub struct Way {
     pub fd: u8,
     pub bytes: Bytes,
     pub to: Descriptor,
     pub out: u64,
+    pub source: Node,
 }
 
 impl Way {

@@ -2,6 +2,8 @@
 use Rattle.std.specs.Prelude.{ℕ, List, [], ◌∷◌, ◌++◌, codes}
 use Rattle.std.specs.Fmt.{decimal}
 use Rattle.pass_entry.specs.Words.{flaw_word, node_text}
+use Rattle.pass_pattern.specs.declared.fault.PatternFault.{PatternFault}
+use Rattle.pass_pattern.specs.declared.fault.PatternFault.TheVariants as pattern
 use Rattle.pass_record.specs.declared.fault.RecordFault.{RecordFault}
 use Rattle.pass_record.specs.declared.fault.RecordFault.TheVariants as fault
 use Rattle.pass_recover.specs.declared.fault.OpenFault.{OpenFault}
@@ -20,7 +22,11 @@ number_of_status (status.BadTrace line reason) = 3
 number_of_status (status.NotBuilt line) = 12
 number_of_status (status.DiskFault opened now) = 8
 number_of_status (status.BadStore fault) = 5
+number_of_status (status.BadPattern fault) = 17
 number_of_status (status.NoObject node) = 9
+number_of_status (status.BadStream at) = 18
+number_of_status (status.NoFrame from) = 19
+number_of_status (status.BadLog at) = 21
 number_of_status status.WriteFault = 7
 number_of_status status.NoMemory = 10
 
@@ -47,6 +53,12 @@ store_text (store.Flaw place reason) = codes "fault store flaw " ++ decimal plac
 store_text store.DiskFault = codes "fault store" ++ 10 ∷ []
 store_text store.NoMemory = codes "fault store" ++ 10 ∷ []
 
+-- the text of a pattern that is none. No status carries want of memory here: it has a status of its own.
+abbrev pub pattern_text : PatternFault → List ℕ
+pattern_text (pattern.Bad at) = codes "fault pattern " ++ decimal at ++ 10 ∷ []
+pattern_text pattern.Long = codes "fault pattern long" ++ 10 ∷ []
+pattern_text pattern.NoMemory = codes "fault pattern" ++ 10 ∷ []
+
 -- the text of a status that stands on no report
 abbrev pub status_text : Status → List ℕ
 status_text status.BadWords = codes "fault words" ++ 10 ∷ []
@@ -55,5 +67,9 @@ status_text (status.BadTrace line reason) = codes "fault trace " ++ decimal line
 status_text (status.NotBuilt line) = codes "fault unbuilt " ++ decimal line ++ 10 ∷ []
 status_text (status.DiskFault opened now) = codes "fault disk" ++ 10 ∷ []
 status_text (status.BadStore fault) = store_text fault
+status_text (status.BadPattern fault) = pattern_text fault
 status_text (status.NoObject node) = codes "fault object " ++ node_text node ++ 10 ∷ []
+status_text (status.BadStream at) = codes "fault stream " ++ decimal at ++ 10 ∷ []
+status_text (status.NoFrame from) = codes "fault frame " ++ decimal from ++ 10 ∷ []
+status_text (status.BadLog at) = codes "fault log " ++ decimal at ++ 10 ∷ []
 status_text _ = []

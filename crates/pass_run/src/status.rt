@@ -1,9 +1,10 @@
 //! How a run of the program ended.
 ghost use Rattle.std.specs.Prelude.{◌≡◌, [], ◌∷◌, ◌++◌, IfOk, codes, decimal, string_bytes};
 ghost use Rattle.pass_trace.specs.Reasons.{reason_word};
-ghost use Rattle.pass_run.specs.Statuses.{record_word, store_text, status_of_opening};
+ghost use Rattle.pass_run.specs.Statuses.{pattern_text, record_word, store_text, status_of_opening};
 
 use pass_entry::Node;
+use pass_pattern::PatternFault;
 use pass_record::RecordFault;
 use pass_recover::OpenFault;
 use pass_trace::TraceReason;
@@ -28,8 +29,16 @@ pub enum Status {
     DiskFault { opened: u64, now: u64 },
     /// The store that the disk has doesn't open: `BadFrame`, `BadRecord` or `Flaw`.
     BadStore(OpenFault),
+    /// The text that a question gives as a pattern is none: `Long` or `Bad`.
+    BadPattern(PatternFault),
     /// A question names a node that the graph of the store doesn't have: the first one given.
     NoObject(Node),
+    /// What a standby follows has a bad frame: the place of that frame in the log.
+    BadStream { at: u64 },
+    /// The place from which a log was asked for is neither a frame's nor its end.
+    NoFrame(u64),
+    /// The log of a standby has a bad frame as it is opened: the place of that frame.
+    BadLog { at: u64 },
     /// The sink failed. It may have taken the beginning of another status's text.
     WriteFault,
     /// Memory was refused.
@@ -52,7 +61,11 @@ impl Status {
             Status::NotBuilt { .. } => 12,
             Status::DiskFault { .. } => 8,
             Status::BadStore(_) => 5,
+            Status::BadPattern(_) => 17,
             Status::NoObject(_) => 9,
+            Status::BadStream { .. } => 18,
+            Status::NoFrame(_) => 19,
+            Status::BadLog { .. } => 21,
             Status::WriteFault => 7,
             Status::NoMemory => 10,
         }
@@ -69,7 +82,11 @@ impl Status {
             Status::NotBuilt { line } => format!(in alloc; "fault unbuilt {line}\n"),
             Status::DiskFault { .. } => String::from_str(alloc, "fault disk\n"),
             Status::BadStore(fault) => text_of_store(alloc, *fault),
+            Status::BadPattern(fault) => text_of_pattern(alloc, *fault),
             Status::NoObject(node) => format!(in alloc; "fault object {node}\n"),
+            Status::BadStream { at } => format!(in alloc; "fault stream {at}\n"),
+            Status::NoFrame(from) => format!(in alloc; "fault frame {from}\n"),
+            Status::BadLog { at } => format!(in alloc; "fault log {at}\n"),
             Status::Done | Status::Stuck | Status::WriteFault | Status::NoMemory => {
                 Ok(String::new(alloc))
             }
@@ -94,6 +111,17 @@ pub fn opening_status(fault: OpenFault, opened: u64, now: u64) -> Status
         OpenFault::BadFrame { .. } | OpenFault::BadRecord { .. } | OpenFault::Flaw { .. } => {
             Status::BadStore(fault)
         }
+    }
+}
+
+// The text of a pattern that is none.
+fn text_of_pattern(alloc: Global, fault: PatternFault) -> Result<String, AllocError>
+    ensures { IfOk result (λ text. string_bytes text ≡ pattern_text fault) }
+{
+    match fault {
+        PatternFault::Bad { at } => format!(in alloc; "fault pattern {at}\n"),
+        PatternFault::Long => String::from_str(alloc, "fault pattern long\n"),
+        PatternFault::NoMemory => String::from_str(alloc, "fault pattern\n"),
     }
 }
 

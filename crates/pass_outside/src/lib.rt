@@ -18,6 +18,7 @@ mod sink;
 mod source;
 mod stream;
 mod synced;
+mod watch;
 
 pub use disk::{Area, Disk};
 pub use fault::Failed;
@@ -29,3 +30,4 @@ pub use sink::MemSink;
 pub use source::MemSource;
 pub use stream::{Sink, Source};
 pub use synced::{sync_both, write_synced};
+pub use watch::{Watch, WatchDisk};

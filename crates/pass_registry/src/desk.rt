@@ -7,7 +7,7 @@ ghost use Rattle.pass_entry.specs.declared.entry.CallName.TheVariants as calls;
 ghost use Rattle.pass_entry.specs.declared.objects.Kind.TheVariants as kinds;
 ghost use Rattle.pass_plain.specs.Legal.{CallerAllows, IsLegal};
 ghost use Rattle.pass_plain.specs.Places.{is_exit, kept_by, keeps};
-ghost use Rattle.pass_plain.specs.Registries.{Exists, registry_after};
+ghost use Rattle.pass_plain.specs.Registries.{Exists, next_pnode, registry_after};
 ghost use Rattle.pass_plain.specs.States.{registry_reply, registry_step};
 ghost use Rattle.pass_book.specs.Numbers.{IsFileNumber};
 ghost use Rattle.pass_hold.specs.Callers.{moved_on};
@@ -133,6 +133,13 @@ impl<J: Whose> RegistryDesk<J> {
         ensures some { IsSome result ↔ Exists (registry_after J.book.session self.now.seen) file kinds.File }
     {
         self.registry.number(file)
+    }
+
+    /// The number that the next object gets, as long as this desk is held.
+    pub fn next(&self) -> Pnode
+        ensures { result ≡ next_pnode J.book.session (registry_after J.book.session self.now.seen) }
+    {
+        self.registry.next()
     }
 
     /// The file that has the name now.

@@ -16,7 +16,7 @@ ghost use Rattle.pass_plain.specs.Sound.{IsSound};
 ghost use Rattle.pass_plain.specs.States.{registry_reply};
 ghost use Rattle.pass_registry.specs.Files.{number_of};
 ghost use Rattle.pass_registry.specs.Outcomes.{minted, displaced, reply_made, reply_done};
-ghost use Rattle.pass_registry.specs.States.{IsOf, opened, with_act};
+ghost use Rattle.pass_registry.specs.States.{IsOf, next_pnode, opened, with_act};
 ghost use Rattle.pass_registry.specs.Openings.{IsSingle, file_object, app_object};
 ghost use Rattle.pass_registry.specs.Tables.{count_in};
 
@@ -202,6 +202,13 @@ impl Registry {
         ensures some { IsSome result ↔ Exists self.now.registry file kinds.File }
     {
         self.table.number(file)
+    }
+
+    /// The number that the next object gets.
+    pub fn next(&self) -> Pnode
+        ensures { result ≡ next_pnode self.now }
+    {
+        Pnode(self.ceiling + u64::from(self.made) + 1)
     }
 
     /// How many objects the session made.

@@ -29,7 +29,7 @@ use Rattle.pass_hold.specs.Callings.{made_by, entries_in, IsEntered, IsIdle, IsI
 
 -- A call begins
 
-none_yet : (session : Session) (seen : List Entry) (who number : ℕ) → IsLegal session seen → last_number seen who ≡ number → call_entries seen who (number + 1) ≡ []
+pub none_yet : (session : Session) (seen : List Entry) (who number : ℕ) → IsLegal session seen → last_number seen who ≡ number → call_entries seen who (number + 1) ≡ []
 none_yet session seen who number legal last =
     no_calls seen who (number + 1) (λ i f at w k.
     let b = (numbered session seen legal).below i f at in
@@ -186,6 +186,7 @@ module _ (session : Session) (before seen : List Entry) (who number : ℕ) (r : 
         made_is = ap (λ n. call_entries seen who n) (sym is.counted) ∙ is.made_is;
         before_is = ap (λ n. before_call seen who n) (sym is.counted) ∙ is.before_is ∙ sym is.was;
         steps = subst (λ (q : Process). IsBegun who q made r) (sym is.was) is.begun_as;
+        named = is.named;
         over = ap (λ n. is_over seen who n) (sym is.counted) ∙ over_is ∙ over;
       }
 
@@ -202,7 +203,7 @@ module _ (session : Session) (before seen : List Entry) (who number : ℕ) (r : 
       }
 
 -- no entry of a process has the number 0
-no_zero : (session : Session) (seen : List Entry) (who i : ℕ) (f : Entry) → IsLegal session seen → has_begun seen who ≡ true → slice_get seen i ≡ Some f → f.who ≡ who → f.number ≡ 0 → ⊥
+pub no_zero : (session : Session) (seen : List Entry) (who i : ℕ) (f : Entry) → IsLegal session seen → has_begun seen who ≡ true → slice_get seen i ≡ Some f → f.who ≡ who → f.number ≡ 0 → ⊥
 no_zero session seen who i f legal begun at w n = elim (acts-cases (take i seen) f (legal i f at).acts) [
   | inl s ↦ zero_not session seen legal (ap (λ w. has_begun seen w) (sym s.2 ∙ w) ∙ begun)
   | inr a ↦ never (last_number (take i seen) f.who) (is_over (take i seen) f.who (last_number (take i seen) f.who)) (may_be_left (take i seen) f.who (last_number (take i seen) f.who))

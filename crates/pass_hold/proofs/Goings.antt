@@ -28,7 +28,7 @@ use Rattle.pass_book.proofs.Prefixes.{prefix_self, prefix_trans, prefix_more, pr
 use Rattle.pass_hold.specs.Goings.{IsStepAt, Goes, StillLaw, LookLaw, AddLaw, AnsweredLaw, UnansweredLaw, LeftLaw}
 
 -- a longer beginning of a whole
-take_past : {X : Type 0} (xs ys : List X) (n : ℕ) → length xs ≤ n → take n (xs ++ ys) ≡ xs ++ take (n - length xs) ys
+pub take_past : {X : Type 0} (xs ys : List X) (n : ℕ) → length xs ≤ n → take n (xs ++ ys) ≡ xs ++ take (n - length xs) ys
 take_past [] ys n le = ap (λ n. take n ys) (let z : n ≡ n - 0 = omega arith in z)
 take_past (x ∷ xs) ys zero le = absurd (omega arith)
 take_past (x ∷ xs) ys (suc n) le = ap (λ zs. x ∷ zs) (take_past xs ys n (omega arith) ∙ ap (λ n. xs ++ take n ys) (let z : n - length xs ≡ suc n - suc (length xs) = omega arith in z))
@@ -59,14 +59,14 @@ within p seen later whole n x parts none at passes = elim (le_or_above (length s
       absurd (let z : true ≡ false = sym (any_of p later (n - length seen) x there passes) ∙ none in cc)
 ]
 
-own_is : (e : Entry) (who number : ℕ) → is_of_call who number e ≡ true → e.number ≡ number
+pub own_is : (e : Entry) (who number : ℕ) → is_of_call who number e ≡ true → e.number ≡ number
 own_is e who number own = same_numbers e.number number (true_right (e.who == who) (e.number == number) own)
 
-other_entries : (history : List Entry) (e : Entry) (who number : ℕ) → is_of_call who number e ≡ false → call_entries (history ++ e ∷ []) who number ≡ call_entries history who number
+pub other_entries : (history : List Entry) (e : Entry) (who number : ℕ) → is_of_call who number e ≡ false → call_entries (history ++ e ∷ []) who number ≡ call_entries history who number
 other_entries history e who number other =
     call_entries-append history e who number ∙ ap (λ b. call_entries history who number ++ cond b ((length history, e) ∷ []) []) other ∙ append-nil (call_entries history who number)
 
-number_same : (xs ys : List Entry) (who : ℕ) → SameCaller xs ys who → next_number ys who ≡ next_number xs who
+pub number_same : (xs ys : List Entry) (who : ℕ) → SameCaller xs ys who → next_number ys who ≡ next_number xs who
 number_same xs ys who same =
     let last : ℕ = last_number xs who in
     let over : is_over ys who last ≡ is_over xs who last = (λ i. ends_call (same.before last i) (same.calls last i)) in
@@ -77,10 +77,10 @@ module _ (session : Session) (who : ℕ) (mid new : List Entry) (begun : has_beg
   none = none_later (λ (e : Entry). e.who == who) mid begins.0 new begins.1 agrees
 
   -- what the caller reads of its own in any longer beginning
-  same_caller : SameCaller mid new who
+  pub same_caller : SameCaller mid new who
   same_caller = subst (λ h. SameCaller mid h who) begins.1 (caller_agrees session mid begins.0 who (subst (λ h. IsLegal session h) (sym begins.1) legal) begun none)
 
-  same_up_to : (n : ℕ) → length mid ≤ n → SameCaller mid (take n new) who
+  pub same_up_to : (n : ℕ) → length mid ≤ n → SameCaller mid (take n new) who
   same_up_to n le =
       let is : take n new ≡ mid ++ take (n - length mid) begins.0 = ap (λ h. take n h) (sym begins.1) ∙ take_past mid begins.0 n le in
       subst (λ h. SameCaller mid h who) (sym is)

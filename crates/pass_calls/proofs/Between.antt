@@ -1,5 +1,5 @@
 -- A process between two calls: it has looked, or has made a call.
-use Rattle.std.proofs.Common.{◌≡◌, ℕ, ◌<◌, ◌≤◌, ◌^◌, length, sym, subst, false}
+use Rattle.std.proofs.Common.{◌≡◌, ℕ, ◌<◌, ◌≤◌, ◌^◌, length, ap, sym, ◌∙◌, subst, false}
 use Rattle.std.specs.Prelude.{Option, None, Result, Ok, Err}
 use Rattle.pass_entry.specs.declared.entry.CallFault.{CallFault}
 use Rattle.pass_plain.specs.declared.request.Request.{Request}
@@ -31,13 +31,13 @@ module _ (session : Session) (p : ProcessView) (n : ℕ) (c : CallerState) (way 
   )
 
   -- it found too few places
-  pub full_ends : (places : ℕ) (old : ProcView) → proc_with p n c way ≡ old → (r : Request) (need : ℕ) (f : Full) → need ≡ need_of (name_of r)
+  pub full_ends : (places : ℕ) (old : ProcView) → proc_with p n c way ≡ old → (r : Request) (need : ℕ) (f : Full) → resumes old.way r ≡ false → need ≡ need_of (name_of r)
       → (f.need ≡ need) × (f.left < need) × (f.left ≡ left_for places d.seen c.who) → (end : CallEnd) → end ≡ ends.Full f.left f.need
       → Answers session places old (proc_with p n d way) r (Err end)
-  full_ends places old view r need f needs is_full end told =
+  full_ends places old view r need f new needs is_full end told =
       subst (λ (v : ProcView). Answers session places v (proc_with p n d way) r (Err end)) view
       (subst (λ (e : CallEnd). Answers session places (proc_with p n c way) (proc_with p n d way) r (Err e)) (sym told)
-      (full session places p n c d way is.0 r need f needs same looked is_full))
+      (full session places p n c d way is.0 r need f (ap (λ (v : ProcView). resumes v.way r) view ∙ new) needs same looked is_full))
 
 -- a call that is not the write under way ends as its steps do. q, m and e are the process, its number and its caller after it
 module _ (session : Session) (places : ℕ) (p : ProcessView) (n : ℕ) (c : CallerState) (way : Option Way) (old : ProcView) (view : proc_with p n c way ≡ old) (r : Request)

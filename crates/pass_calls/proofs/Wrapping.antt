@@ -41,10 +41,10 @@ module _ (session : Session) (places : ℕ) (old : ProcView) (r : Request) (new 
 
 -- it found too few places
 module _ (session : Session) (places : ℕ) (p : ProcessView) (n : ℕ) (c d : CallerState) (way : Option Way) (is : IsCallerOf session p n c) where
-  pub full : (r : Request) (need : ℕ) (f : Full) → need ≡ need_of (name_of r) → d ≡ moved_on c d.seen d.syncs c.held → HasLooked session c.who c.seen d.seen
+  pub full : (r : Request) (need : ℕ) (f : Full) → resumes way r ≡ false → need ≡ need_of (name_of r) → d ≡ moved_on c d.seen d.syncs c.held → HasLooked session c.who c.seen d.seen
       → (f.need ≡ need) × (f.left < need) × (f.left ≡ left_for places d.seen c.who)
       → Answers session places (proc_with p n c way) (proc_with p n d way) r (Err (ends.Full f.left f.need))
-  full r need f needs same looked is_full =
+  full r need f new needs same looked is_full =
       let low = is_full.1 in
       let told = is_full.0 in
       record {
@@ -53,6 +53,7 @@ module _ (session : Session) (places : ℕ) (p : ProcessView) (n : ℕ) (c d : C
           rose = let more : d.looks ≡ c.looks + 1 = ap (λ (c : CallerState). c.looks) same in omega (arith, more);
           stays = ap (λ l. record (proc_with p n d way) { looked = l }) (ap (λ (c : CallerState). c.looked) same);
         };
+        anew = new;
         needs = told ∙ needs;
         fewer = omega (arith, low, told);
         leaves = is_full.2 ∙ ap (λ w. left_for places d.seen w) is.of_who;

@@ -106,9 +106,10 @@ pub record HasWaited (session : Session) (old new : ProcView) (r : Request) : Ty
   pub who : new.who ≡ old.who
   pub stays : Stays old new r
 
--- fewer places are left than the call needs, as its process looked
+-- fewer places are left than the call needs, as its process looked. A write that goes on needs none
 pub record IsFull (session : Session) (places : ℕ) (old new : ProcView) (r : Request) (left need : ℕ) : Type 0 where
   pub only : HasOnlyLooked session old new
+  pub anew : resumes old.way r ≡ false
   pub needs : need ≡ need_of (name_of r)
   pub fewer : left < need
   pub leaves : left ≡ left_for places new.seen old.who

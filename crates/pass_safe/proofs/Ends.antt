@@ -154,6 +154,7 @@ refused_full session places old new fd f few number way looks same e is =
         rose = omega (arith, more);
         stays = λ i. record { who = same.0 i; number = number i; seen = new.seen; syncs = new.syncs; looks = new.looks; looked = looks.1 i; state = same.1 i; way = way i };
       };
+      anew = refl;
       needs = needs;
       fewer = omega (arith, fewer, needs);
       leaves = few.left;
@@ -178,7 +179,7 @@ pub too_few_sync : (session : Session) (places : ℕ) (old : ProcView) (p : Proc
     → SyncAnswers session places old (proc_with p n d way) fd (Err e)
 too_few_sync session places old p n c d way fd f is is_old same looked few e told =
     subst (λ e. SyncAnswers session places old (proc_with p n d way) fd (Err e)) (sym told)
-    (subst (λ (v : ProcView). SyncAnswers session places v (proc_with p n d way) fd (Err (ends.Full f.left f.need))) is_old (full session places p n c d way is (requests.Sync fd) 3 f refl same looked few))
+    (subst (λ (v : ProcView). SyncAnswers session places v (proc_with p n d way) fd (Err (ends.Full f.left f.need))) is_old (full session places p n c d way is (requests.Sync fd) 3 f refl refl same looked few))
 
 -- Its process sees more
 

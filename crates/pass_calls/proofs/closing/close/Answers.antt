@@ -29,4 +29,4 @@ returns-in-Err-room-clause-call g c =
     let i = c.proc.inside in
     let e = c.in-Err-room.ensures in
     full_ends S i.process i.number i.caller i.way c.proc.invariant c.room.new.self e.caller e.looked g.J.Whose.places c.args.proc.now c.proc.view_is
-    (requests.CloseFd c.args.fd) 3 c.in-Err-room.full refl e.full c.from.result c.from.ensures
+    (requests.CloseFd c.args.fd) 3 c.in-Err-room.full refl refl e.full c.from.result c.from.ensures

@@ -24,7 +24,7 @@ returns-in-Err-clause-call g c =
     let i = c.proc.inside in
     let e = c.in-Err.ensures in
     full_ends S i.process i.number i.caller i.way c.proc.invariant c.room.new.self e.caller e.looked g.J.Whose.places c.args.proc.now c.proc.view_is
-    (requests.Write c.args.fd c.args.bytes.now) 3 c.in-Err.full refl e.full c.from.result c.from.ensures
+    (requests.Write c.args.fd c.args.bytes.now) 3 c.in-Err.full c.requires.new refl e.full c.from.result c.from.ensures
 
 pub put_steps-moved-requires-clause-idle : goal.put_steps-moved-requires-clause-idle
 put_steps-moved-requires-clause-idle g c =

@@ -23,7 +23,7 @@ returns-in-Err-clause-call g c =
     let i = c.proc.inside in
     let e = c.in-Err.ensures in
     full_ends S i.process i.number i.caller i.way c.proc.invariant c.room.new.self e.caller e.looked g.J.Whose.places c.args.proc.now c.proc.view_is
-    (request_of c.args.grant) 3 c.in-Err.full (grant_needs c.args.grant) e.full c.from.result c.from.ensures
+    (request_of c.args.grant) 3 c.in-Err.full (new_grant c.args.grant c.args.proc.now.way) (grant_needs c.args.grant) e.full c.from.result c.from.ensures
 
 pub returns-clause-call : goal.returns-clause-call
 returns-clause-call g c =

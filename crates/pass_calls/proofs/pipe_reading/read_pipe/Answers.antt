@@ -93,7 +93,7 @@ returns-in-Err-clause-call g c =
     subst (λ (old : ProcView). Answers S g.J.Whose.places old (proc_with c.reserve.new.self i.number d i.way) r (Err c.from.result)) c.proc.view_is
     (subst (λ (q : ProcessView). Answers S g.J.Whose.places (proc_with i.process i.number i.caller i.way) (proc_with q i.number d i.way) r (Err c.from.result)) (sym c.in_ok-reserve.ensures.same)
     (subst (λ (end : CallEnd). Answers S g.J.Whose.places (proc_with i.process i.number i.caller i.way) (proc_with i.process i.number d i.way) r (Err end)) (sym c.from.ensures)
-    (full S g.J.Whose.places i.process i.number i.caller d i.way c.proc.invariant.0 r 3 c.in-Err.full refl e.caller e.looked e.full)))
+    (full S g.J.Whose.places i.process i.number i.caller d i.way c.proc.invariant.0 r 3 c.in-Err.full refl refl e.caller e.looked e.full)))
 
 pub take_steps-moved-requires-clause-idle : goal.take_steps-moved-requires-clause-idle
 take_steps-moved-requires-clause-idle g c =

@@ -42,7 +42,7 @@ returns-in-Err-clause-call g c =
     let after = proc_with i.process i.number c.room.new.self i.way in
     subst (λ (old : ProcView). Answers S g.J.Whose.places old after r (Err c.from.result)) c.proc.view_is
     (subst (λ (end : CallEnd). Answers S g.J.Whose.places (proc_with i.process i.number i.caller i.way) after r (Err end)) (sym c.from.ensures)
-    (full S g.J.Whose.places i.process i.number i.caller c.room.new.self i.way c.proc.invariant.0 r 3 c.in-Err.full refl e.caller e.looked e.full))
+    (full S g.J.Whose.places i.process i.number i.caller c.room.new.self i.way c.proc.invariant.0 r 3 c.in-Err.full (ap (λ (v : ProcView). is_way v.way c.args.fd c.args.bytes) c.proc.view_is ∙ c.requires.new) refl e.caller e.looked e.full))
 
 pub wait_steps-way-requires-clause-idle : goal.wait_steps-way-requires-clause-idle
 wait_steps-way-requires-clause-idle g c =

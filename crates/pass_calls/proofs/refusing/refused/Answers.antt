@@ -50,6 +50,7 @@ returns-in-Err-clause-call g c = λ r named asked within new.
           way = c.in-Err.ensures.full.2 i;
         };
       };
+      anew = new;
       needs = three ∙ sym (ap need_of named ∙ c.requires.need);
       fewer = omega (arith, low, three);
       leaves = few.left;

@@ -24,7 +24,7 @@ returns-in-Err g c =
     let e = c.in-Err.ensures in
     record {
       call = full_ends S i.process i.number i.caller i.way c.proc.invariant c.room.new.self e.caller e.looked g.J.Whose.places c.args.proc.now c.proc.view_is
-          (request_of_change c.args.change) 3 c.in-Err.full (change_needs c.args.change) e.full c.from.result c.from.ensures;
+          (request_of_change c.args.change) 3 c.in-Err.full (new_change c.args.change c.args.proc.now.way) (change_needs c.args.change) e.full c.from.result c.from.ensures;
     }
 
 pub returns : goal.returns

@@ -33,7 +33,7 @@ returns-in-Err-clause-call g c =
     let same = c.reserve.ensures.same in
     full_ends S q i.number i.caller i.way (reserved S i.process q i.number i.caller i.way (ap (λ (v : ProcessView). v.who) same) (ap (λ (v : ProcessView). v.state) same) c.proc.invariant)
     c.room-2.new.self e.caller e.looked g.J.Whose.places c.args.proc.now (ap (λ (v : ProcessView). proc_with v i.number i.caller i.way) same ∙ c.proc.view_is)
-    (requests.Exec c.args.name.now c.args.args.now) 3 c.in-Err.full refl e.full c.from.result c.from.ensures
+    (requests.Exec c.args.name.now c.args.args.now) 3 c.in-Err.full refl refl e.full c.from.result c.from.ensures
 
 pub exec_steps-requires-clause-idle : goal.exec_steps-requires-clause-idle
 exec_steps-requires-clause-idle g c =

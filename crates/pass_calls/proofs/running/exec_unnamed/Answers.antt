@@ -23,7 +23,7 @@ returns-in-Err g c =
     let e = c.in-Err.ensures in
     record {
       call = full_ends S i.process i.number i.caller i.way c.proc.invariant c.room.new.self e.caller e.looked g.J.Whose.places c.args.proc.now c.proc.view_is
-          (requests.Exec c.args.name.now c.args.args.now) 3 c.in-Err.full refl e.full c.from.result c.from.ensures;
+          (requests.Exec c.args.name.now c.args.args.now) 3 c.in-Err.full refl refl e.full c.from.result c.from.ensures;
     }
 
 pub find_step-requires-clause-idle : goal.find_step-requires-clause-idle

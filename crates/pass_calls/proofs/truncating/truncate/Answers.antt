@@ -22,4 +22,4 @@ returns-in-Err-clause-call g c =
     let i = c.proc.inside in
     let e = c.in-Err.ensures in
     full_ends S i.process i.number i.caller i.way c.proc.invariant c.room.new.self e.caller e.looked g.J.Whose.places c.args.proc.now c.proc.view_is
-    (requests.Truncate c.args.fd c.args.size) 3 c.in-Err.full refl e.full c.from.result c.from.ensures
+    (requests.Truncate c.args.fd c.args.size) 3 c.in-Err.full refl refl e.full c.from.result c.from.ensures

@@ -1,0 +1,7 @@
+mod Answering
+mod Births
+mod Exits
+mod Positions
+mod Rests
+mod Since
+mod Syncing

@@ -10,15 +10,17 @@ use Rattle.pass_plain.specs.Calls.{Made, is_last}
 use Rattle.pass_plain.specs.Legal.{MayFollow, before_call, is_over, last_number}
 use Rattle.pass_plain.specs.Traces.{Line, LineCall, calls_of}
 use Rattle.pass_plain.specs.Runs.{pnode_of_process, next_number, request_at}
-use Rattle.pass_run.specs.Lines.{AreLinesBehind}
-use Rattle.pass_run.specs.Making.{IsRunSoFar, IsNextEntry, IsCallUnderWay, GoesOn}
-use Rattle.pass_run.proofs.Positions.{unequal}
-use Rattle.pass_run.proofs.NextCalls.{is_call}
-use Rattle.pass_run.proofs.Entries.{own_state, own_entries, other_over, last_none}
-use Rattle.pass_run.proofs.Births.{own, over_after, New, mono, back, child_now, not_begun, silent}
-use Rattle.pass_run.proofs.OneMore.{last_after, last_other, request_stays, run_after}
-use Rattle.pass_run.proofs.Lives.{begun_after, ended_after, unborn_after, single_after, apart_if}
-use Rattle.pass_run.proofs.Spent.{one_less, room_after}
+use Rattle.pass_replay.specs.Lines.{AreLinesBehind}
+use Rattle.pass_replay.specs.Making.{IsRunSoFar, IsNextEntry}
+use Rattle.pass_run.specs.Making.{IsCallUnderWay, GoesOn}
+use Rattle.pass_replay.proofs.Positions.{unequal}
+use Rattle.pass_run.proofs.UnderWay.{is_call}
+use Rattle.pass_replay.proofs.Entries.{own_state, own_entries, other_over, last_none}
+use Rattle.pass_replay.proofs.Births.{own, over_after, New, mono, back, child_now, not_begun, silent}
+use Rattle.pass_replay.proofs.OneMore.{last_after, last_other, request_stays}
+use Rattle.pass_replay.proofs.Lives.{apart_if}
+use Rattle.pass_replay.proofs.SoFar.{so_far_after}
+use Rattle.pass_run.proofs.Spent.{one_less}
 
 pub goes_nowhere : (session : Session) (trace : List Line) (history : List Entry) → GoesOn session trace history history
 goes_nowhere session trace history = record { longer = omega arith; same = λ h. refl; spent = omega arith }
@@ -57,16 +59,8 @@ module _ (session : Session) (trace : List Line) (behind : AreLinesBehind [] tra
   one_longer : length longer ≡ length history + 1
   one_longer = length-append history (e ∷ [])
 
-  pub so_far_after : IsRunSoFar session trace longer
-  so_far_after = record {
-    run = run_after session trace behind history so_far process who done call begun stands next e follows is;
-    some = omega (arith, one_longer);
-    begun = begun_after session trace behind history so_far process who done call begun stands next e follows is;
-    ended = ended_after session trace behind history so_far process who done call begun stands next e follows is;
-    unborn = unborn_after session trace behind history so_far process who done call begun stands next e follows is;
-    single = single_after session trace behind history so_far process who done call begun stands next e follows is;
-    room = room_after session trace behind history so_far process who done call begun stands next e follows is;
-  }
+  further : IsRunSoFar session trace longer
+  further = so_far_after session trace behind history so_far process who done call begun stands next e follows is
 
   pub goes_one : GoesOn session trace history longer
   goes_one =
@@ -123,7 +117,7 @@ module _ (session : Session) (trace : List Line) (behind : AreLinesBehind [] tra
   call_after goes =
       let mine = own session trace behind history so_far process who done call begun stands next e follows is in
       let there = mono session trace behind history so_far process who done call begun stands next e follows is process who begun in
-      let later = is_call session trace behind longer so_far_after process who done call there stands (next_stays goes) in
+      let later = is_call session trace behind longer further process who done call there stands (next_stays goes) in
       subst (λ (m : Made). IsCallUnderWay longer who (done + 1) (request_at session trace history who (done + 1) call) state m) (own_entries history e who (done + 1) mine)
       (subst (λ (p : Process). IsCallUnderWay longer who (done + 1) (request_at session trace history who (done + 1) call) p (call_entries longer who (done + 1))) (own_state history e who (done + 1) mine)
       (subst (λ (r : Request). IsCallUnderWay longer who (done + 1) r (before_call longer who (done + 1)) (call_entries longer who (done + 1)))

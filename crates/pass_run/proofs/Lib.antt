@@ -1,14 +1,6 @@
 pub mod Texts
-pub mod Positions
-pub mod Sums
-pub mod Begun
-pub mod StepKinds
-pub mod NextCalls
 pub mod Taking
-pub mod Entries
-pub mod Births
-pub mod OneMore
-pub mod Lives
+pub mod UnderWay
 pub mod Spent
 pub mod Goes
 pub mod Stepping

@@ -15,7 +15,7 @@ use Rattle.pass_plain.specs.Traces.{Line}
 use Rattle.pass_plain.proofs.Lists.{some_is}
 use Rattle.pass_trace.specs.TraceLines.{plain_line, plain_trace}
 use Rattle.pass_trace.specs.declared.trace.TraceLine.{TraceLine}
-use Rattle.pass_run.specs.Lines.{IsNextLine}
+use Rattle.pass_replay.specs.Lines.{IsNextLine}
 use Rattle.pass_run.specs.Tables.{NextPlace}
 
 pub set_here : {X : Type 0} (xs : List X) (i : ℕ) (x : X) → i < length xs → slice_get (slice_set xs i x) i ≡ Some x

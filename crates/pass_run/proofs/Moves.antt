@@ -16,12 +16,13 @@ use Rattle.pass_plain.specs.Sound.{IsSound}
 use Rattle.pass_plain.proofs.Lists.{some_is, same_numbers}
 use Rattle.pass_trace.specs.TraceLines.{plain_trace}
 use Rattle.pass_trace.specs.declared.trace.TraceLine.{TraceLine}
-use Rattle.pass_run.specs.Making.{IsRunSoFar, GoesOn, steps_left, TakesStep, WaitsForStep}
+use Rattle.pass_replay.specs.Making.{IsRunSoFar}
+use Rattle.pass_run.specs.Making.{GoesOn, steps_left, TakesStep, WaitsForStep}
 use Rattle.pass_run.specs.Tables.{IsLivingAs, AreTabled, IsGoing, HasGoneOn, IsCallOf, EndsCall}
 use Rattle.pass_run.specs.declared.calling.Call.{Call}
 use Rattle.pass_run.specs.declared.run.Living.{Living}
 use Rattle.pass_run.specs.declared.run.Run.{Run}
-use Rattle.pass_run.proofs.NextCalls.{over_within}
+use Rattle.pass_replay.proofs.NextCalls.{over_within}
 use Rattle.pass_run.proofs.Goes.{goes_nowhere, goes_further}
 use Rattle.pass_run.proofs.Stepping.{so_far_new, goes_new, one_more, call_new, tabled_new, begun_new, last_new, over_new, living_new, others_new, begun_are_new, child_new}
 

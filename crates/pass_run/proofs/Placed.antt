@@ -8,14 +8,10 @@ use Rattle.pass_plain.specs.Traces.{Line, LineCall, given, lines_of, calls_of}
 use Rattle.pass_plain.proofs.Lists.{some_is}
 use Rattle.pass_plain.proofs.Appends.{slice_get-last}
 use Rattle.pass_plain.proofs.Replays.{append-nil}
-use Rattle.pass_run.specs.Lines.{IsNextLine, IsLineAt}
-use Rattle.pass_run.proofs.Positions.{unequal, lines-own, lines-append, line_of_parts}
-use Rattle.pass_run.proofs.Births.{call_at_line}
-
-take_next : {X : Type 0} (xs : List X) (i : ℕ) (x : X) → slice_get xs i ≡ Some x → take (suc i) xs ≡ take i xs ++ x ∷ []
-take_next [] i x at = absurd (cc)
-take_next (y ∷ xs) zero x at = ap (λ y. y ∷ []) (some_is y x at)
-take_next (y ∷ xs) (suc i) x at = ap (λ ys. y ∷ ys) (take_next xs i x at)
+use Rattle.pass_replay.specs.Lines.{IsNextLine, IsLineAt}
+use Rattle.pass_replay.proofs.Positions.{unequal, lines-own, lines-append, line_of_parts}
+use Rattle.pass_replay.proofs.Parts.{take_next}
+use Rattle.pass_replay.proofs.Births.{call_at_line}
 
 take_past : {X : Type 0} (xs : List X) (i : ℕ) → slice_get xs i ≡ None → take (suc i) xs ≡ take i xs
 take_past [] zero at = refl

@@ -17,9 +17,10 @@ use Rattle.pass_plain.specs.Runs.{request_at}
 use Rattle.pass_plain.proofs.Lists.{some_is, is_place}
 use Rattle.pass_trace.specs.TraceLines.{call_of, plain_line, plain_trace}
 use Rattle.pass_trace.specs.declared.trace.TraceLine.{TraceLine}
-use Rattle.pass_run.specs.Lines.{AreLinesBehind, IsLineAt}
-use Rattle.pass_run.specs.Making.{IsRunSoFar, IsCallUnderWay}
-use Rattle.pass_run.proofs.NextCalls.{is_call}
+use Rattle.pass_replay.specs.Lines.{AreLinesBehind, IsLineAt}
+use Rattle.pass_replay.specs.Making.{IsRunSoFar}
+use Rattle.pass_run.specs.Making.{IsCallUnderWay}
+use Rattle.pass_run.proofs.UnderWay.{is_call}
 use Rattle.pass_run.specs.Tables.{IsLivingAs, AreTabled, IsRequestOf}
 use Rattle.pass_run.specs.declared.run.Living.{Living}
 use Rattle.pass_run.proofs.Linked.{plain_at, plain_length}

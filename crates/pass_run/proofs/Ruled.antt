@@ -25,7 +25,7 @@ use Rattle.pass_trace.specs.Traces.{text_line_of, said, lines_from, reason_behin
 use Rattle.pass_trace.proofs.Good.{IsGood, IsMode, text_line_is}
 use Rattle.pass_trace.proofs.LinesLemmas.{lines_from-push}
 use Rattle.pass_run.specs.Ends.{IsTrace}
-use Rattle.pass_run.specs.Lines.{is_fork_of, is_there, IsLineCall, IsLineBehind, AreLinesBehind, ForksBefore}
+use Rattle.pass_replay.specs.Lines.{is_fork_of, is_there, IsLineCall, IsLineBehind, AreLinesBehind, ForksBefore}
 use Rattle.pass_run.proofs.Linked.{plain_at}
 
 below_64 : (fd : ℕ) → fd ≤ 63 → is_fd fd ≡ true

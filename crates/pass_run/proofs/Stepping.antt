@@ -13,16 +13,18 @@ use Rattle.pass_plain.specs.Legal.{before_call, is_over, last_number}
 use Rattle.pass_plain.specs.Traces.{Line, fork_as, calls_of}
 use Rattle.pass_plain.specs.Runs.{pnode_of_process, next_number, request_at}
 use Rattle.pass_plain.proofs.Lists.{some_is, same_numbers}
-use Rattle.pass_run.specs.Lines.{AreLinesBehind}
-use Rattle.pass_run.specs.Making.{IsRunSoFar, IsNextEntry, IsCallUnderWay, GoesOn, TakesStep}
+use Rattle.pass_replay.specs.Lines.{AreLinesBehind}
+use Rattle.pass_replay.specs.Making.{IsRunSoFar, IsNextEntry}
+use Rattle.pass_run.specs.Making.{IsCallUnderWay, GoesOn, TakesStep}
 use Rattle.pass_run.specs.Tables.{IsLivingAs, AreTabled, IsCallOf}
 use Rattle.pass_run.specs.declared.calling.Call.{Call}
 use Rattle.pass_run.specs.declared.run.Living.{Living}
-use Rattle.pass_run.proofs.Positions.{equal}
-use Rattle.pass_run.proofs.Births.{own, over_after, New, mono, back, child_now}
-use Rattle.pass_run.proofs.Entries.{own_entries}
-use Rattle.pass_run.proofs.OneMore.{last_after, still_over, request_stays}
-use Rattle.pass_run.proofs.Goes.{so_far_after, goes_one, next_stays, next_of_other, begun_same, child_apart, child_next, call_after}
+use Rattle.pass_replay.proofs.Positions.{equal}
+use Rattle.pass_replay.proofs.Births.{own, over_after, New, mono, back, child_now}
+use Rattle.pass_replay.proofs.Entries.{own_entries}
+use Rattle.pass_replay.proofs.OneMore.{last_after, still_over, request_stays}
+use Rattle.pass_replay.proofs.SoFar.{so_far_after}
+use Rattle.pass_run.proofs.Goes.{goes_one, next_stays, next_of_other, begun_same, child_apart, child_next, call_after}
 
 module _ (session : Session) (trace : List Line) (behind : AreLinesBehind [] trace) (history : List Entry) (so_far : IsRunSoFar session trace history)
     (process : ℕ) (row : Living) (lives : IsLivingAs session trace history process row) (c : Call) (made : Made) (of : IsCallOf session trace history process row c made)

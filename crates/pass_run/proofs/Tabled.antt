@@ -16,15 +16,15 @@ use Rattle.pass_trace.specs.declared.trace.Command.{Command}
 use Rattle.pass_trace.specs.declared.trace.Command.TheVariants as command
 use Rattle.pass_trace.specs.declared.trace.Payload.TheVariants as payload
 use Rattle.pass_trace.specs.declared.trace.TraceLine.{TraceLine}
-use Rattle.pass_run.specs.Lines.{IsNextLine, IsLineAt}
+use Rattle.pass_replay.specs.Lines.{IsNextLine, IsLineAt}
 use Rattle.pass_run.specs.Tables.{IsLivingAs, AreTabled, EndsCall, IsChildRow, Bears}
 use Rattle.pass_run.specs.declared.run.Living.{Living}
 use Rattle.pass_run.specs.declared.run.Run.{Run}
-use Rattle.pass_run.proofs.Positions.{unequal}
-use Rattle.pass_run.proofs.NextCalls.{call_cases, calls_length}
+use Rattle.pass_replay.proofs.Positions.{unequal}
+use Rattle.pass_replay.proofs.NextCalls.{call_cases, calls_length}
 use Rattle.pass_run.proofs.Placed.{first_line, next_line, line_there}
 use Rattle.pass_run.proofs.Linked.{get_inserted, plain_at}
-use Rattle.pass_run.proofs.Births.{call_at_line}
+use Rattle.pass_replay.proofs.Births.{call_at_line}
 
 -- the call that stands at the place of a row
 pub call_there : (trace : List Line) (process done : ℕ) (line : Option ℕ) (call : LineCall) → IsLineAt trace process done line → slice_get (calls_of trace process) done ≡ Some call

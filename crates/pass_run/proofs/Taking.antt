@@ -12,8 +12,9 @@ use Rattle.pass_plain.specs.Legal.{MayFollow, IsNextStep, is_over, may_be_left, 
 use Rattle.pass_plain.specs.Runs.{next_number}
 use Rattle.pass_plain.proofs.Lists.{both_true, some_is, same_numbers}
 use Rattle.pass_plain.proofs.Going.{next_step_law}
-use Rattle.pass_run.specs.Making.{IsCallUnderWay, IsNextEntry}
-use Rattle.pass_run.proofs.Positions.{unequal, equal}
+use Rattle.pass_run.specs.Making.{IsCallUnderWay}
+use Rattle.pass_replay.specs.Making.{IsNextEntry}
+use Rattle.pass_replay.proofs.Positions.{unequal, equal}
 
 over_or : (a left : Bool) → a || true || left ≡ true
 over_or true left = refl

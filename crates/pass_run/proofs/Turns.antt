@@ -11,11 +11,11 @@ use Rattle.pass_plain.specs.Traces.{Line}
 use Rattle.pass_plain.specs.Runs.{CanMove}
 use Rattle.pass_plain.proofs.Lists.{some_is}
 use Rattle.pass_trace.specs.TraceLines.{plain_trace}
-use Rattle.pass_run.specs.Ends.{NoneCanMove}
-use Rattle.pass_run.specs.Lines.{IsLineCall, AreLinesBehind}
+use Rattle.pass_replay.specs.Ends.{NoneCanMove}
+use Rattle.pass_replay.specs.Lines.{IsLineCall, AreLinesBehind}
 use Rattle.pass_run.specs.Tables.{IsGoing, HasGoneOn}
 use Rattle.pass_run.specs.declared.run.Run.{Run}
-use Rattle.pass_run.proofs.Begun.{begun_or_forked}
+use Rattle.pass_replay.proofs.Begun.{begun_or_forked}
 use Rattle.pass_run.proofs.Moves.{ended_unmoved}
 
 pub some_is_some : {A : Type 0} (o : Option A) → IsSome o → (x : A) × (o ≡ Some x)

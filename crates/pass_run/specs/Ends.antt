@@ -1,14 +1,14 @@
 -- How the run of a trace ends. This project's own rule.
-use Rattle.std.specs.Prelude.{ℕ, ◌≡◌, ◌<◌, Bool, true, false, not, List, [], Option, Some, find, length, option_map}
+use Rattle.std.specs.Prelude.{ℕ, ◌≡◌, Bool, true, false, not, List, [], Option, find, option_map}
 use Rattle.pass_entry.specs.declared.entry.Entry.{Entry}
 use Rattle.pass_plain.specs.declared.start.Start.{Start}
 use Rattle.pass_plain.specs.Sessions.{Session}
 use Rattle.pass_plain.specs.Traces.{Line}
-use Rattle.pass_plain.specs.Runs.{IsOfTrace, CanMove, is_open}
 use Rattle.pass_trace.specs.declared.trace.Command.{Command}
 use Rattle.pass_trace.specs.declared.trace.Command.TheVariants as command
 use Rattle.pass_trace.specs.declared.trace.TraceLine.{TraceLine}
 use Rattle.pass_trace.specs.Traces.{trace_of, IsTraceText}
+use Rattle.pass_replay.specs.Ends.{NoneOpen, IsStuck}
 use Rattle.pass_run.specs.declared.status.Status.{Status}
 use Rattle.pass_run.specs.declared.status.Status.TheVariants as status
 
@@ -30,22 +30,6 @@ is_built _ = true
 -- the number of the first line whose call the program doesn't make
 abbrev pub unbuilt_line : List TraceLine → Option ℕ
 unbuilt_line lines = option_map (λ l. l.number) (find (λ l. not (is_built l.command)) lines)
-
--- no process of the trace is open
-abbrev pub NoneOpen : Session → List Line → List Entry → Type 0
-NoneOpen session trace history = (process : ℕ) → IsOfTrace trace process → is_open session trace history process ≡ false
-
--- no process can move
-abbrev pub NoneCanMove : Session → List Line → List Entry → Type 0
-NoneCanMove session trace history = (process : ℕ) → CanMove session trace history process → ⊥
-
--- the session has begun, some process of the trace is open, and none can move
-pub record IsStuck (session : Session) (trace : List Line) (history : List Entry) : Type 0 where
-  pub begun : 0 < length history
-  pub process : ℕ
-  pub of_trace : IsOfTrace trace process
-  pub waits : is_open session trace history process ≡ true
-  pub still : NoneCanMove session trace history
 
 -- with which status a run of the whole trace ends: done where no process is open, else stuck, and never elsewise
 abbrev pub EndsAs : Session → List Line → List Entry → Status → Type 0

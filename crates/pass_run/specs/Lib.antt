@@ -1,7 +1,6 @@
 pub mod Statuses
 pub mod Stores
 pub mod Ends
-pub mod Lines
 pub mod Making
 pub mod Calling
 pub mod Tables

@@ -16,8 +16,9 @@ use Rattle.pass_trace.specs.TraceLines.{plain_trace, call_of}
 use Rattle.pass_trace.specs.declared.trace.Command.{Command}
 use Rattle.pass_trace.specs.declared.trace.Command.TheVariants as command
 use Rattle.pass_trace.specs.declared.trace.TraceLine.{TraceLine}
-use Rattle.pass_run.specs.Lines.{AreLinesBehind, IsNextLine, IsLineAt}
-use Rattle.pass_run.specs.Making.{IsRunSoFar, GoesOn, IsCallUnderWay}
+use Rattle.pass_replay.specs.Lines.{AreLinesBehind, IsNextLine, IsLineAt}
+use Rattle.pass_replay.specs.Making.{IsRunSoFar}
+use Rattle.pass_run.specs.Making.{GoesOn, IsCallUnderWay}
 use Rattle.pass_run.specs.declared.calling.Call.{Call}
 use Rattle.pass_run.specs.declared.places.Places.{Places}
 use Rattle.pass_run.specs.declared.run.Living.{Living}

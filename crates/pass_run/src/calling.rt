@@ -3,7 +3,8 @@ ghost use Rattle.std.specs.Prelude.{◌≡◌, ◌++◌, ◌∷◌, ◌<◌, [],
 ghost use Rattle.pass_entry.specs.declared.entry.Reply.{Reply as AnyReply};
 ghost use Rattle.pass_plain.specs.Calls.{call_steps as steps_of_call, is_last as is_last_of};
 ghost use Rattle.pass_plain.specs.Legal.{MayFollow};
-ghost use Rattle.pass_run.specs.Making.{IsCallUnderWay, IsNextEntry};
+ghost use Rattle.pass_run.specs.Making.{IsCallUnderWay};
+ghost use Rattle.pass_replay.specs.Making.{IsNextEntry};
 
 use pass_entry::{Entry, Pnode, Reply};
 use pass_plain::steps::{Step, call_steps, is_last};

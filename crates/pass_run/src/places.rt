@@ -1,7 +1,7 @@
 //! Where the lines of each process stand in a trace.
 ghost use Rattle.std.specs.Prelude.{◌≡◌, ◌<◌, Some, slice_get, IfOk, length};
 ghost use Rattle.pass_trace.specs.TraceLines.{plain_trace};
-ghost use Rattle.pass_run.specs.Lines.{IsNextLine};
+ghost use Rattle.pass_replay.specs.Lines.{IsNextLine};
 ghost use Rattle.pass_run.specs.Tables.{ArePlaces};
 
 use pass_trace::TraceLine;

@@ -5,7 +5,7 @@ ghost use Rattle.std.specs.Option.{option_map_or};
 ghost use Rattle.std.specs.BTreeMap.{get as map_get};
 ghost use Rattle.pass_plain.specs.Traces.{request_of as request_of_call};
 ghost use Rattle.pass_trace.specs.TraceLines.{call_of};
-ghost use Rattle.pass_run.specs.Lines.{bytes_written};
+ghost use Rattle.pass_replay.specs.Lines.{bytes_written};
 
 use pass_entry::{Bytes, Pnode};
 use pass_plain::Request;

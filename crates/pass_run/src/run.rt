@@ -10,8 +10,9 @@ ghost use Rattle.pass_plain.specs.Legal.{IsLegal, before_call};
 ghost use Rattle.pass_plain.specs.Runs.{IsRun, CanMove, next_number};
 ghost use Rattle.pass_trace.specs.TraceLines.{plain_trace, session_of_trace};
 ghost use Rattle.pass_trace.specs.declared.trace.TraceLine.{TraceLine as TracedLine};
-ghost use Rattle.pass_run.specs.Ends.{IsTrace, NoneCanMove, EndsAs};
-ghost use Rattle.pass_run.specs.Making.{first_entry};
+ghost use Rattle.pass_run.specs.Ends.{IsTrace, EndsAs};
+ghost use Rattle.pass_replay.specs.Ends.{NoneCanMove};
+ghost use Rattle.pass_replay.specs.Making.{first_entry};
 
 use crate::calling::{Call, Went};
 use crate::places::Places;

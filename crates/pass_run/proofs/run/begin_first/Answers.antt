@@ -6,8 +6,9 @@ use Rattle.pass_plain.specs.Histories.{pnode_of}
 use Rattle.pass_plain.specs.Sessions.{Session}
 use Rattle.pass_plain.proofs.Lists.{some_is}
 use Rattle.pass_plain.specs.Legal.{MayFollow, Past}
-use Rattle.pass_run.specs.Making.{first_entry}
-use Rattle.pass_run.proofs.Started.{may_start, some_of}
+use Rattle.pass_replay.specs.Making.{first_entry}
+use Rattle.pass_replay.proofs.Started.{may_start}
+use Rattle.pass_run.proofs.Started.{some_of}
 use Rattle.pass_run.proofs.run.begin_first.Goals as goal
 
 -- the first entry may come next

@@ -2,7 +2,7 @@ use Rattle.std.proofs.Common.{◌+◌, arith, ap, sym, ◌∙◌}
 use Rattle.pass_plain.specs.Legal.{Past}
 use Rattle.pass_plain.specs.Processes.{process_after}
 use Rattle.pass_plain.proofs.Playing.{before_new}
-use Rattle.pass_run.proofs.NextCalls.{none_above}
+use Rattle.pass_replay.proofs.NextCalls.{none_above}
 use Rattle.pass_run.proofs.run.under_way.Goals as goal
 
 pub returns-clause-before : goal.returns-clause-before

@@ -2,7 +2,7 @@ use Rattle.std.proofs.Common.{◌++◌, ◌∷◌, [], length, refl, ap, sym, �
 use Rattle.pass_entry.specs.declared.entry.Entry.{Entry}
 use Rattle.pass_plain.specs.Calls.{Made}
 use Rattle.pass_plain.specs.Legal.{Past}
-use Rattle.pass_run.specs.Making.{IsNextEntry}
+use Rattle.pass_replay.specs.Making.{IsNextEntry}
 use Rattle.pass_run.proofs.Taking.{not_ready}
 use Rattle.pass_run.proofs.calling.Call.step.Goals as goal
 

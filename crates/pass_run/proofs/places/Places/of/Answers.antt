@@ -6,7 +6,7 @@ use Rattle.std.proofs.lemmas.Option.{slice_get_within, slice_get-get_or}
 use Rattle.pass_plain.specs.Traces.{Line}
 use Rattle.pass_trace.specs.TraceLines.{plain_line, plain_trace}
 use Rattle.pass_trace.specs.declared.trace.TraceLine.{TraceLine}
-use Rattle.pass_run.specs.Lines.{IsNextLine}
+use Rattle.pass_replay.specs.Lines.{IsNextLine}
 use Rattle.pass_run.specs.Tables.{NextPlace}
 use Rattle.pass_run.proofs.Linked.{get_none, first_after, next_after, plain_at, plain_length}
 use Rattle.pass_run.proofs.places.Places.of.Goals as goal

@@ -3,7 +3,7 @@ use Rattle.std.specs.Ordering.{nat_cmp}
 use Rattle.std.specs.BTreeMap.{get}
 use Rattle.pass_plain.specs.Traces.{Line}
 use Rattle.pass_trace.specs.TraceLines.{plain_trace}
-use Rattle.pass_run.specs.Lines.{IsNextLine}
+use Rattle.pass_replay.specs.Lines.{IsNextLine}
 use Rattle.pass_run.specs.Tables.{NextPlace}
 use Rattle.pass_run.proofs.places.Places.of.Given as goal
 

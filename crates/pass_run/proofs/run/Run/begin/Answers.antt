@@ -7,10 +7,11 @@ use Rattle.pass_plain.specs.Sessions.{Session}
 use Rattle.pass_plain.specs.Sound.{IsSound}
 use Rattle.pass_plain.specs.Legal.{Past, session_of}
 use Rattle.pass_trace.specs.TraceLines.{plain_trace, session_of_trace}
-use Rattle.pass_run.specs.Making.{IsRunSoFar, first_entry}
+use Rattle.pass_replay.specs.Making.{IsRunSoFar, first_entry}
 use Rattle.pass_run.specs.Tables.{AreTabled}
 use Rattle.pass_run.proofs.Ruled.{ruled, few_lines}
-use Rattle.pass_run.proofs.Started.{has_started, first_tables}
+use Rattle.pass_replay.proofs.Started.{has_started, room_law}
+use Rattle.pass_run.proofs.Started.{first_tables}
 use Rattle.pass_run.proofs.run.Run.begin.Goals as goal
 
 pub objects_of-requires : goal.objects_of-requires
@@ -30,7 +31,7 @@ returns-clause-going c =
       few = few_lines lines c.requires.trace;
       ordered = ruled lines c.requires.trace;
       placed = c.in_ok-places.ensures;
-      so_far = subst (λ (h : List Entry). IsRunSoFar plain.session trace h) (sym history_is) (has_started plain.session lines (ap (λ (s : Session). s.objects) session_is));
+      so_far = subst (λ (h : List Entry). IsRunSoFar plain.session trace h) (sym history_is) (has_started plain.session trace (room_law plain.session lines (ap (λ (s : Session). s.objects) session_is)));
       tabled = subst (λ (h : List Entry). AreTabled plain.session trace h c.insert.new.self c.insert-2.new.self) (sym history_is)
           (first_tables plain.session trace c.new-begun.result c.insert.new.self c.new-living.result c.insert-2.new.self
           (record { pnode = c.in_ok-pnode.pnode; done = 0; line = c.first.result }) c.new-begun.ensures.empty

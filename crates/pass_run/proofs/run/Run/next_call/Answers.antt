@@ -3,7 +3,7 @@ use Rattle.pass_plain.specs.Legal.{Past}
 use Rattle.pass_plain.specs.Processes.{Process}
 use Rattle.pass_trace.specs.TraceLines.{plain_trace}
 use Rattle.pass_run.specs.Tables.{IsRequestOf}
-use Rattle.pass_run.proofs.NextCalls.{last_read_short}
+use Rattle.pass_replay.proofs.NextCalls.{last_read_short}
 use Rattle.pass_run.proofs.Placed.{call_at}
 use Rattle.pass_run.proofs.Requested.{line_within, done_few, requested_call, call_is}
 use Rattle.pass_run.proofs.run.Run.next_call.Goals as goal

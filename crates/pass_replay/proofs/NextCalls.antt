@@ -26,10 +26,10 @@ use Rattle.pass_plain.proofs.Calling.{legal_take, numbered}
 use Rattle.pass_plain.proofs.Counts.{read_law}
 use Rattle.pass_plain.proofs.Ending.{step_end_law}
 use Rattle.pass_plain.proofs.Playing.{no_calls}
-use Rattle.pass_run.specs.Lines.{is_given, IsLineCall, IsLineBehind, AreLinesBehind}
-use Rattle.pass_run.specs.Making.{IsRunSoFar, IsCallUnderWay}
-use Rattle.pass_run.proofs.Positions.{equal, StandsAt, stands_at}
-use Rattle.pass_run.proofs.StepKinds.{some_step}
+use Rattle.pass_replay.specs.Lines.{is_given, IsLineCall, IsLineBehind, AreLinesBehind}
+use Rattle.pass_replay.specs.Making.{IsRunSoFar}
+use Rattle.pass_replay.proofs.Positions.{equal, StandsAt, stands_at}
+use Rattle.pass_replay.proofs.StepKinds.{some_step}
 
 -- the number of the next call
 
@@ -88,7 +88,7 @@ calls_length trace process =
     ∙ ap (λ n. n + 1) (length-map (lines_of trace process) (λ (l : Line). l.call))
 
 -- the rules of the line that stands there
-behind_at : (before xs ys : List Line) (l : Line) → AreLinesBehind before (xs ++ l ∷ ys) → IsLineBehind (before ++ xs) l
+pub behind_at : (before xs ys : List Line) (l : Line) → AreLinesBehind before (xs ++ l ∷ ys) → IsLineBehind (before ++ xs) l
 behind_at before [] ys l behind = subst (λ (b : List Line). IsLineBehind b l) (sym (append-nil before)) behind.0
 behind_at before (x ∷ xs) ys l behind = subst (λ (b : List Line). IsLineBehind b l) (append_assoc before (x ∷ []) xs) (behind_at (before ++ x ∷ []) xs ys l behind.1)
 
@@ -244,17 +244,3 @@ module _ (session : Session) (trace : List Line) (behind : AreLinesBehind [] tra
 
   pub lives : has_ended history who ≡ false
   lives = so_far.ended process who begun ∙ exit_not_over
-
-  pub is_call : IsCallUnderWay history who (done + 1) the_request the_state the_made
-  is_call = record {
-    begun = has;
-    living = lives;
-    next = next;
-    entries = refl;
-    state = refl;
-    ordinary = is_ordinary;
-    within = is_within_limits;
-    called = are_called;
-    steps = is_begun;
-    left = is_left;
-  }

@@ -22,14 +22,14 @@ use Rattle.pass_plain.proofs.Calling.{numbered, of_call, last_number-append}
 use Rattle.pass_plain.proofs.Going.{begun_law}
 use Rattle.pass_plain.proofs.LastCalls.{begun_next}
 use Rattle.pass_plain.proofs.Playing.{zero_not}
-use Rattle.pass_run.specs.Lines.{AreLinesBehind}
-use Rattle.pass_run.specs.Making.{IsRunSoFar, IsNextEntry}
-use Rattle.pass_run.proofs.Positions.{unequal, equal, lines-append}
-use Rattle.pass_run.proofs.Begun.{child_has_begun}
-use Rattle.pass_run.proofs.StepKinds.{is_born}
-use Rattle.pass_run.proofs.NextCalls.{call_cases, line_behind, is_begun, named, is_ordinary, earlier_over}
-use Rattle.pass_run.proofs.Entries.{own_is, own_entries, own_state, other_entries, other_state, made_or_not, nothing_by, last_none}
-use Rattle.pass_run.proofs.Births.{fork_call, own, longer_legal, over_stays, last_act, kind_is, any, New, child_is, silent, no_entries, mono, back, child_now, or_right}
+use Rattle.pass_replay.specs.Lines.{AreLinesBehind}
+use Rattle.pass_replay.specs.Making.{IsRunSoFar, IsNextEntry}
+use Rattle.pass_replay.proofs.Positions.{unequal, equal, lines-append}
+use Rattle.pass_replay.proofs.Begun.{child_has_begun}
+use Rattle.pass_replay.proofs.StepKinds.{is_born}
+use Rattle.pass_replay.proofs.NextCalls.{call_cases, line_behind, is_begun, named, is_ordinary, earlier_over}
+use Rattle.pass_replay.proofs.Entries.{own_is, own_entries, own_state, other_entries, other_state, made_or_not, nothing_by, last_none}
+use Rattle.pass_replay.proofs.Births.{fork_call, own, longer_legal, over_stays, last_act, kind_is, any, New, child_is, silent, no_entries, mono, back, child_now, or_right}
 
 module _ (session : Session) (trace : List Line) (behind : AreLinesBehind [] trace) (history : List Entry) (so_far : IsRunSoFar session trace history)
     (process who done : ℕ) (call : LineCall) (begun : pnode_of_process session trace history process ≡ Some who)

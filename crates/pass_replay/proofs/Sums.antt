@@ -1,11 +1,10 @@
 -- Sums over the lines of a trace.
-use Rattle.std.proofs.Common.{◌≡◌, ◌<◌, ◌≤◌, ◌+◌, ℕ, zero, suc, List, [], ◌∷◌, ◌++◌, length, ap, sym, ◌∙◌, subst, arith, append_assoc}
+use Rattle.std.proofs.Common.{◌≡◌, ◌≤◌, ◌+◌, ℕ, List, [], ◌∷◌, ◌++◌, length, ap, sym, ◌∙◌, subst, arith, append_assoc}
 use Rattle.std.specs.Prelude.{Some, slice_get}
-use Rattle.pass_plain.proofs.Lists.{some_is}
 use Rattle.pass_plain.proofs.Replays.{append-nil}
 use Rattle.pass_plain.specs.Traces.{Line, LineCall, lines_of}
-use Rattle.pass_run.specs.Making.{sum_lines, sum_processes}
-use Rattle.pass_run.proofs.Positions.{stands_at}
+use Rattle.pass_replay.specs.Making.{sum_lines}
+use Rattle.pass_replay.proofs.Positions.{stands_at}
 
 abbrev pub Counts : Type 0
 Counts = ℕ → ℕ → LineCall → ℕ
@@ -34,25 +33,25 @@ sum-parts : (counts : Counts) (xs ys : List Line) (l : Line)
     → sum_lines counts [] (xs ++ l ∷ ys) ≡ sum_lines counts [] xs + (counts l.process (length (lines_of xs l.process) + 1) l.call + sum_lines counts (xs ++ l ∷ []) ys)
 sum-parts counts xs ys l = sum-append counts [] xs (l ∷ ys)
 
-sum-lt_parts : (less more : Counts) (xs ys : List Line) (l : Line) → NoneMore less more
-    → less l.process (length (lines_of xs l.process) + 1) l.call < more l.process (length (lines_of xs l.process) + 1) l.call
-    → sum_lines less [] (xs ++ l ∷ ys) < sum_lines more [] (xs ++ l ∷ ys)
-sum-lt_parts less more xs ys l none here =
+sum-less_parts : (less more : Counts) (d : ℕ) (xs ys : List Line) (l : Line) → NoneMore less more
+    → less l.process (length (lines_of xs l.process) + 1) l.call + d ≤ more l.process (length (lines_of xs l.process) + 1) l.call
+    → sum_lines less [] (xs ++ l ∷ ys) + d ≤ sum_lines more [] (xs ++ l ∷ ys)
+sum-less_parts less more d xs ys l none here =
     let a = sum-parts less xs ys l in
     let b = sum-parts more xs ys l in
     let front = sum-le less more [] xs none in
     let back = sum-le less more (xs ++ l ∷ []) ys none in
     omega (arith, a, b, front, back, here)
 
--- where no line counts more, and one of them less, the sum is less
-pub sum-lt : (less more : Counts) (trace : List Line) (process k : ℕ) (l : Line) → slice_get (lines_of trace process) k ≡ Some l → NoneMore less more
-    → less process (k + 1) l.call < more process (k + 1) l.call → sum_lines less [] trace < sum_lines more [] trace
-sum-lt less more trace process k l at none here =
+-- where no line counts more, and one of them less by d, the sum is less by d
+pub sum-less : (less more : Counts) (d : ℕ) (trace : List Line) (process k : ℕ) (l : Line) → slice_get (lines_of trace process) k ≡ Some l → NoneMore less more
+    → less process (k + 1) l.call + d ≤ more process (k + 1) l.call → sum_lines less [] trace + d ≤ sum_lines more [] trace
+sum-less less more d trace process k l at none here =
     let s = stands_at trace process k l at in
-    subst (λ (t : List Line). sum_lines less [] t < sum_lines more [] t) (sym s.parts)
-    (sum-lt_parts less more s.before s.after l none
-    (subst (λ n. less l.process (n + 1) l.call < more l.process (n + 1) l.call) (sym (ap (λ p. length (lines_of s.before p)) s.own ∙ s.count))
-    (subst (λ p. less p (k + 1) l.call < more p (k + 1) l.call) (sym s.own) here)))
+    subst (λ (t : List Line). sum_lines less [] t + d ≤ sum_lines more [] t) (sym s.parts)
+    (sum-less_parts less more d s.before s.after l none
+    (subst (λ n. less l.process (n + 1) l.call + d ≤ more l.process (n + 1) l.call) (sym (ap (λ p. length (lines_of s.before p)) s.own ∙ s.count))
+    (subst (λ p. less p (k + 1) l.call + d ≤ more p (k + 1) l.call) (sym s.own) here)))
 
 -- a line that counts is at most the whole
 pub count-le_sum : (counts : Counts) (trace : List Line) (process k : ℕ) (l : Line) → slice_get (lines_of trace process) k ≡ Some l
@@ -62,18 +61,3 @@ count-le_sum counts trace process k l at =
     let parts = ap (λ (t : List Line). sum_lines counts [] t) s.parts ∙ sum-parts counts s.before s.after l in
     let own = ap (λ p. counts p (length (lines_of s.before p) + 1) l.call) s.own ∙ ap (λ n. counts process (n + 1) l.call) s.count in
     omega (arith, parts, own)
-
--- the same for a list of processes
-pub total-le : (less more : ℕ → ℕ) (ps : List ℕ) → ((p : ℕ) → less p ≤ more p) → sum_processes less ps ≤ sum_processes more ps
-total-le less more [] none = omega arith
-total-le less more (p ∷ ps) none = let a = none p in let b = total-le less more ps none in omega (arith, a, b)
-
-pub total-lt : (less more : ℕ → ℕ) (ps : List ℕ) (k process : ℕ) → ((p : ℕ) → less p ≤ more p) → slice_get ps k ≡ Some process → less process < more process
-    → sum_processes less ps < sum_processes more ps
-total-lt less more [] k process none at here = absurd (cc)
-total-lt less more (p ∷ ps) zero process none at here =
-    let b = total-le less more ps none in
-    let same = some_is p process at in
-    let h = subst (λ p. less p < more p) (sym same) here in
-    omega (arith, h, b)
-total-lt less more (p ∷ ps) (suc k) process none at here = let a = none p in let b = total-lt less more ps k process none at here in omega (arith, a, b)

@@ -1,6 +1,8 @@
 -- What is judged of a question.
 use Rattle.std.proofs.Common.{ℕ, ◌≡◌, ◌<◌, refl, sym, ap, ◌∙◌, subst, List, ◌⊎◌, inl, inr, arith}
-use Rattle.std.specs.Prelude.{◌≢◌, Option, Some, None, Result, Ok, Err, option_map, IsSomeAnd, IsTrue}
+use Rattle.std.specs.Prelude.{◌≢◌, ◌↔◌, Option, Some, None, Result, Ok, Err, option_map, IfOk, IsSomeAnd, IsTrue}
+use Rattle.std.specs.declared.alloc.Global.{Global}
+use Rattle.std.specs.declared.vec.Vec.{Vec}
 use Rattle.pass_entry.specs.declared.objects.Node.{Node}
 use Rattle.pass_entry.specs.declared.record.Record.{Record}
 use Rattle.pass_log.specs.declared.fault.LogFault.{LogFault}
@@ -9,6 +11,12 @@ use Rattle.pass_log.specs.LogImage.{IsRead, held_in}
 use Rattle.pass_log.specs.Records.{Held, image_of}
 use Rattle.pass_outside.specs.Moments.{Moment, IsAtEnd}
 use Rattle.pass_plain.specs.WellLogged.{first_flaw, IsWellLogged}
+use Rattle.pass_pattern.specs.Answers.{IsMatchText}
+use Rattle.pass_pattern.specs.Patterns.{Shape}
+use Rattle.pass_pattern.specs.declared.fault.PatternFault.{PatternFault}
+use Rattle.pass_query.specs.declared.fault.QueryFault.{QueryFault}
+use Rattle.pass_query.specs.declared.fault.QueryFault.TheVariants as query
+use Rattle.pass_query.specs.declared.question.Form.{Form}
 use Rattle.pass_range.specs.declared.range.Range.{Range}
 use Rattle.pass_range.specs.Tables.{AreUnmatched}
 use Rattle.pass_recover.specs.declared.fault.OpenFault.{OpenFault}
@@ -19,26 +27,56 @@ use Rattle.pass_run.specs.declared.status.Status.TheVariants as status
 use Rattle.pass_run.specs.Statuses.{status_of_opening}
 use Rattle.pass_run.specs.Stores.{store_fault, image_fault}
 use Rattle.pass_cli.specs.Answers.{is_reported}
-use Rattle.pass_cli.specs.Asked.{IsAskJudged, IsAnswered, IsAnswerTo, IsLogOf, IsQuestionRead, IsUnknown, asked_in}
+use Rattle.pass_cli.specs.Asked.{IsAskJudged, IsAnswered, IsAnswerTo, IsGiven, IsGraphAnswer, IsLacking, IsLogOf, IsPatternStatus, IsPut, IsQuestionRead, IsUnknown, HasPatternFault, asked_in}
 use Rattle.pass_cli.specs.Checks.{check_text}
-use Rattle.pass_cli.specs.GraphAnswers.{IsGraphText, IsMissing}
-use Rattle.pass_cli.specs.declared.words.GraphQuestion.{GraphQuestion}
+use Rattle.pass_cli.specs.Matches.{IsOfShape}
+use Rattle.pass_cli.proofs.Patterns.{same_fault}
 use Rattle.pass_cli.specs.declared.words.Question.{Question}
-use Rattle.pass_cli.specs.declared.words.Question.TheVariants.{Check, Graph}
+use Rattle.pass_cli.specs.declared.words.Question.TheVariants.{Check, Graph, Match}
 
 -- words that ask nothing
 pub words_judged : (m : Moment) (bytes : List ℕ) → IsAskJudged None m m bytes status.BadWords
 words_judged m bytes = record {
   bad_words = (λ is. refl, λ is. refl);
+  bad_pattern = λ fault. (λ is. absurd (cc), λ is. absurd is);
   disk_fault = λ opened now is. absurd (cc);
-  unhidden = λ asked rose. absurd (cc);
-  bad_store = λ fault. (λ is. absurd (cc), λ is. absurd (let z = is.0 in cc));
-  no_object = λ node. (λ is. absurd (cc), λ is. absurd is.1);
-  done = (λ is. absurd (cc), λ is. absurd is.1);
+  unhidden = λ asked rose. absurd asked;
+  bad_store = λ fault. (λ is. absurd (cc), λ is. absurd is.0);
+  no_object = λ node. (λ is. absurd (cc), λ is. absurd is.0);
+  done = (λ is. absurd (cc), λ is. absurd is.0);
   reads = λ quiet. refl;
 }
 
-module _ (q : Question) (old new : Moment) (bytes : List ℕ) where
+-- a text is no pattern for one reason
+one_fault : (q : Question) (one other : PatternFault) → HasPatternFault q one → HasPatternFault q other → other ≡ one
+one_fault Check one other has also = absurd has
+one_fault (Graph q) one other has also = absurd has
+one_fault (Match from text form) one other has also = same_fault text one other has also
+
+-- a pattern that is none
+module _ (q : Question) (m : Moment) (bytes : List ℕ) (why : PatternFault) (has : HasPatternFault q why) where
+  lost : IsPut (Some q) → ⊥
+  lost put = put why has
+
+  pub pattern_judged : IsAskJudged (Some q) m m bytes (status.BadPattern why)
+  pattern_judged = record {
+    bad_words = (λ is. absurd (cc), λ none. absurd (some_none none));
+    bad_pattern = λ fault. (λ is. subst (HasPatternFault q) (same fault is) has, λ is. ap status.BadPattern (sym (one_fault q why fault has is)));
+    disk_fault = λ opened now is. absurd (cc);
+    unhidden = λ put rose. absurd (lost put);
+    bad_store = λ fault. (λ is. absurd (cc), λ is. absurd (lost is.0));
+    no_object = λ node. (λ is. absurd (cc), λ is. absurd (lost is.0));
+    done = (λ is. absurd (cc), λ is. absurd (lost is.0));
+    reads = λ quiet. refl;
+  }
+    where
+      some_none : ◌≡◌ {A = Option Question} (Some q) None → ⊥
+      some_none is = cc
+
+      same : (fault : PatternFault) → ◌≡◌ {A = Status} (status.BadPattern why) (status.BadPattern fault) → why ≡ fault
+      same fault is = cc
+
+module _ (q : Question) (put : IsPut (Some q)) (old new : Moment) (bytes : List ℕ) where
   abbrev Judged : Status → Type 0
   Judged judged = IsAskJudged (Some q) old new bytes judged
 
@@ -49,8 +87,9 @@ module _ (q : Question) (old new : Moment) (bytes : List ℕ) where
   pub disk_judged : (old.faults < new.faults) ⊎ IsAtEnd new → Judged (status.DiskFault old.faults new.faults)
   disk_judged failed = record {
     bad_words = (λ is. absurd (cc), λ none. absurd (asks none));
+    bad_pattern = λ why. (λ is. absurd (cc), λ is. absurd (put why is));
     disk_fault = λ opened now is. (
-      refl,
+      put,
       record {
         before = opened_is opened now is;
         after = now_is opened now is;
@@ -59,8 +98,8 @@ module _ (q : Question) (old new : Moment) (bytes : List ℕ) where
     );
     unhidden = λ asked rose. refl;
     bad_store = λ fault. (λ is. absurd (cc), λ is. absurd (is.1 old.faults new.faults refl));
-    no_object = λ node. (λ is. absurd (cc), λ is. absurd (is.0.0 old.faults new.faults refl));
-    done = (λ is. absurd (cc), λ is. absurd (is.0.0 old.faults new.faults refl));
+    no_object = λ node. (λ is. absurd (cc), λ is. absurd (is.1.0 old.faults new.faults refl));
+    done = (λ is. absurd (cc), λ is. absurd (is.1.0 old.faults new.faults refl));
     reads = λ quiet. absurd (quiet old.faults new.faults refl);
   }
     where
@@ -79,11 +118,12 @@ module _ (q : Question) (old new : Moment) (bytes : List ℕ) where
     pub store_judged : (fault : OpenFault) → store_fault bytes ≡ Some fault → Judged (status.BadStore fault)
     store_judged fault has = record {
       bad_words = (λ is. absurd (cc), λ none. absurd (asks none));
+      bad_pattern = λ why. (λ is. absurd (cc), λ is. absurd (put why is));
       disk_fault = λ opened now is. absurd (cc);
       unhidden = λ asked rose. absurd (omega (arith, still, rose));
-      bad_store = λ other. (λ is. (refl, λ opened now fails. absurd (cc), has ∙ ap Some (same other is)), λ is. only other (sym has ∙ is.2));
-      no_object = λ node. (λ is. absurd (cc), λ is. absurd (none (sym has ∙ is.0.1)));
-      done = (λ is. absurd (cc), λ is. absurd (none (sym has ∙ is.0.1)));
+      bad_store = λ other. (λ is. (put, λ opened now fails. absurd (cc), has ∙ ap Some (same other is)), λ is. only other (sym has ∙ is.2));
+      no_object = λ node. (λ is. absurd (cc), λ is. absurd (none (sym has ∙ is.1.1)));
+      done = (λ is. absurd (cc), λ is. absurd (none (sym has ∙ is.1.1)));
       reads = λ quiet. same_seen;
     }
       where
@@ -107,11 +147,12 @@ module _ (q : Question) (old new : Moment) (bytes : List ℕ) where
       pub done_judged : ((node : Node) → IsUnknown q bytes node → ⊥) → Judged status.Done
       done_judged known = record {
         bad_words = (λ is. absurd (cc), λ none. absurd (asks none));
+        bad_pattern = λ why. (λ is. absurd (cc), λ is. absurd (put why is));
         disk_fault = λ opened now is. absurd (cc);
         unhidden = λ asked rose. absurd (omega (arith, still, rose));
         bad_store = λ fault. (λ is. absurd (cc), λ is. absurd (some fault (sym none ∙ is.2)));
-        no_object = λ node. (λ is. absurd (cc), λ is. absurd (known node is.1));
-        done = (λ is. ((λ opened now fails. absurd (cc), none), known), λ is. refl);
+        no_object = λ node. (λ is. absurd (cc), λ is. absurd (known node is.2));
+        done = (λ is. (put, (λ opened now fails. absurd (cc), none), known), λ is. refl);
         reads = λ quiet. same_seen;
       }
 
@@ -119,11 +160,12 @@ module _ (q : Question) (old new : Moment) (bytes : List ℕ) where
       pub object_judged : (node : Node) → IsUnknown q bytes node → ((other : Node) → IsUnknown q bytes other → other ≡ node) → Judged (status.NoObject node)
       object_judged node unknown alone = record {
         bad_words = (λ is. absurd (cc), λ none. absurd (asks none));
+        bad_pattern = λ why. (λ is. absurd (cc), λ is. absurd (put why is));
         disk_fault = λ opened now is. absurd (cc);
         unhidden = λ asked rose. absurd (omega (arith, still, rose));
         bad_store = λ fault. (λ is. absurd (cc), λ is. absurd (some fault (sym none ∙ is.2)));
-        no_object = λ other. (λ is. ((λ opened now fails. absurd (cc), none), subst (λ n. IsUnknown q bytes n) (same other is) unknown), λ is. ap status.NoObject (sym (alone other is.1)));
-        done = (λ is. absurd (cc), λ is. absurd (is.1 node unknown));
+        no_object = λ other. (λ is. (put, (λ opened now fails. absurd (cc), none), subst (λ n. IsUnknown q bytes n) (same other is) unknown), λ is. ap status.NoObject (sym (alone other is.2)));
+        done = (λ is. absurd (cc), λ is. absurd (is.2 node unknown));
         reads = λ quiet. same_seen;
       }
         where
@@ -159,6 +201,24 @@ refused_judges question s m text is read known =
     by status.NoMemory read known = absurd (known refl)
     by _ read known = absurd read
 
+pub pattern_reports : (text : List ℕ) (s : Status) → IsPatternStatus text s → IsTrue (is_reported s) → s ≡ status.Done
+pattern_reports text (status.BadPattern why) is reported = absurd (cc)
+pattern_reports text status.NoMemory is reported = absurd (cc)
+pattern_reports text _ is reported = absurd is
+
+pub pattern_writes : (text : List ℕ) (s : Status) → IsPatternStatus text s → s ≢ status.WriteFault
+pattern_writes text (status.BadPattern why) is same = absurd (cc)
+pattern_writes text status.NoMemory is same = absurd (cc)
+pattern_writes text _ is same = absurd is
+
+-- a pattern that was refused
+pub pattern_judges : (from : Node) (text : List ℕ) (form : Form) (m : Moment) (judged : Status) (out : List ℕ) → IsPatternStatus text judged → judged ≢ status.NoMemory
+    → Judges (Match from text form) m m judged out
+pattern_judges from text form m (status.BadPattern why) out is known =
+    (m.seen.log, λ tells. refl, (pattern_judged (Match from text form) m m.seen.log why is, λ done. absurd (cc)))
+pattern_judges from text form m status.NoMemory out is known = absurd (known refl)
+pattern_judges from text form m _ out is known = absurd is
+
 pub refused_reports : (s : Status) → IsQuestionRead (Err s) → IsTrue (is_reported s) → s ≡ status.Done
 refused_reports status.BadWords read is = absurd (cc)
 refused_reports status.NoMemory read is = absurd (cc)
@@ -177,20 +237,23 @@ opened_judges old new image unmatched judged text (bytes, told, read) sound tell
   bytes,
   told,
   (
-    subst (λ (s : Status). IsAskJudged (Some Check) old new bytes s) (sym is) (done_judged Check old new bytes still same (held_in image) read.holds sound (λ node unknown. unknown)),
+    subst (λ (s : Status). IsAskJudged (Some Check) old new bytes s) (sym is) (done_judged Check (λ fault is. is) old new bytes still same (held_in image) read.holds sound (λ node unknown. unknown.2)),
     λ done. (held_in image, read.holds, (unmatched, tells, says)),
   ),
 )
 opened_judges old new image unmatched judged text read sound tells still same known (inr starved) = absurd (known starved)
 
--- a log that was read, and what its graph answers
-pub answered_judges : (old new : Moment) (list : List Record) (asked : GraphQuestion) (judged : Status) (text : List ℕ) → LogHas old (λ bytes. IsLogOf bytes list)
-    → new.faults ≡ old.faults → new.seen ≡ old.seen → judged ≢ status.NoMemory → IsAnswered list asked judged text → Judges (Graph asked) old new judged text
-answered_judges old new list asked judged text (bytes, told, of) still same known answered = (bytes, told, by judged known answered)
-  where
-    q : Question
-    q = Graph asked
+-- what the graph of a log answers is the answer of the log
+answer_to : (q : Question) (old : Moment) (bytes text : List ℕ) (held : Held) → image_of bytes ≡ Ok held → IsGraphAnswer held.list q text → IsAnswerTo q old bytes text
+answer_to Check old bytes text held is says = absurd says
+answer_to (Graph q) old bytes text held is says = (held, is, says)
+answer_to (Match from pattern form) old bytes text held is says = (held, is, says)
 
+-- a log that was read, and what its graph answers
+pub answered_judges : (q : Question) → IsPut (Some q) → (old new : Moment) (list : List Record) (judged : Status) (text : List ℕ) → LogHas old (λ bytes. IsLogOf bytes list)
+    → new.faults ≡ old.faults → new.seen ≡ old.seen → judged ≢ status.NoMemory → IsAnswered list q judged text → Judges q old new judged text
+answered_judges q put old new list judged text (bytes, told, of) still same known answered = (bytes, told, by judged known answered)
+  where
     sound : first_flaw of.held.list ≡ None
     sound = subst IsWellLogged (sym of.list_is) of.logged
 
@@ -201,42 +264,57 @@ answered_judges old new list asked judged text (bytes, told, of) still same know
         held_is is = cc
 
     -- a node that this log hasn't is one that the graph hasn't
-    absent : (node : Node) → IsUnknown q bytes node → IsMissing list asked node
-    absent node (other, holds, is) = subst (λ l. IsMissing l asked node) of.list_is (subst (λ (h : Held). IsMissing h.list asked node) (sym (same_held other holds)) is)
+    absent : (node : Node) → IsUnknown q bytes node → IsLacking list q node
+    absent node (other, holds, is) = subst (λ l. IsLacking l q node) of.list_is (subst (λ (h : Held). IsLacking h.list q node) (sym (same_held other holds)) is)
 
-    unknown : (node : Node) → IsMissing list asked node → IsUnknown q bytes node
-    unknown node is = (of.held, of.image, subst (λ l. IsMissing l asked node) (sym of.list_is) is)
+    unknown : (node : Node) → IsLacking list q node → IsUnknown q bytes node
+    unknown node is = (of.held, of.image, subst (λ l. IsLacking l q node) (sym of.list_is) is)
 
-    by : (s : Status) → s ≢ status.NoMemory → IsAnswered list asked s text → IsAskJudged (Some q) old new bytes s × (s ≡ status.Done → IsAnswerTo q old bytes text)
+    by : (s : Status) → s ≢ status.NoMemory → IsAnswered list q s text → IsAskJudged (Some q) old new bytes s × (s ≡ status.Done → IsAnswerTo q old bytes text)
     by status.Done known (none, says) = (
-      done_judged q old new bytes still same of.held of.image sound (λ node is. none node (absent node is)),
-      λ done. (of.held, of.image, subst (λ l. IsGraphText l asked text) (sym of.list_is) says),
+      done_judged q put old new bytes still same of.held of.image sound (λ node is. none node (absent node is)),
+      λ done. answer_to q old bytes text of.held of.image (subst (λ l. IsGraphAnswer l q text) (sym of.list_is) says),
     )
     by (status.NoObject node) known (is, alone) = (
-      object_judged q old new bytes still same of.held of.image sound node (unknown node is) (λ other also. alone other (absent other also)),
+      object_judged q put old new bytes still same of.held of.image sound node (unknown node is) (λ other also. alone other (absent other also)),
       λ done. absurd (cc),
     )
     by status.NoMemory known is = absurd (known refl)
     by _ known is = absurd is
 
+-- the nodes that a pattern of the text's shape joins
+pub matched_answer : (list : List Record) (text : List ℕ) (shape : Shape) (from : Node) (form : Form) (answer : Result (Vec ℕ Global) QueryFault) → IsOfShape text shape
+    → IfOk answer (λ v. IsMatchText list shape from form v.items) → IfOk answer (λ v. IsGraphAnswer list (Match from text form) v.items)
+matched_answer list text shape from form (Ok v) is says = (shape, is, says)
+matched_answer list text shape from form (Err why) is says = says
+
+-- what was given, where it is what the graph answers, or that it lacks a node
+pub given_answered : (list : List Record) (q : Question) (answer : Result (Vec ℕ Global) QueryFault) (judged : Status) (text : List ℕ) → IsGiven answer judged text
+    → IfOk answer (λ v. IsGraphAnswer list q v.items) → ((n : Node) → (answer ≡ Err (query.NoObject n)) ↔ IsLacking list q n) → IsAnswered list q judged text
+given_answered list q (Ok v) judged text (is, same) says absent =
+    subst (λ (s : Status). IsAnswered list q s text) (sym is) (λ n lacks. let z : ◌≡◌ {A = Result (Vec ℕ Global) QueryFault} (Ok v) (Err (query.NoObject n)) = (absent n).1 lacks in cc, subst (λ t. IsGraphAnswer list q t) (sym same) says)
+given_answered list q (Err (query.NoObject node)) judged text is says absent =
+    subst (λ (s : Status). IsAnswered list q s text) (sym is) ((absent node).0 refl, λ n lacks. let z : ◌≡◌ {A = Result (Vec ℕ Global) QueryFault} (Err (query.NoObject node)) (Err (query.NoObject n)) = (absent n).1 lacks in cc)
+given_answered list q (Err query.NoMemory) judged text is says absent = subst (λ (s : Status). IsAnswered list q s text) (sym is) tt
+
 -- a store that didn't open
-pub fault_judges : (q : Question) (old new : Moment) (fault : OpenFault) (judged : Status) (text : List ℕ) → judged ≡ status_of_opening old.faults new.faults fault → judged ≢ status.NoMemory
+pub fault_judges : (q : Question) → IsPut (Some q) → (old new : Moment) (fault : OpenFault) (judged : Status) (text : List ℕ) → judged ≡ status_of_opening old.faults new.faults fault → judged ≢ status.NoMemory
     → IsCauseOf old new fault → ((fault ≡ DiskFault → ⊥) → new.faults ≡ old.faults) → ((fault ≡ DiskFault → ⊥) → new.seen ≡ old.seen) → Judges q old new judged text
-fault_judges q old new fault judged text is known cause still reads =
+fault_judges q put old new fault judged text is known cause still reads =
     subst (λ (s : Status). Judges q old new s text) (sym is) (by fault (λ starved. known (is ∙ starved)) cause still reads)
   where
     by : (f : OpenFault) → status_of_opening old.faults new.faults f ≢ status.NoMemory → IsCauseOf old new f → ((f ≡ DiskFault → ⊥) → new.faults ≡ old.faults)
         → ((f ≡ DiskFault → ⊥) → new.seen ≡ old.seen) → Judges q old new (status_of_opening old.faults new.faults f) text
-    by DiskFault known cause still reads = (old.seen.log, λ tells. refl, (disk_judged q old new old.seen.log cause, λ done. absurd (cc)))
+    by DiskFault known cause still reads = (old.seen.log, λ tells. refl, (disk_judged q put old new old.seen.log cause, λ done. absurd (cc)))
     by (BadFrame at) known (bytes, told, has) still reads =
-        (bytes, told, (store_judged q old new bytes (still (λ other. absurd (cc))) (reads (λ other. absurd (cc))) (BadFrame at) (ap image_fault has), λ done. absurd (cc)))
+        (bytes, told, (store_judged q put old new bytes (still (λ other. absurd (cc))) (reads (λ other. absurd (cc))) (BadFrame at) (ap image_fault has), λ done. absurd (cc)))
     by (BadRecord place why) known (bytes, told, has) still reads =
-        (bytes, told, (store_judged q old new bytes (still (λ other. absurd (cc))) (reads (λ other. absurd (cc))) (BadRecord place why) (ap image_fault has), λ done. absurd (cc)))
+        (bytes, told, (store_judged q put old new bytes (still (λ other. absurd (cc))) (reads (λ other. absurd (cc))) (BadRecord place why) (ap image_fault has), λ done. absurd (cc)))
     by (Flaw place reason) known (bytes, told, (held, has, flaw)) still reads = (
       bytes,
       told,
       (
-        store_judged q old new bytes (still (λ other. absurd (cc))) (reads (λ other. absurd (cc))) (Flaw place reason)
+        store_judged q put old new bytes (still (λ other. absurd (cc))) (reads (λ other. absurd (cc))) (Flaw place reason)
             (ap image_fault has ∙ ap (option_map (λ one. Flaw one.0 one.1)) flaw),
         λ done. absurd (cc),
       ),

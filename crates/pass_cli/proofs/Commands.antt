@@ -4,7 +4,7 @@ use Rattle.std.specs.Prelude.{◌≢◌, Option, Some, None, Result, Ok, Err, Is
 use Rattle.std.specs.Option.{option_map_or}
 use Rattle.pass_run.specs.declared.status.Status.{Status}
 use Rattle.pass_run.specs.declared.status.Status.TheVariants as status
-use Rattle.pass_cli.specs.Asked.{IsQuestionRead, asked_in}
+use Rattle.pass_cli.specs.Asked.{IsPut, IsQuestionRead, asked_in}
 use Rattle.pass_cli.specs.Words.{Reads, Text, command_of, is_run, is_run_command, question_in, question_of}
 use Rattle.pass_cli.specs.declared.words.Command.{Command}
 use Rattle.pass_cli.specs.declared.words.Command.TheVariants.{Run, Ask}
@@ -64,9 +64,9 @@ module _ (r : Result Question Status) (asked : Option Question) (read : Reads r 
       by (Err status.NoMemory) is known = absurd (known refl)
       by (Err _) is known = absurd is
 
-  pub none_asked : asked ≡ None → asked_in r ≡ None
-  none_asked none = by r read
+  pub not_put : (IsPut asked → ⊥) → IsPut (asked_in r) → ⊥
+  not_put lost = by r read
     where
-      by : (x : Result Question Status) → Reads x asked → asked_in x ≡ None
-      by (Ok q) is = absurd (let z : ◌≡◌ {A = Option Question} (Some q) None = sym is ∙ none in cc)
-      by (Err s) is = refl
+      by : (x : Result Question Status) → Reads x asked → IsPut (asked_in x) → ⊥
+      by (Ok q) is put = lost (subst IsPut (sym is) put)
+      by (Err s) is put = put

@@ -4,5 +4,6 @@ pub mod Counted
 pub mod Judging
 pub mod Lacking
 pub mod Listed
+pub mod Patterns
 pub mod TakenWords
 pub mod Written

@@ -1,8 +1,8 @@
 -- Words that are too few or too many for a question.
-use Rattle.std.proofs.Common.{◌≡◌, ◌<◌, ◌≤◌, false, List, [], ◌∷◌, length, refl, arith}
+use Rattle.std.proofs.Common.{◌≡◌, ◌<◌, ◌≤◌, Bool, false, List, [], ◌∷◌, length, refl, arith}
 use Rattle.std.specs.Prelude.{None, map}
 use Rattle.std.specs.Borrow.{Bor}
-use Rattle.pass_cli.specs.Words.{Text, query_in, recipe_in}
+use Rattle.pass_cli.specs.Words.{Text, match_in, query_in, recipe_in}
 
 pub too_few : (name : Text) (words : List (Bor Text)) → length words < 1 → query_in name (map (λ w. w.now) words) ≡ None
 too_few name [] few = refl
@@ -22,3 +22,14 @@ pub recipe_too_long : (words : List (Bor Text)) → 2 ≤ length words → recip
 recipe_too_long [] many = absurd (omega arith)
 recipe_too_long (x ∷ []) many = absurd (omega arith)
 recipe_too_long (x ∷ y ∷ words) many = refl
+
+pub match_too_short : (json : Bool) (words : List (Bor Text)) → length words < 2 → match_in json (map (λ w. w.now) words) ≡ None
+match_too_short json [] few = refl
+match_too_short json (x ∷ []) few = refl
+match_too_short json (x ∷ y ∷ words) few = absurd (omega arith)
+
+pub match_too_long : (json : Bool) (words : List (Bor Text)) → 3 ≤ length words → match_in json (map (λ w. w.now) words) ≡ None
+match_too_long json [] many = absurd (omega arith)
+match_too_long json (x ∷ []) many = absurd (omega arith)
+match_too_long json (x ∷ y ∷ []) many = absurd (omega arith)
+match_too_long json (x ∷ y ∷ z ∷ words) many = refl

@@ -1,10 +1,14 @@
 -- What a question about a store is answered, and what is written. This project's own rule.
-use Rattle.std.specs.Prelude.{ℕ, ◌≡◌, ◌≢◌, ◌⊎◌, ◌↔◌, ◌<◌, IsTrue, List, ◌++◌, Option, Some, None, Result, Ok, Err, IsSome, IsSomeAnd}
+use Rattle.std.specs.Prelude.{ℕ, ◌≡◌, ◌≢◌, ◌⊎◌, ◌↔◌, ◌<◌, IsTrue, List, ◌++◌, Option, Some, None, Result, Ok, Err, IsSomeAnd}
+use Rattle.std.specs.declared.alloc.Global.{Global}
+use Rattle.std.specs.declared.vec.Vec.{Vec}
 use Rattle.pass_entry.specs.declared.objects.Node.{Node}
 use Rattle.pass_entry.specs.declared.record.Record.{Record}
 use Rattle.pass_log.specs.Records.{Held, image_of}
 use Rattle.pass_outside.specs.Moments.{Moment}
 use Rattle.pass_plain.specs.WellLogged.{IsWellLogged}
+use Rattle.pass_graph.specs.ListRanks.{HasNode}
+use Rattle.pass_pattern.specs.declared.fault.PatternFault.{PatternFault}
 use Rattle.pass_recover.specs.declared.fault.OpenFault.{OpenFault}
 use Rattle.pass_run.specs.declared.status.Status.{Status}
 use Rattle.pass_run.specs.declared.status.Status.TheVariants as status
@@ -14,34 +18,57 @@ use Rattle.pass_run.specs.Writing.{IsPartOfText}
 use Rattle.pass_cli.specs.Answers.{SinkSeen, IsNoDiskFault, HasFailed}
 use Rattle.pass_cli.specs.Checks.{IsCheckText}
 use Rattle.pass_cli.specs.GraphAnswers.{IsGraphText, IsMissing}
-use Rattle.pass_cli.specs.declared.words.GraphQuestion.{GraphQuestion}
+use Rattle.pass_cli.specs.Matches.{IsMatched, IsPatternFault}
+use Rattle.pass_query.specs.declared.fault.QueryFault.{QueryFault}
+use Rattle.pass_query.specs.declared.fault.QueryFault.TheVariants as query
 use Rattle.pass_cli.specs.declared.words.Question.{Question}
-use Rattle.pass_cli.specs.declared.words.Question.TheVariants.{Check, Graph}
+use Rattle.pass_cli.specs.declared.words.Question.TheVariants.{Check, Graph, Match}
+
+-- the text with which the graph of the records answers
+abbrev pub IsGraphAnswer : List Record → Question → List ℕ → Type 0
+IsGraphAnswer list Check text = ⊥
+IsGraphAnswer list (Graph q) text = IsGraphText list q text
+IsGraphAnswer list (Match from pattern form) text = IsMatched list pattern from form text
+
+-- the question is about this node, the first one given that the graph of the records hasn't
+abbrev pub IsLacking : List Record → Question → Node → Type 0
+IsLacking list Check node = ⊥
+IsLacking list (Graph q) node = IsMissing list q node
+IsLacking list (Match from pattern form) node = (node ≡ from) × ¬ (HasNode list from)
 
 -- the text that answers a question, for a log area with these bytes
 abbrev pub IsAnswerTo : Question → Moment → List ℕ → List ℕ → Type 0
 IsAnswerTo Check old bytes text = IsCheckText old bytes text
-IsAnswerTo (Graph q) old bytes text = (held : Held) × (image_of bytes ≡ Ok held) × IsGraphText held.list q text
+IsAnswerTo q old bytes text = (held : Held) × (image_of bytes ≡ Ok held) × IsGraphAnswer held.list q text
 
--- the question is about this node, the first one given that the graph of the log hasn't
+-- the graph of the log lacks this node of the question
 abbrev pub IsUnknown : Question → List ℕ → Node → Type 0
-IsUnknown Check bytes node = ⊥
-IsUnknown (Graph q) bytes node = (held : Held) × (image_of bytes ≡ Ok held) × IsMissing held.list q node
+IsUnknown q bytes node = (held : Held) × (image_of bytes ≡ Ok held) × IsLacking held.list q node
+
+-- why what the question gives as a pattern is none
+abbrev pub HasPatternFault : Question → PatternFault → Type 0
+HasPatternFault (Match from pattern form) fault = IsPatternFault pattern fault
+HasPatternFault _ fault = ⊥
+
+-- the words ask a question, and a pattern that it gives is one
+abbrev pub IsPut : Option Question → Type 0
+IsPut asked = IsSomeAnd asked (λ q. (fault : PatternFault) → ¬ (HasPatternFault q fault))
 
 -- the log has no fault
 abbrev pub IsSoundLog : List ℕ → Status → Type 0
 IsSoundLog bytes judged = IsNoDiskFault judged × (store_fault bytes ≡ None)
 
 -- What is judged by the question that the words ask, the disk before and after, and the bytes of its log area. The words come
--- first, then the device's faults, then what the log has, and then the nodes of the question.
+-- first, then the question's pattern, the device's faults, what the log has, and then the nodes of the question.
 pub record IsAskJudged (asked : Option Question) (old new : Moment) (bytes : List ℕ) (judged : Status) : Type 0 where
   pub bad_words : judged ≡ status.BadWords ↔ (asked ≡ None)
-  pub disk_fault : (opened now : ℕ) → judged ≡ status.DiskFault opened now → IsSome asked × HasFailed old new opened now
+  pub bad_pattern : (fault : PatternFault) → judged ≡ status.BadPattern fault ↔ IsSomeAnd asked (λ q. HasPatternFault q fault)
+  pub disk_fault : (opened now : ℕ) → judged ≡ status.DiskFault opened now → IsPut asked × HasFailed old new opened now
   -- and wherever the count rose
-  pub unhidden : IsSome asked → old.faults < new.faults → judged ≡ status.DiskFault old.faults new.faults
-  pub bad_store : (fault : OpenFault) → judged ≡ status.BadStore fault ↔ (IsSome asked × IsNoDiskFault judged × (store_fault bytes ≡ Some fault))
-  pub no_object : (node : Node) → judged ≡ status.NoObject node ↔ (IsSoundLog bytes judged × IsSomeAnd asked (λ q. IsUnknown q bytes node))
-  pub done : judged ≡ status.Done ↔ (IsSoundLog bytes judged × IsSomeAnd asked (λ q. (node : Node) → ¬ (IsUnknown q bytes node)))
+  pub unhidden : IsPut asked → old.faults < new.faults → judged ≡ status.DiskFault old.faults new.faults
+  pub bad_store : (fault : OpenFault) → judged ≡ status.BadStore fault ↔ (IsPut asked × IsNoDiskFault judged × (store_fault bytes ≡ Some fault))
+  pub no_object : (node : Node) → judged ≡ status.NoObject node ↔ (IsPut asked × IsSoundLog bytes judged × IsSomeAnd asked (λ q. IsUnknown q bytes node))
+  pub done : judged ≡ status.Done ↔ (IsPut asked × IsSoundLog bytes judged × IsSomeAnd asked (λ q. (node : Node) → ¬ (IsUnknown q bytes node)))
   -- what the disk reads is as it was
   pub reads : IsNoDiskFault judged → new.seen ≡ old.seen
 
@@ -67,11 +94,23 @@ pub record IsLogOf (bytes : List ℕ) (list : List Record) : Type 0 where
   pub logged : IsWellLogged list
 
 -- what is judged of a question to the graph of records, and its text
-abbrev pub IsAnswered : List Record → GraphQuestion → Status → List ℕ → Type 0
-IsAnswered list q status.Done text = ((n : Node) → ¬ (IsMissing list q n)) × IsGraphText list q text
-IsAnswered list q (status.NoObject node) text = IsMissing list q node × ((n : Node) → IsMissing list q n → n ≡ node)
+abbrev pub IsAnswered : List Record → Question → Status → List ℕ → Type 0
+IsAnswered list q status.Done text = ((n : Node) → ¬ (IsLacking list q n)) × IsGraphAnswer list q text
+IsAnswered list q (status.NoObject node) text = IsLacking list q node × ((n : Node) → IsLacking list q n → n ≡ node)
 IsAnswered list q status.NoMemory text = Unit {0}
 IsAnswered list q _ text = ⊥
+
+-- the status and the text of what was answered
+abbrev pub IsGiven : Result (Vec ℕ Global) QueryFault → Status → List ℕ → Type 0
+IsGiven (Ok answer) judged text = (judged ≡ status.Done) × (text ≡ answer.items)
+IsGiven (Err (query.NoObject node)) judged text = judged ≡ status.NoObject node
+IsGiven (Err query.NoMemory) judged text = judged ≡ status.NoMemory
+
+-- the status that refuses the text of a pattern
+abbrev pub IsPatternStatus : List ℕ → Status → Type 0
+IsPatternStatus text (status.BadPattern fault) = IsPatternFault text fault
+IsPatternStatus text status.NoMemory = Unit {0}
+IsPatternStatus text _ = ⊥
 
 -- a question was read, or bad words, unless memory was refused
 abbrev pub IsQuestionRead : Result Question Status → Type 0

@@ -3,5 +3,6 @@ pub mod Asked
 pub mod Checks
 pub mod GraphAnswers
 pub mod Line
+pub mod Matches
 pub mod Numbers
 pub mod Words

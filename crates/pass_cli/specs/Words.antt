@@ -21,7 +21,7 @@ use Rattle.pass_cli.specs.declared.words.Command.TheVariants.{Run, Ask}
 use Rattle.pass_cli.specs.declared.words.GraphQuestion.{GraphQuestion}
 use Rattle.pass_cli.specs.declared.words.GraphQuestion.TheVariants.{Lineage, Recipe}
 use Rattle.pass_cli.specs.declared.words.Question.{Question}
-use Rattle.pass_cli.specs.declared.words.Question.TheVariants.{Check, Graph}
+use Rattle.pass_cli.specs.declared.words.Question.TheVariants.{Check, Graph, Match}
 
 abbrev pub Text : Type 0
 Text = List ℕ
@@ -74,6 +74,15 @@ abbrev pub recipe_in : Bool → List Text → Option GraphQuestion
 recipe_in false (word ∷ []) = option_map Recipe (node_in word)
 recipe_in _ _ = None
 
+abbrev pub match_of : Form → Text → Option Node → Option Question
+match_of form text (Some from) = Some (Match from text form)
+match_of form text None = None
+
+-- match NODE PATTERN, whose pattern isn't judged yet
+abbrev pub match_in : Bool → List Text → Option Question
+match_in json (node ∷ text ∷ []) = match_of (form_of json) text (node_in node)
+match_in _ _ = None
+
 -- a question to the graph
 abbrev pub graph_in : Bool → Text → List Text → Option GraphQuestion
 graph_in json name words =
@@ -87,6 +96,7 @@ command_in json workers name words =
     if is_text name (codes "run") then run_in json workers words
     else if is_text name (codes "check") then check_in json workers words
     else if is_some workers then None
+    else if is_text name (codes "match") then option_map Ask (match_in json words)
     else option_map (λ q. Ask (Graph q)) (graph_in json name words)
 
 -- a flag that was given has the value true

@@ -1,26 +1,26 @@
 //! The commands that run no trace.
-ghost use Rattle.std.specs.Prelude.{◌≡◌, ◌≢◌, ◌↔◌, ◌⊎◌, ℕ, List, Err, IsSomeAnd, IsTrue, None, Some, map, string_bytes};
+ghost use Rattle.std.specs.Prelude.{◌≡◌, ◌≢◌, ◌↔◌, ◌⊎◌, ℕ, List, Err, IsSomeAnd, IsTrue, Some, map, string_bytes};
 ghost use Rattle.pass_outside.specs.Faults.{HasRisen};
 ghost use Rattle.pass_recover.specs.Faults.{LogHas};
 ghost use Rattle.pass_run.specs.Stored.{IsLater, IsLeftAlone};
 ghost use Rattle.pass_cli.specs.Answers.{is_reported};
-ghost use Rattle.pass_cli.specs.Asked.{IsAsked, IsAskJudged, IsAnswered, IsAnswerTo, IsQuestionRead, asked_in};
+ghost use Rattle.pass_cli.specs.Asked.{IsAsked, IsAskJudged, IsAnswerTo, IsPut, IsQuestionRead, asked_in};
 ghost use Rattle.pass_cli.specs.Checks.{check_text};
 ghost use Rattle.pass_cli.specs.Words.{Reads, command_of, question_in, question_of};
 ghost use Rattle.pass_cli.specs.declared.words.Question.{Question};
 
 use crate::graph::graph_answer;
+use crate::judged::{Judged, refused, told};
 use crate::listing::check_answer;
+use crate::matching::judge_match;
 use crate::opening::open_index;
 use crate::words::{Command, GraphQuestion, Question, read_words};
 use crate::writing::write_answer;
 use pass_entry::Record;
 use pass_outside::{Disk, Sink};
-use pass_query::QueryFault;
 use pass_range::Range;
 use pass_recover::recover;
 use pass_run::{Status, opening_status};
-use pass_waldo::Index;
 use std::alloc::{AllocError, Global};
 
 /// How a command ended, and the disk.
@@ -38,7 +38,7 @@ pub fn ask<K: Sink, D: Disk>(alloc: Global, words: &[String], sink: &mut K, disk
     ensures write_fault { result.status ≢ Status.NoMemory → (result.status ≡ Status.WriteFault
         ↔ HasRisen (K.fault_count sink.old) (K.fault_count sink.new)) }
     ensures unwritten { result.status ≡ Status.NoMemory → sink.new ≡ sink.old }
-    ensures unopened { question_of (map string_bytes words.now) ≡ None → result.disk ≡ disk }
+    ensures unopened { ¬ IsPut (question_of (map string_bytes words.now)) → result.disk ≡ disk }
     // Nothing is written to the disk.
     ensures alone { IsLeftAlone (D.view disk) (D.view result.disk) }
     ensures later { IsLater (D.view disk) (D.view result.disk) }
@@ -72,7 +72,7 @@ pub(crate) fn ask_for<K: Sink, D: Disk>(
         ↔ HasRisen (K.fault_count sink.old) (K.fault_count sink.new)) }
     ensures starved { question ≡ Err Status.NoMemory → result.status ≡ Status.NoMemory }
     ensures unwritten { result.status ≡ Status.NoMemory → sink.new ≡ sink.old }
-    ensures unopened { asked_in question ≡ None → result.disk ≡ disk }
+    ensures unopened { ¬ IsPut (asked_in question) → result.disk ≡ disk }
     ensures alone { IsLeftAlone (D.view disk) (D.view result.disk) }
     ensures later { IsLater (D.view disk) (D.view result.disk) }
 {
@@ -81,23 +81,6 @@ pub(crate) fn ask_for<K: Sink, D: Disk>(
     Asked {
         status: write_answer(alloc, sink, judged.status, &judged.text),
         disk,
-    }
-}
-
-/// A status, and the text of Done.
-#[derive(Drop)]
-struct Judged {
-    status: Status,
-    text: Vec<u8>,
-}
-
-// A status without a text of Done.
-fn refused(alloc: Global, status: Status) -> Judged
-    ensures { result.status ≡ status }
-{
-    Judged {
-        status,
-        text: Vec::new(alloc),
     }
 }
 
@@ -110,13 +93,14 @@ fn judge_words<D: Disk>(alloc: Global, question: Result<Question, Status>, disk:
     ensures starved { question ≡ Err Status.NoMemory → result.status ≡ Status.NoMemory }
     ensures reported { IsTrue (is_reported result.status) → result.status ≡ Status.Done }
     ensures unwritten { result.status ≢ Status.WriteFault }
-    ensures unopened { asked_in question ≡ None → disk.new ≡ disk.old }
+    ensures unopened { ¬ IsPut (asked_in question) → disk.new ≡ disk.old }
     ensures alone { IsLeftAlone (D.view disk.old) (D.view disk.new) }
     ensures later { IsLater (D.view disk.old) (D.view disk.new) }
 {
     match question {
         Ok(Question::Check) => judge_store(alloc, disk),
         Ok(Question::Graph(question)) => judge_graph(alloc, &question, disk),
+        Ok(Question::Match { from, text, form }) => judge_match(alloc, from, &text, form, disk),
         Err(status) => refused(alloc, status),
     }
 }
@@ -163,23 +147,7 @@ fn judge_graph<D: Disk>(alloc: Global, question: &GraphQuestion, disk: &mut D) -
 {
     let opened = disk.faults();
     match open_index(alloc, disk) {
-        Ok(index) => judge_answer(alloc, &index, question),
+        Ok(index) => told(alloc, graph_answer(alloc, &index, question)),
         Err(fault) => refused(alloc, opening_status(fault, opened, disk.faults())),
-    }
-}
-
-// What the graph answers.
-fn judge_answer(alloc: Global, index: &Index, question: &GraphQuestion) -> Judged
-    ensures answered { IsAnswered index.now question.now result.status result.text.items }
-    ensures reported { IsTrue (is_reported result.status) → result.status ≡ Status.Done }
-    ensures unwritten { result.status ≢ Status.WriteFault }
-{
-    match graph_answer(alloc, index, question) {
-        Ok(text) => Judged {
-            status: Status::Done,
-            text,
-        },
-        Err(QueryFault::NoObject(node)) => refused(alloc, Status::NoObject(node)),
-        Err(QueryFault::NoMemory) => refused(alloc, Status::NoMemory),
     }
 }

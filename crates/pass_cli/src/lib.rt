@@ -4,11 +4,14 @@
 mod asking;
 mod counting;
 mod graph;
+mod judged;
 mod line;
 mod listing;
 mod main_call;
+mod matching;
 mod numbers;
 mod opening;
+mod pattern_text;
 mod reading;
 mod verdict;
 mod words;

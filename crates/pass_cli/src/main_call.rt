@@ -1,9 +1,9 @@
 //! The call that the program makes.
-ghost use Rattle.std.specs.Prelude.{◌≡◌, ◌≢◌, ◌↔◌, ◌⊎◌, ◌≤◌, Err, IsTrue, None, map, string_bytes};
+ghost use Rattle.std.specs.Prelude.{◌≡◌, ◌≢◌, ◌↔◌, ◌⊎◌, ◌≤◌, Err, IsTrue, map, string_bytes};
 ghost use Rattle.pass_outside.specs.Faults.{HasRisen};
 ghost use Rattle.pass_run.specs.Stored.{IsLater, IsLeftAlone};
 ghost use Rattle.pass_cli.specs.Answers.{OfBytes, IsReadInTime, IsAnswer, IsNothing, IsRecorded, outcome_of};
-ghost use Rattle.pass_cli.specs.Asked.{IsAsked, IsQuestionRead, asked_in};
+ghost use Rattle.pass_cli.specs.Asked.{IsAsked, IsPut, IsQuestionRead, asked_in};
 ghost use Rattle.pass_cli.specs.Words.{is_run, question_of};
 
 use crate::asking::{Asked, ask_for};
@@ -53,7 +53,7 @@ pub fn pass_main<R: Threads + Wait + Sync, S: Source, K: Sink, D: Disk + Send, G
         (record { tells = K.tells; before = K.taken sink.old; after = K.taken sink.new }) result.status }
     ensures unrecorded { ¬ IsTrue (is_run (map string_bytes words.now)) → IsNothing (outcome_of result) }
     ensures alone { ¬ IsTrue (is_run (map string_bytes words.now)) → IsLeftAlone (D.view disk) (D.view result.disk) }
-    ensures unopened { ¬ IsTrue (is_run (map string_bytes words.now)) → question_of (map string_bytes words.now) ≡ None → result.disk ≡ disk }
+    ensures unopened { ¬ IsTrue (is_run (map string_bytes words.now)) → ¬ IsPut (question_of (map string_bytes words.now)) → result.disk ≡ disk }
     // What the disk tells stays, and its counts never fall.
     ensures later { IsLater (D.view disk) (D.view result.disk) }
     ensures write_fault { result.status ≢ Status.NoMemory → (result.status ≡ Status.WriteFault
@@ -127,7 +127,7 @@ fn answered<K: Sink, D: Disk>(
         ↔ HasRisen (K.fault_count sink.old) (K.fault_count sink.new)) }
     ensures starved { question ≡ Err Status.NoMemory → result.status ≡ Status.NoMemory }
     ensures untaken { result.status ≡ Status.NoMemory → sink.new ≡ sink.old }
-    ensures unopened { asked_in question ≡ None → result.disk ≡ disk }
+    ensures unopened { ¬ IsPut (asked_in question) → result.disk ≡ disk }
     ensures nothing { IsNothing (outcome_of result) }
     ensures alone { IsLeftAlone (D.view disk) (D.view result.disk) }
     ensures later { IsLater (D.view disk) (D.view result.disk) }

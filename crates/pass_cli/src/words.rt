@@ -1,19 +1,22 @@
 //! The commands of the program, and how its words name them.
-ghost use Rattle.std.specs.Prelude.{◌≡◌, ◌≢◌, ◌⊎◌, ◌≤◌, IfOk, IfSome, IsSome, IsTrue, map, option_map, string_bytes};
+ghost use Rattle.std.specs.Prelude.{◌≡◌, ◌≢◌, ◌⊎◌, ◌≤◌, Option, IfOk, IfSome, IsSome, IsTrue, map, option_map, string_bytes};
 ghost use Rattle.clap.specs.Words.{found_of, kind_of, rows_of};
-ghost use Rattle.pass_cli.specs.Words.{Reads, HasWorkers, check_in, command_found, command_in, command_of, form_of, graph_in, question_of, is_set, path_on, query_in, query_on, name_in, recipe_in, run_in, workers_in};
+ghost use Rattle.pass_cli.specs.Words.{Reads, HasWorkers, check_in, command_found, command_in, command_of, form_of, graph_in, match_in, match_of, question_of, is_set, path_on, query_in, query_on, name_in, recipe_in, run_in, workers_in};
 ghost use Rattle.pass_cli.specs.Numbers.{node_in};
 ghost use Rattle.pass_query.specs.declared.question.Query.{Query};
 ghost use Rattle.pass_cli.specs.declared.words.GraphQuestion.{GraphQuestion};
+ghost use Rattle.pass_cli.specs.declared.words.Question.{Question};
+ghost use Rattle.pass_cli.specs.declared.words.Command.TheVariants.{Ask};
 
 use crate::line::command_line;
 use crate::numbers::{node_in, number_in};
+use crate::pattern_text::PatternText;
 use clap::error::ErrorKind;
 use clap::{ArgMatches, Error};
 use pass_entry::{Node, Text, TextFault};
 use pass_query::{Form, Query};
 use pass_run::Status;
-use std::alloc::Global;
+use std::alloc::{AllocError, Global};
 
 /// How many workers take the turns where the words don't say it.
 const WORKERS: u32 = 4;
@@ -37,6 +40,12 @@ pub enum Question {
     Check,
     /// What its graph answers.
     Graph(GraphQuestion),
+    /// To which nodes paths of a shape lead; the pattern isn't judged yet.
+    Match {
+        from: Node,
+        text: PatternText,
+        form: Form,
+    },
 }
 
 /// What the program's words ask for.
@@ -130,8 +139,22 @@ fn command_in(
     if workers.is_some() {
         return Err(Status::BadWords);
     }
+    if name == b"match".as_slice() {
+        return asked(match_in(alloc, json, words));
+    }
     let question = graph_in(alloc, json, name, words)?;
     Ok(Command::Ask(Question::Graph(question)))
+}
+
+// The command that asks the question.
+fn asked(question: Result<Question, Status>) -> Result<Command, Status>
+    ensures command { (read : Option Question) → Reads question read → Reads result (option_map Ask read) }
+    ensures workers { IfOk result HasWorkers }
+{
+    match question {
+        Ok(question) => Ok(Command::Ask(question)),
+        Err(status) => Err(status),
+    }
 }
 
 // Words that name no command are bad ones.
@@ -183,6 +206,34 @@ fn form_of(json: bool) -> Form
     ensures { result ≡ form_of json }
 {
     if json { Form::Json } else { Form::Lines }
+}
+
+#[tactic(auto, using(crate::proofs::Listed::match_too_short, crate::proofs::Listed::match_too_long))]
+fn match_in(alloc: Global, json: bool, words: &[&str]) -> Result<Question, Status>
+    ensures { Reads result (match_in json (map (λ w. w.now) words.now)) }
+{
+    match words {
+        [] => Err(Status::BadWords),
+        [_] => Err(Status::BadWords),
+        [node, text] => match_of(alloc, json, node.as_bytes(), text.as_bytes()),
+        [_, _, _, ..] => Err(Status::BadWords),
+    }
+}
+
+fn match_of(alloc: Global, json: bool, node: &[u8], text: &[u8]) -> Result<Question, Status>
+    ensures { Reads result (match_of (form_of json) text.now (node_in node.now)) }
+{
+    let Some(from) = node_in(node) else {
+        return Err(Status::BadWords);
+    };
+    match PatternText::of(alloc, text) {
+        Ok(text) => Ok(Question::Match {
+            from,
+            text,
+            form: form_of(json),
+        }),
+        Err(AllocError) => Err(Status::NoMemory),
+    }
 }
 
 // The question to the graph.

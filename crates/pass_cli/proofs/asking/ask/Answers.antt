@@ -3,7 +3,7 @@ use Rattle.std.specs.Prelude.{Option, map, string_bytes}
 use Rattle.pass_cli.specs.Asked.{IsAsked}
 use Rattle.pass_cli.specs.Words.{question_of}
 use Rattle.pass_cli.specs.declared.words.Question.{Question}
-use Rattle.pass_cli.proofs.Commands.{none_asked, question_read, same_asked}
+use Rattle.pass_cli.proofs.Commands.{not_put, question_read, same_asked}
 use Rattle.pass_cli.proofs.asking.ask.Goals as goal
 
 pub ask_for-requires : goal.ask_for-requires
@@ -20,6 +20,6 @@ returns-clause-answer g c = λ known.
     (c.ask_for.ensures.answer known)
 
 pub returns-clause-unopened : goal.returns-clause-unopened
-returns-clause-unopened g c = λ none.
+returns-clause-unopened g c = λ lost.
     let words = map string_bytes c.args.words.now in
-    c.ask_for.ensures.unopened (none_asked c.question_in-question.result (question_of words) (c.question_in-question.ensures.question words c.read_words.ensures.command) none)
+    c.ask_for.ensures.unopened (not_put c.question_in-question.result (question_of words) (c.question_in-question.ensures.question words c.read_words.ensures.command) lost)

@@ -1,6 +1,6 @@
-use Rattle.std.proofs.Common.{◌≡◌, ◌∙◌, refl, sym, ap, subst, inl}
-use Rattle.std.specs.Prelude.{Option, Some, None, Err, map, string_bytes}
-use Rattle.pass_cli.specs.Asked.{IsAsked}
+use Rattle.std.proofs.Common.{refl, sym, ap, subst, inl}
+use Rattle.std.specs.Prelude.{Option, Err, map, string_bytes}
+use Rattle.pass_cli.specs.Asked.{IsAsked, IsPut}
 use Rattle.pass_cli.specs.declared.words.Question.{Question}
 use Rattle.pass_cli.specs.declared.words.Command.TheVariants.{Run, Ask}
 use Rattle.pass_cli.proofs.Commands.{ok_same, runs, asks, refuses, refusal_read}
@@ -39,9 +39,10 @@ returns-in-Ok-Ask-clause-asked g c = λ other known.
     (c.answered.ensures.answer known)
 
 pub returns-in-Ok-Ask-clause-unopened : goal.returns-in-Ok-Ask-clause-unopened
-returns-in-Ok-Ask-clause-unopened g c = λ other none.
+returns-in-Ok-Ask-clause-unopened g c = λ other lost.
     let words = map string_bytes c.args.words.now in
-    absurd (let z : ◌≡◌ {A = Option Question} (Some c.in-Ok-Ask.question) None = sym (asks words c.read_words.result c.read_words.ensures.command c.in-Ok-Ask.question (ok_same c.read_words.result c.in-Ok-Ask.field-0 (Ask c.in-Ok-Ask.question) c.in-Ok-Ask.is c.in-Ok-Ask.field-0-is)).1 ∙ none in cc)
+    let asked = (asks words c.read_words.result c.read_words.ensures.command c.in-Ok-Ask.question (ok_same c.read_words.result c.in-Ok-Ask.field-0 (Ask c.in-Ok-Ask.question) c.in-Ok-Ask.is c.in-Ok-Ask.field-0-is)).1 in
+    c.answered.ensures.unopened (λ put. lost (subst IsPut (sym asked) put))
 
 pub answered-requires-in-Err : goal.answered-requires-in-Err
 answered-requires-in-Err g c = refusal_read (map string_bytes c.args.words.now) c.read_words.result c.read_words.ensures.command c.in-Err.status c.in-Err.is
@@ -66,4 +67,4 @@ returns-in-Err-clause-asked g c = λ other known.
     (c.answered-in-Err.ensures.answer known)
 
 pub returns-in-Err-clause-unopened : goal.returns-in-Err-clause-unopened
-returns-in-Err-clause-unopened g c = λ other none. c.answered-in-Err.ensures.unopened refl
+returns-in-Err-clause-unopened g c = λ other lost. c.answered-in-Err.ensures.unopened (λ put. put)

@@ -1,23 +1,27 @@
 -- A file whose desk goes to the vault and comes back.
-use Rattle.std.proofs.Common.{◌≡◌, ◌∙◌, ℕ, ◌+◌, List, [], ◌∷◌, ◌++◌, length, refl, sym, ap, subst, arith}
-use Rattle.std.specs.Prelude.{Some, Result, Ok, Err, IfOk, slice_get}
+use Rattle.std.proofs.Common.{◌≡◌, ◌∙◌, ℕ, suc, ◌<◌, ◌≤◌, List, [], ◌∷◌, ◌++◌, length, refl, sym, ap, subst, arith, length-append}
+use Rattle.std.specs.Prelude.{Some, None, Result, Ok, Err, IfOk, OnOk, OnErr, slice_get}
+use Rattle.std.specs.List.{All}
+use Rattle.std.proofs.lemmas.List.Elements.{All-head, All-tail}
 use mathlib.Core.List.{IsPrefix}
 use Rattle.pass_entry.specs.declared.entry.Entry.{Entry}
 use Rattle.pass_plain.specs.Lawful.{AgreeOn}
 use Rattle.pass_plain.specs.Sound.{IsSound}
 use Rattle.pass_plain.proofs.Appends.{slice_get-last}
 use Rattle.pass_book.specs.Names.{name}
-use Rattle.pass_book.specs.Syncs.{called}
+use Rattle.pass_book.specs.Syncs.{called, called_from, durable}
+use Rattle.pass_book.proofs.Backed.{durable_last}
 use Rattle.pass_book.specs.Tokens.{BookId, DeskState, HasMet, NoteState}
 use Rattle.pass_book.specs.Views.{longer}
 use Rattle.pass_book.specs.declared.view.Role.TheVariants as role
 use Rattle.pass_book.specs.declared.view.VaultSync.{VaultSync}
 use Rattle.pass_book.proofs.Prefixes.{prefix_self}
-use Rattle.pass_vault.specs.Vaulted.{Vaulted, file_synced}
+use Rattle.pass_vault.specs.Vaulted.{Vaulted, file_synced, flushed}
 use Rattle.pass_vault.proofs.Keeping.{longer_self}
 use Rattle.pass_vault.specs.declared.vault.Receipt.{Receipt}
 use Rattle.pass_file.specs.Desks.{FileDeskView}
-use Rattle.pass_safe.specs.Syncings.{IsFileSaved, IsSaved}
+use Rattle.pass_safe.specs.Commits.{flushed_to}
+use Rattle.pass_safe.specs.Syncings.{HasSynced, IsFileSaved, IsSaved}
 
 -- both had seen one history
 pub seen_back : (file vault : List Entry) (d : DeskState) (syncs new_syncs : List VaultSync) (seen : List Entry) → file ≡ vault → d.seen ≡ file → HasMet (name role.Desk d.what) d.seen d.syncs vault syncs seen new_syncs → seen ≡ file
@@ -59,10 +63,99 @@ module _ {D : Type 0} (book : BookId) (v w : Vaulted D) (file : FileDeskView) (r
   pub file_saved_of : IsFileSaved file.what file.number (record { receipt = r; told = told })
   file_saved_of = record { i = length v.syncs; sync = last; is = there; mark = refl; whole = refl; has = refl }
 
+-- What a flush has come to
+
+called_last_from : (c : ℕ) (ss : List VaultSync) (s : VaultSync) → called_from c (ss ++ s ∷ []) ≡ s.calls
+called_last_from c [] s = refl
+called_last_from c (t ∷ ss) s = called_last_from t.calls ss s
+
+pub some_synced : (ss us : List VaultSync) (s : VaultSync) → us ≡ ss ++ s ∷ [] → 0 < length us
+some_synced ss us s is = let longer = ap length is ∙ length-append ss (s ∷ []) in omega (arith, longer)
+
+module _ {D : Type 0} (v w : Vaulted D) (seen : List Entry) (calls : ℕ) (done : w ≡ flushed_to v w seen calls) (r : Receipt) (is : r ≡ record { calls = called w.syncs; entries = durable w.syncs }) where
+  noted : w.syncs ≡ v.syncs ++ flushed calls (length seen) ∷ []
+  noted = ap (λ (v : Vaulted D). v.syncs) done
+
+  pub flushed_calls : r.calls ≡ calls
+  flushed_calls = ap (λ (r : Receipt). r.calls) is ∙ ap called noted ∙ called_last_from 0 v.syncs (flushed calls (length seen))
+
+  pub flushed_entries : r.entries ≡ length seen
+  flushed_entries = ap (λ (r : Receipt). r.entries) is ∙ ap durable noted ∙ durable_last v.syncs (flushed calls (length seen))
+
+  pub flushed_receipt : r ≡ record { calls = calls; entries = length seen }
+  flushed_receipt = λ i. record { calls = flushed_calls i; entries = flushed_entries i }
+
+  pub flushed_done : w ≡ flushed_to v w seen r.calls
+  flushed_done = done ∙ (λ i. flushed_to v w seen (sym flushed_calls i))
+
+-- which is a sync of what its holder has seen
+pub entries_saved : {D : Type 0} (book : BookId) (v w : Vaulted D) (seen : List Entry) (r : Receipt) (told : NoteState) → IsSound book.session → w ≡ flushed_to v w seen r.calls → r.entries ≡ length seen
+    → told ≡ record { book = book; seen = w.seen; syncs = w.syncs } → IsSaved book seen (record { receipt = r; told = told })
+entries_saved book v w seen r told sound done all note =
+    let s = flushed r.calls (length seen) in
+    let here : told.seen ≡ seen = ap (λ (n : NoteState). n.seen) note ∙ ap (λ (v : Vaulted _). v.seen) done in
+    let long = ap length here in
+    record {
+      sound = sound;
+      of_book = ap (λ (n : NoteState). n.book) note;
+      begins = subst (λ (h : List Entry). IsPrefix seen h) (sym here) (prefix_self seen);
+      within = omega (arith, long, all);
+      synced = record {
+        i = length v.syncs;
+        s = s;
+        is = ap (λ (ss : List VaultSync). slice_get ss (length v.syncs)) (ap (λ (n : NoteState). n.syncs) note ∙ ap (λ (v : Vaulted _). v.syncs) done) ∙ slice_get-last v.syncs s;
+        whole = refl;
+        called = refl;
+        has = sym all;
+      };
+    }
+
+-- The last sync of a list
+
+last_synced : (ss : List VaultSync) → 0 < length ss → All (λ s. s.staged ≡ None) ss → HasSynced (called ss) (durable ss) ss
+last_synced [] some all = absurd (omega (arith, some))
+last_synced (s ∷ []) some all = record { i = 0; s = s; is = refl; whole = All-head (λ (s : VaultSync). s.staged ≡ None) s [] all; called = refl; has = refl }
+last_synced (s ∷ t ∷ ss) some all =
+    let e = last_synced (t ∷ ss) (omega arith) (All-tail (λ (s : VaultSync). s.staged ≡ None) s (t ∷ ss) all) in
+    record { i = suc e.i; s = e.s; is = e.is; whole = e.whole; called = e.called; has = e.has }
+
+pub durable_some : (ss : List VaultSync) → 0 < durable ss → 0 < length ss
+durable_some [] more = absurd (omega (arith, more))
+durable_some (s ∷ ss) more = omega arith
+
+-- which another one made
+pub shared_saved : {D : Type 0} (book : BookId) (v : Vaulted D) (r : Receipt) (told : NoteState) → IsSound book.session → 0 < durable v.syncs → durable v.syncs ≤ length v.seen → All (λ s. s.staged ≡ None) v.syncs
+    → r ≡ record { calls = called v.syncs; entries = durable v.syncs } → told ≡ record { book = book; seen = v.seen; syncs = v.syncs } → IsSaved book v.seen (record { receipt = r; told = told })
+shared_saved book v r told sound some within whole is note =
+    let e = last_synced v.syncs (durable_some v.syncs some) whole in
+    let here : told.seen ≡ v.seen = ap (λ (n : NoteState). n.seen) note in
+    let long = ap length here in
+    let all : r.entries ≡ durable v.syncs = ap (λ (r : Receipt). r.entries) is in
+    record {
+      sound = sound;
+      of_book = ap (λ (n : NoteState). n.book) note;
+      begins = subst (λ (h : List Entry). IsPrefix v.seen h) (sym here) (prefix_self v.seen);
+      within = omega (arith, long, all, within);
+      synced = record {
+        i = e.i;
+        s = e.s;
+        is = ap (λ (ss : List VaultSync). slice_get ss e.i) (ap (λ (n : NoteState). n.syncs) note) ∙ e.is;
+        whole = e.whole;
+        called = e.called ∙ sym (ap (λ (r : Receipt). r.calls) is);
+        has = e.has ∙ sym all;
+      };
+    }
+
 -- by an answer
 
 pub ok_of : {A E : Type 0} (P : A → Type 0) (r : Result A E) (x : A) → r ≡ Ok x → IfOk r P → P x
 ok_of P r x is all = subst (λ o. IfOk o P) is all
+
+pub ok_on : {A E P : Type 0} (r : Result A E) (x : A) → r ≡ Ok x → OnOk r P → P
+ok_on {A} {E} {P} r x is all = subst (λ (o : Result A E). OnOk o P) is all
+
+pub err_on : {A E P : Type 0} (r : Result A E) (e : E) → r ≡ Err e → OnErr r P → P
+err_on {A} {E} {P} r e is all = subst (λ (o : Result A E). OnErr o P) is all
 
 pub ok_map : {A E : Type 0} (P Q : A → Type 0) → ((x : A) → P x → Q x) → (r : Result A E) → IfOk r P → IfOk r Q
 ok_map P Q more (Ok x) all = more x all

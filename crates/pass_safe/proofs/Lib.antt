@@ -5,3 +5,5 @@ pub mod Lent
 pub mod Committing
 pub mod Ends
 pub mod Owned
+pub mod Leaving
+pub mod Settles

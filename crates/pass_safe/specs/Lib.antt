@@ -1,3 +1,4 @@
 pub mod Safes
 pub mod Syncings
+pub mod Commits
 pub mod Settled

@@ -1,9 +1,11 @@
 -- What contracts see of a vault under its lock (this project's own rule).
 use Rattle.std.specs.Prelude.{◌≡◌, ◌⊎◌, ℕ, ◌<◌, ◌≤◌, ◌^◌, Option, Some, None, Result, Ok, Err, length}
+use Rattle.std.specs.List.{All}
 use Rattle.pass_outside.specs.Moments.{Moment, IsAtEnd}
 use Rattle.pass_plain.specs.Sessions.{opening_version}
 use Rattle.pass_book.specs.Syncs.{durable}
 use Rattle.pass_book.specs.Tokens.{BookId}
+use Rattle.pass_keep.specs.Keepers.{GoesOn}
 use Rattle.pass_vault.specs.Rooms.{most_entries}
 use Rattle.pass_vault.specs.Vaulted.{Vaulted}
 use Rattle.pass_safe.specs.declared.fault.Lost.{Lost}
@@ -29,15 +31,33 @@ Stands view v None = ((view v.disk).faults ≡ v.opened) × (durable v.syncs ≡
 Stands view v (Some l) = IsLost (view v.disk) v.opened l
 
 -- what the lock keeps between two calls: the session's entries are few enough, and its objects' versions low enough, for the
--- log to tell them
+-- log to tell them, and no sync of its list is a staging
 pub record IsSafe {D : Type 0} (book : BookId) (view : D → Moment) (v : Vaulted D) (lost : Option Lost) : Type 0 where
   pub of_book : v.book ≡ book
   pub low : (object : ℕ) → opening_version book.session.start object ≤ 2 ^ 35
   pub few : length v.seen ≤ most_entries
+  pub unstaged : All (λ s. s.staged ≡ None) v.syncs
   pub stands : Stands view v lost
 
 -- the fault after which the vault is used no more
+abbrev pub lost_of : SafeFault → Option Lost
+lost_of (DiskFault opened now) = Some (record { opened = opened; found = now })
+lost_of NoMemory = None
+
 abbrev pub lost_in : {T : Type 0} → Result T SafeFault → Option Lost
 lost_in (Ok x) = None
-lost_in (Err (DiskFault opened now)) = Some (record { opened = opened; found = now })
-lost_in (Err NoMemory) = None
+lost_in (Err f) = lost_of f
+
+-- the vault is lost, and answers this fault
+pub record IsLostBy {D : Type 0} (view : D → Moment) (s : SafeView D) (f : SafeFault) : Type 0 where
+  pub l : Lost
+  pub has : s.lost ≡ Some l
+  pub fault : f ≡ DiskFault l.opened l.found
+  pub lost : IsLost (view s.vault.disk) s.vault.opened l
+
+-- What a call on a vault under its lock leaves, by its answer. A vault that is lost isn't asked, and goes on answering its fault.
+pub record Leaves {D T : Type 0} (view : D → Moment) (old new : SafeView D) (answer : Result T SafeFault) : Type 0 where
+  pub fault : old.lost ≡ None → new.lost ≡ lost_in answer
+  pub lost : (l : Lost) → old.lost ≡ Some l → (answer ≡ Err (DiskFault l.opened l.found)) × (new ≡ old)
+  pub failed : (opened found : ℕ) → answer ≡ Err (DiskFault opened found) → IsLost (view new.vault.disk) old.vault.opened (record { opened = opened; found = found })
+  pub goes_on : GoesOn (view old.vault.disk) (view new.vault.disk)

@@ -1,5 +1,6 @@
 //! The vault, as it lies under its lock.
-ghost use Rattle.std.specs.Prelude.{◌≡◌, ◌<◌, ◌≤◌, ◌^◌, ◌++◌, ◌∷◌, [], ℕ, false, None, Some, Ok, Err, IfOk, OnOk, OnErr, length};
+ghost use Rattle.std.specs.Prelude.{◌≡◌, ◌<◌, ◌≤◌, ◌^◌, ◌++◌, ◌∷◌, ◌↔◌, [], ℕ, None, Some, Ok, Err, IfOk, IfErr, IfSome, IsSome, OnOk, OnErr, length};
+ghost use Rattle.std.specs.List.{All};
 ghost use mathlib.Core.List.{IsPrefix};
 ghost use Rattle.pass_plain.specs.Legal.{IsLegal};
 ghost use Rattle.pass_plain.specs.Sessions.{opening_version};
@@ -10,12 +11,13 @@ ghost use Rattle.pass_book.specs.Syncs.{called, durable as durable_in, AreNumber
 ghost use Rattle.pass_keep.specs.Keepers.{GoesOn};
 ghost use Rattle.pass_vault.specs.Rooms.{most_entries};
 ghost use Rattle.pass_vault.specs.Vaulted.{flushed, file_synced};
-ghost use Rattle.pass_safe.specs.Safes.{SafeView, IsLost, lost_in};
+ghost use Rattle.pass_safe.specs.Safes.{SafeView, IsLost, IsLostBy, lost_in};
+ghost use Rattle.pass_safe.specs.Settled.{HasDirty, IsClean, settled_by};
 ghost use Rattle.pass_safe.specs.declared.fault.Lost.{Lost as AnyLost};
 ghost use Rattle.pass_safe.specs.declared.fault.SafeFault.TheVariants.{DiskFault, NoMemory};
 
 use crate::fault::{Lost, SafeFault, lost_by};
-use crate::working::{flush_vault, join_file, save_file, show_file};
+use crate::working::{flush_vault, join_file, save_file, settle_file, show_file};
 use pass_book::Note;
 use pass_entry::Record;
 use pass_file::FileDesk;
@@ -75,9 +77,21 @@ impl<J: Whose, D: Disk> Safe<J, D> {
         ensures legal { IsLegal J.book.session self.now.vault.seen }
         ensures sound { IsSound J.book.session }
         ensures few { length self.now.vault.seen ≤ most_entries }
+        ensures unstaged { All (λ s. s.staged ≡ None) self.now.vault.syncs }
         ensures book { self.now.vault.book ≡ J.book }
     {
         self.vault.durable()
+    }
+
+    /// Whether no device call has failed: else the counts of the fault. It takes no memory.
+    pub fn healthy(&self) -> Result<(), SafeFault>
+        ensures healthy { OnOk result (self.now.lost ≡ None) }
+        ensures lost { IfErr result (IsLostBy D.view self.now) }
+    {
+        match self.lost {
+            Some(lost) => Err(lost.fault()),
+            None => Ok(()),
+        }
     }
 
     /// What the vault has seen, for others. It takes no memory.
@@ -146,6 +160,7 @@ impl<J: Whose, D: Disk> Safe<J, D> {
         }) }
         ensures receipt { IfOk result.1 (λ r. r ≡ record { calls = (D.view self.new.vault.disk).calls; entries = length file.seen }) }
         ensures listed { OnOk result.1 (result.0.syncs ≡ self.new.vault.syncs) }
+        ensures clean { OnOk result.1 (IsClean J.book.session self.new.vault.seen self.new.vault.syncs file.what) }
         ensures undone { OnErr result.1 (self.new.vault ≡ record self.old.vault { disk = self.new.vault.disk }) }
         ensures fault { self.old.lost ≡ None → self.new.lost ≡ lost_in result.1 }
         ensures lost { (l : AnyLost) → self.old.lost ≡ Some l → (result.1 ≡ Err (DiskFault l.opened l.found)) × (self.new ≡ self.old) × (result.0 ≡ file) }
@@ -157,6 +172,36 @@ impl<J: Whose, D: Disk> Safe<J, D> {
             return (file, Err(lost.fault()));
         }
         let (file, result) = save_file::<J, D>(alloc, file, &mut self.vault);
+        self.lost = lost_by(&result);
+        (file, result)
+    }
+
+    /// Writes the dirty blocks of a file that has some, as `save` does, and answers what that came to. Any other file is left alone: of
+    /// it no sync is noted, and no device call is made.
+    pub fn settle(
+        &mut self,
+        alloc: Global,
+        file: FileDesk<J>,
+    ) -> (FileDesk<J>, Result<Option<Receipt>, SafeFault>)
+        requires seen { file.seen ≡ self.old.vault.seen }
+        ensures file { result.0 ≡ record file { syncs = result.0.syncs } }
+        ensures done { IfOk result.1 (λ r. self.new.vault ≡ record self.old.vault { disk = self.new.vault.disk; syncs = settled_by file.what file.number self.old.vault.syncs r }) }
+        ensures receipt { IfOk result.1 (λ o. IfSome o (λ r. r ≡ record { calls = (D.view self.new.vault.disk).calls; entries = length file.seen })) }
+        ensures idle { result.1 ≡ Ok None → (self.new ≡ self.old) × (result.0 ≡ file) }
+        ensures dirty { IfOk result.1 (λ r. IsSome r ↔ HasDirty J.book.session file.seen file.syncs file.what) }
+        // By the vault's list, where it has the syncs that the file knows, as `join` tells.
+        ensures clean { OnOk result.1 (IsPrefix file.syncs self.old.vault.syncs → IsClean J.book.session self.new.vault.seen self.new.vault.syncs file.what) }
+        ensures undone { OnErr result.1 (self.new.vault ≡ record self.old.vault { disk = self.new.vault.disk }) }
+        ensures fault { self.old.lost ≡ None → self.new.lost ≡ lost_in result.1 }
+        ensures lost { (l : AnyLost) → self.old.lost ≡ Some l → (result.1 ≡ Err (DiskFault l.opened l.found)) × (self.new ≡ self.old) × (result.0 ≡ file) }
+        ensures failed { (opened found : ℕ) → result.1 ≡ Err (DiskFault opened found) → IsLost (D.view self.new.vault.disk) self.old.vault.opened (record { opened = opened; found = found }) }
+        ensures memory { result.1 ≡ Err NoMemory → (self.new ≡ self.old) × (result.0 ≡ file) }
+        ensures goes_on { GoesOn (D.view self.old.vault.disk) (D.view self.new.vault.disk) }
+    {
+        if let Some(lost) = self.lost {
+            return (file, Err(lost.fault()));
+        }
+        let (file, result) = settle_file::<J, D>(alloc, file, &mut self.vault);
         self.lost = lost_by(&result);
         (file, result)
     }

@@ -1,9 +1,15 @@
 //! What a sync makes durable, under the vault's lock.
-ghost use Rattle.std.specs.Prelude.{◌≡◌, ◌<◌, ◌≤◌, ◌↔◌, ℕ, true, IfOk, IfErr, length};
+ghost use Rattle.std.specs.Prelude.{◌≡◌, ◌⊎◌, ◌+◌, ◌<◌, ◌≤◌, ◌++◌, ◌∷◌, ◌↔◌, [], ℕ, List, None, Some, Err, true, IfOk, IfErr, OnOk, OnErr, length};
 ghost use mathlib.Core.List.{IsPrefix};
-ghost use Rattle.pass_book.specs.Syncs.{durable};
+ghost use Rattle.pass_entry.specs.declared.entry.Entry.{Entry as AnyEntry};
+ghost use Rattle.pass_book.specs.Syncs.{called, durable};
 ghost use Rattle.pass_hold.specs.Callings.{HasLooked};
+ghost use Rattle.pass_vault.specs.Vaulted.{file_synced};
+ghost use Rattle.pass_safe.specs.Commits.{HasCommitted, HasFlushed, HasNotFlushed, HasStopped, flushed_to};
+ghost use Rattle.pass_safe.specs.Safes.{IsLostBy, Leaves};
+ghost use Rattle.pass_safe.specs.Settled.{IsClean};
 ghost use Rattle.pass_safe.specs.Syncings.{HasKept, HasRisen, IsCopy, IsFileSaved, IsSaved, KeepingView};
+ghost use Rattle.pass_safe.specs.declared.fault.SafeFault.TheVariants.{NoMemory};
 
 use crate::fault::SafeFault;
 use crate::keeping::Keeping;
@@ -49,6 +55,7 @@ pub fn copy<J: Whose, D: Disk>(
     ensures shelf { shelf.new ≡ record shelf.old { syncs = shelf.new.syncs } }
     ensures file { file.new ≡ record file.old { seen = shelf.old.history; syncs = file.new.syncs } }
     ensures begins { IsPrefix file.old.seen file.new.seen }
+    ensures listed { IsPrefix file.old.syncs file.new.syncs × IsPrefix safe.old.vault.syncs file.new.syncs }
     ensures copied { IfOk result (λ c. IsCopy J.book safe.old.vault c file.new.seen) }
 {
     let told = safe.note();
@@ -83,6 +90,8 @@ fn look_told<J: Whose>(proc: &mut Proc<J>, shelf: &mut Shelf<J>, told: Note)
     requires { told.book ≡ J.book }
     ensures looked { HasLooked J.book.session proc.old.who proc.old.seen proc.new.seen }
     ensures whole { proc.new.seen ≡ shelf.old.history }
+    ensures same { proc.new ≡ record proc.old { seen = shelf.old.history; syncs = proc.new.syncs; looks = proc.old.looks + 1; looked = length shelf.old.history } }
+    ensures listed { IsPrefix proc.old.syncs proc.new.syncs × IsPrefix told.syncs proc.new.syncs }
     ensures kept { (k : KeepingView) (what : ℕ) → HasKept J.book.session k proc.old what → HasKept J.book.session k proc.new what }
     ensures told { IsPrefix told.seen proc.new.seen }
     ensures shelf { shelf.new ≡ record shelf.old { syncs = shelf.new.syncs } }
@@ -100,6 +109,8 @@ pub fn copy_entries<J: Whose, D: Disk>(
     ensures safe { safe.new ≡ safe.old }
     ensures shelf { shelf.new ≡ record shelf.old { syncs = shelf.new.syncs } }
     ensures looked { HasLooked J.book.session proc.old.who proc.old.seen proc.new.seen }
+    ensures same { proc.new ≡ record proc.old { seen = shelf.old.history; syncs = proc.new.syncs; looks = proc.old.looks + 1; looked = length shelf.old.history } }
+    ensures listed { IsPrefix proc.old.syncs proc.new.syncs × IsPrefix safe.old.vault.syncs proc.new.syncs }
     ensures kept { (k : KeepingView) (what : ℕ) → HasKept J.book.session k proc.old what → HasKept J.book.session k proc.new what }
     ensures copied { IfOk result (λ c. IsCopy J.book safe.old.vault c proc.new.seen) }
 {
@@ -110,6 +121,27 @@ pub fn copy_entries<J: Whose, D: Disk>(
     Ok(Copied { parts, note })
 }
 
+/// Makes the entries that were copied durable, by one sync. The book is free.
+pub fn flush_copied<J: Whose, D: Disk>(
+    alloc: Global,
+    safe: &mut Safe<J, D>,
+    copied: Copied,
+) -> Result<Receipt, SafeFault>
+    requires copied { (seen : List AnyEntry) × IsCopy J.book safe.old.vault copied seen }
+    ensures done { IfOk result (λ r. safe.new.vault ≡ flushed_to safe.old.vault safe.new.vault copied.note.seen r.calls) }
+    ensures receipt { IfOk result (λ r. r ≡ record { calls = (D.view safe.new.vault.disk).calls; entries = length copied.note.seen }) }
+    ensures undone { OnErr result (HasNotFlushed copied.note.seen safe.old.vault safe.new.vault) }
+    ensures memory { result ≡ Err NoMemory → safe.new ≡ safe.old }
+    ensures risen { IfErr result HasRisen }
+    ensures safe { Leaves D.view safe.old safe.new result }
+{
+    let Copied { parts, note } = copied;
+    match safe.flush(alloc, &parts, note) {
+        Ok(()) => Ok(safe.receipt()),
+        Err(fault) => Err(fault),
+    }
+}
+
 /// The data of a file that has seen what the vault has.
 fn save<J: Whose, D: Disk>(
     alloc: Global,
@@ -118,10 +150,19 @@ fn save<J: Whose, D: Disk>(
 ) -> (FileDesk<J>, Result<Saved, SafeFault>)
     requires seen { file.seen ≡ safe.old.vault.seen }
     ensures file { result.0 ≡ record file { syncs = result.0.syncs } }
+    ensures done { IfOk result.1 (λ s. safe.new.vault ≡ record safe.old.vault {
+      disk = safe.new.vault.disk;
+      syncs = safe.old.vault.syncs ++ file_synced file.what file.number s.receipt.calls s.receipt.entries ∷ [];
+    }) }
+    ensures receipt { IfOk result.1 (λ s. s.receipt ≡ record { calls = (D.view safe.new.vault.disk).calls; entries = length file.seen }) }
+    ensures listed { OnOk result.1 (result.0.syncs ≡ safe.new.vault.syncs) }
+    ensures clean { OnOk result.1 (IsClean J.book.session safe.new.vault.seen safe.new.vault.syncs file.what) }
     ensures saved { IfOk result.1 (λ s. IsSaved J.book file.seen s) }
     ensures of_file { IfOk result.1 (λ s. IsFileSaved file.what file.number s) }
-    ensures entries { IfOk result.1 (λ s. s.receipt.entries ≡ length file.seen) }
-    ensures fault { IfErr result.1 HasRisen }
+    ensures undone { OnErr result.1 (safe.new.vault ≡ record safe.old.vault { disk = safe.new.vault.disk }) }
+    ensures memory { result.1 ≡ Err NoMemory → (safe.new ≡ safe.old) × (result.0 ≡ file) }
+    ensures risen { IfErr result.1 HasRisen }
+    ensures safe { Leaves D.view safe.old safe.new result.1 }
 {
     let (file, result) = safe.save(alloc, file);
     match result {
@@ -143,16 +184,48 @@ pub fn commit<J: Whose, D: Disk>(
 ) -> (FileDesk<J>, Result<Saved, SafeFault>)
     requires copied { IsCopy J.book safe.old.vault copied file.seen }
     ensures file { result.0 ≡ record file { syncs = result.0.syncs } }
+    ensures done { IfOk result.1 (λ s. HasCommitted file safe.old.vault safe.new.vault s.receipt) }
+    ensures receipt { IfOk result.1 (λ s. s.receipt ≡ record { calls = (D.view safe.new.vault.disk).calls; entries = length file.seen }) }
+    ensures listed { OnOk result.1 (result.0.syncs ≡ safe.new.vault.syncs) }
+    ensures clean { OnOk result.1 (IsClean J.book.session safe.new.vault.seen safe.new.vault.syncs file.what) }
     ensures saved { IfOk result.1 (λ s. IsSaved J.book file.seen s) }
     ensures of_file { IfOk result.1 (λ s. IsFileSaved file.what file.number s) }
-    ensures entries { IfOk result.1 (λ s. s.receipt.entries ≡ length file.seen) }
-    ensures fault { IfErr result.1 HasRisen }
+    ensures undone { OnErr result.1 (HasStopped file.seen safe.old.vault safe.new.vault) }
+    ensures memory { result.1 ≡ Err NoMemory → ((safe.new ≡ safe.old) ⊎ HasFlushed file.seen safe.old.vault safe.new.vault) × (result.0 ≡ file) }
+    ensures risen { IfErr result.1 HasRisen }
+    ensures safe { Leaves D.view safe.old safe.new result.1 }
 {
-    let Copied { parts, note } = copied;
-    if let Err(fault) = safe.flush(alloc, &parts, note) {
+    if let Err(fault) = flush_copied(alloc, safe, copied) {
         return (file, Err(fault));
     }
     save(alloc, safe, file)
+}
+
+/// Makes the entries that were copied durable, for a sync of a pipe or an app object. The book is free.
+pub fn commit_entries<J: Whose, D: Disk>(
+    alloc: Global,
+    safe: &mut Safe<J, D>,
+    proc: &Proc<J>,
+    copied: Copied,
+) -> Result<Saved, SafeFault>
+    requires copied { IsCopy J.book safe.old.vault copied proc.now.seen }
+    ensures done { IfOk result (λ s. safe.new.vault ≡ flushed_to safe.old.vault safe.new.vault proc.now.seen s.receipt.calls) }
+    ensures receipt { IfOk result (λ s. s.receipt ≡ record { calls = (D.view safe.new.vault.disk).calls; entries = length proc.now.seen }) }
+    ensures saved { IfOk result (λ s. IsSaved J.book proc.now.seen s) }
+    ensures undone { OnErr result (HasNotFlushed proc.now.seen safe.old.vault safe.new.vault) }
+    ensures memory { result ≡ Err NoMemory → safe.new ≡ safe.old }
+    ensures risen { IfErr result HasRisen }
+    ensures safe { Leaves D.view safe.old safe.new result }
+{
+    let _ = proc;
+    match flush_copied(alloc, safe, copied) {
+        Ok(receipt) => {
+            let _durable = safe.durable();
+            let told = safe.note();
+            Ok(Saved { receipt, told })
+        }
+        Err(fault) => Err(fault),
+    }
 }
 
 /// Makes the data of the file durable, all of whose entries are so by the work of another sync. The book is free.
@@ -162,12 +235,48 @@ pub fn share<J: Whose, D: Disk>(
     file: FileDesk<J>,
 ) -> (FileDesk<J>, Result<Saved, SafeFault>)
     requires below { length file.seen ≤ durable safe.old.vault.syncs }
-    ensures what { result.0.what ≡ file.what }
+    ensures file { result.0 ≡ record file { seen = safe.old.vault.seen; syncs = result.0.syncs } }
+    ensures begins { IsPrefix file.seen safe.old.vault.seen }
+    ensures done { IfOk result.1 (λ s. safe.new.vault ≡ record safe.old.vault {
+      disk = safe.new.vault.disk;
+      syncs = safe.old.vault.syncs ++ file_synced file.what file.number s.receipt.calls s.receipt.entries ∷ [];
+    }) }
+    ensures receipt { IfOk result.1 (λ s. s.receipt ≡ record { calls = (D.view safe.new.vault.disk).calls; entries = length safe.old.vault.seen }) }
+    ensures entries { IfOk result.1 (λ s. length file.seen ≤ s.receipt.entries) }
+    ensures listed { OnOk result.1 (result.0.syncs ≡ safe.new.vault.syncs) }
+    ensures clean { OnOk result.1 (IsClean J.book.session safe.new.vault.seen safe.new.vault.syncs file.what) }
     ensures saved { IfOk result.1 (λ s. IsSaved J.book result.0.seen s) }
     ensures of_file { IfOk result.1 (λ s. IsFileSaved result.0.what result.0.number s) }
-    ensures entries { IfOk result.1 (λ s. length file.seen ≤ s.receipt.entries) }
-    ensures fault { IfErr result.1 HasRisen }
+    ensures undone { OnErr result.1 (safe.new.vault ≡ record safe.old.vault { disk = safe.new.vault.disk }) }
+    ensures memory { result.1 ≡ Err NoMemory → safe.new ≡ safe.old }
+    ensures risen { IfErr result.1 HasRisen }
+    ensures safe { Leaves D.view safe.old safe.new result.1 }
 {
     let file = safe.show(file);
     save(alloc, safe, file)
+}
+
+/// The same for a sync of a pipe or an app object, whose first entry is durable by the work of another sync: it has that one's receipt, and
+/// takes no memory.
+pub fn share_entries<J: Whose, D: Disk>(
+    safe: &mut Safe<J, D>,
+    keeping: &Keeping<J>,
+) -> Result<Saved, SafeFault>
+    requires durable { keeping.now.place < durable safe.old.vault.syncs }
+    ensures safe { safe.new ≡ safe.old }
+    ensures healthy { OnOk result (safe.old.lost ≡ None) }
+    ensures lost { IfErr result (IsLostBy D.view safe.old) }
+    ensures receipt { IfOk result (λ s. s.receipt ≡ record { calls = called safe.old.vault.syncs; entries = durable safe.old.vault.syncs }) }
+    ensures above { IfOk result (λ s. keeping.now.place < s.receipt.entries) }
+    ensures saved { IfOk result (λ s. IsSaved J.book safe.old.vault.seen s) }
+    ensures risen { IfErr result HasRisen }
+{
+    let _ = keeping;
+    if let Err(fault) = safe.healthy() {
+        return Err(fault);
+    }
+    let _durable = safe.durable();
+    let receipt = safe.receipt();
+    let told = safe.note();
+    Ok(Saved { receipt, told })
 }

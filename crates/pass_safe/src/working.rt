@@ -1,5 +1,5 @@
 //! What is done with the vault while no device call has failed.
-ghost use Rattle.std.specs.Prelude.{◌≡◌, ◌<◌, ◌≤◌, ◌++◌, ◌∷◌, [], ℕ, false, None, Err, IfOk, OnOk, OnErr, length};
+ghost use Rattle.std.specs.Prelude.{◌≡◌, ◌<◌, ◌≤◌, ◌++◌, ◌∷◌, ◌↔◌, [], ℕ, None, Ok, Err, IfOk, IfSome, IsSome, OnOk, OnErr, length};
 ghost use mathlib.Core.List.{IsPrefix};
 ghost use Rattle.pass_plain.specs.Legal.{IsLegal};
 ghost use Rattle.pass_book.specs.Parting.{lists_of};
@@ -10,6 +10,7 @@ ghost use Rattle.pass_keep.specs.Keepers.{GoesOn};
 ghost use Rattle.pass_vault.specs.Rooms.{most_entries};
 ghost use Rattle.pass_vault.specs.Vaulted.{flushed, file_synced};
 ghost use Rattle.pass_safe.specs.Safes.{IsSafe, lost_in};
+ghost use Rattle.pass_safe.specs.Settled.{HasDirty, IsClean, settled_by};
 ghost use Rattle.pass_safe.specs.declared.fault.SafeFault.TheVariants.{NoMemory};
 
 use crate::fault::{SafeFault, fault_of};
@@ -74,6 +75,7 @@ fn save_blocks<J: Whose, D: Disk>(
     }) }
     ensures receipt { IfOk result.1 (λ r. r ≡ record { calls = (D.view vault.new.disk).calls; entries = length file.seen }) }
     ensures listed { OnOk result.1 (result.0.syncs ≡ vault.new.syncs) }
+    ensures clean { OnOk result.1 (IsClean J.book.session vault.new.seen vault.new.syncs file.what) }
     ensures undone { OnErr result.1 (vault.new ≡ record vault.old { disk = vault.new.disk }) }
     ensures memory { result.1 ≡ Err NoMemory → (vault.new ≡ vault.old) × (result.0 ≡ file) }
     ensures goes_on { GoesOn (D.view vault.old.disk) (D.view vault.new.disk) }
@@ -102,6 +104,7 @@ pub(crate) fn save_file<J: Whose, D: Disk>(
     }) }
     ensures receipt { IfOk result.1 (λ r. r ≡ record { calls = (D.view vault.new.disk).calls; entries = length file.seen }) }
     ensures listed { OnOk result.1 (result.0.syncs ≡ vault.new.syncs) }
+    ensures clean { OnOk result.1 (IsClean J.book.session vault.new.seen vault.new.syncs file.what) }
     ensures undone { OnErr result.1 (vault.new ≡ record vault.old { disk = vault.new.disk }) }
     ensures memory { result.1 ≡ Err NoMemory → (vault.new ≡ vault.old) × (result.0 ≡ file) }
     ensures goes_on { GoesOn (D.view vault.old.disk) (D.view vault.new.disk) }
@@ -110,6 +113,38 @@ pub(crate) fn save_file<J: Whose, D: Disk>(
         return (file, Err(SafeFault::NoMemory));
     };
     save_blocks(alloc, file, vault, &blocks)
+}
+
+/// Writes the dirty blocks of a file that has some, and leaves any other alone.
+pub(crate) fn settle_file<J: Whose, D: Disk>(
+    alloc: Global,
+    file: FileDesk<J>,
+    vault: &mut Vault<D>,
+) -> (FileDesk<J>, Result<Option<Receipt>, SafeFault>)
+    requires safe { IsSafe J.book D.view vault.old None }
+    requires seen { file.seen ≡ vault.old.seen }
+    ensures safe { IsSafe J.book D.view vault.new (lost_in result.1) }
+    ensures file { result.0 ≡ record file { syncs = result.0.syncs } }
+    ensures done { IfOk result.1 (λ r. vault.new ≡ record vault.old { disk = vault.new.disk; syncs = settled_by file.what file.number vault.old.syncs r }) }
+    ensures receipt { IfOk result.1 (λ o. IfSome o (λ r. r ≡ record { calls = (D.view vault.new.disk).calls; entries = length file.seen })) }
+    ensures idle { result.1 ≡ Ok None → (vault.new ≡ vault.old) × (result.0 ≡ file) }
+    ensures dirty { IfOk result.1 (λ r. IsSome r ↔ HasDirty J.book.session file.seen file.syncs file.what) }
+    ensures clean { OnOk result.1 (IsPrefix file.syncs vault.old.syncs → IsClean J.book.session vault.new.seen vault.new.syncs file.what) }
+    ensures undone { OnErr result.1 (vault.new ≡ record vault.old { disk = vault.new.disk }) }
+    ensures memory { result.1 ≡ Err NoMemory → (vault.new ≡ vault.old) × (result.0 ≡ file) }
+    ensures goes_on { GoesOn (D.view vault.old.disk) (D.view vault.new.disk) }
+{
+    let Ok(blocks) = file.dirty(alloc) else {
+        return (file, Err(SafeFault::NoMemory));
+    };
+    if blocks.is_empty() {
+        return (file, Ok(None));
+    }
+    let (file, result) = save_blocks(alloc, file, vault, &blocks);
+    match result {
+        Ok(receipt) => (file, Ok(Some(receipt))),
+        Err(fault) => (file, Err(fault)),
+    }
 }
 
 /// The file sees what the vault has seen.

@@ -1,4 +1,5 @@
 use Rattle.std.proofs.Common.{◌≡◌, ap, ◌∙◌, subst}
+use mathlib.Core.List.{IsPrefix}
 use Rattle.pass_book.proofs.Prefixes.{prefix_trans}
 use Rattle.pass_hold.specs.Callers.{CallerState}
 use Rattle.pass_hold.specs.Callings.{HasLooked}
@@ -54,3 +55,12 @@ returns-clause-kept g c = λ k what kept.
     kept_on S k now (proc_with i.process i.number l i.way) what kept
     (subst (λ (v : ProcView). HasLooked S v.who v.seen l.seen) c.proc.view_is (subst (λ w. HasLooked S w i.caller.seen l.seen) mine.of_who looked))
     (ap (λ (v : ProcView). v.who) c.proc.view_is, ap (λ (v : ProcView). v.number) c.proc.view_is, ap (λ (v : ProcView). v.state) c.proc.view_is, ap (λ (v : ProcView). v.way) c.proc.view_is)
+
+pub returns-clause-listed : goal.returns-clause-listed
+returns-clause-listed g c =
+    let i = c.proc.inside in
+    let m = c.meet.new.self in
+    let l = c.look.new.self in
+    let told = c.meet.ensures.told in
+    let grows = c.look.ensures.grows in
+    (subst (λ (v : ProcView). IsPrefix v.syncs l.syncs) c.proc.view_is (prefix_trans i.caller.syncs m.syncs l.syncs told.2 grows), prefix_trans c.args.told.syncs m.syncs l.syncs told.1 grows)

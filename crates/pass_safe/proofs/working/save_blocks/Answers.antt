@@ -1,8 +1,11 @@
-use Rattle.std.proofs.Common.{◌≡◌, ap, sym, ◌∙◌, subst, arith, length}
+use Rattle.std.proofs.Common.{◌≡◌, ℕ, List, false, refl, ap, sym, ◌∙◌, subst, arith, length}
 use Rattle.std.specs.Prelude.{None, Err}
 use Rattle.pass_book.specs.Syncs.{durable}
 use Rattle.pass_book.specs.Tokens.{DeskState}
 use Rattle.pass_book.proofs.Backed.{durable_last}
+use Rattle.pass_book.specs.declared.view.VaultSync.{VaultSync}
+use Rattle.pass_clean.specs.Cleaned.{is_dirty}
+use Rattle.pass_clean.proofs.Cleaning.{synced_law}
 use Rattle.pass_keep.specs.declared.fault.KeepFault.{KeepFault}
 use Rattle.pass_vault.specs.declared.vault.Receipt.{Receipt}
 use Rattle.pass_vault.specs.Vaulted.{Vaulted, file_synced}
@@ -41,7 +44,8 @@ returns-in-Ok-clause-safe g c =
     let same = ap length seen in
     let whole = c.requires.safe.stands.1 in
     let last = ap (λ (v : Vaulted _). durable v.syncs) e.done ∙ durable_last v.syncs (file_synced d.what c.number-number.result (g.D.Disk.view w.disk).calls (durable v.syncs)) in
-    safe_still g.J.Whose.book g.D.Disk.view v w c.requires.safe (ap (λ (v : Vaulted _). v.book) e.done) (ap (λ (v : Vaulted _). v.opened) e.done) (omega (arith, few, same)) e.made.1 (omega (arith, last, whole, same))
+    safe_still g.J.Whose.book g.D.Disk.view v w c.requires.safe (ap (λ (v : Vaulted _). v.book) e.done) (ap (λ (v : Vaulted _). v.opened) e.done) (omega (arith, few, same))
+    (file_synced d.what c.number-number.result (g.D.Disk.view w.disk).calls (durable v.syncs)) (ap (λ (v : Vaulted _). v.syncs) e.done) refl e.made.1 (omega (arith, last, whole, same))
 
 pub returns-in-Err-clause-safe : goal.returns-in-Err-clause-safe
 returns-in-Err-clause-safe g c =
@@ -59,6 +63,23 @@ returns-in-Err-clause-safe g c =
     let few = c.requires.safe.few in
     let same = ap length seen in
     answered Receipt B view w c.fault_of.result (DiskFault opened now) (c.fault_of.ensures.disk opened now is)
-    (safe_lost B view v w c.requires.safe (ap (λ (v : Vaulted _). v.book) failed.3) (ap (λ (v : Vaulted _). v.opened) failed.3) (omega (arith, few, same)) opened now failed.0 failed.1 failed.2 e.goes_on.1))
+    (safe_lost B view v w c.requires.safe (ap (λ (v : Vaulted _). v.book) failed.3) (ap (λ (v : Vaulted _). v.opened) failed.3) (omega (arith, few, same)) (ap (λ (v : Vaulted _). v.syncs) failed.3) opened now failed.0 failed.1 failed.2 e.goes_on.1))
     (λ opened now is. not_broken B view v v c.requires.safe (e.only_broken opened now (c.in-Err.is ∙ ap (λ (k : KeepFault). Err k) is)))
     (λ is. answered Receipt B view w c.fault_of.result NoMemory (c.fault_of.ensures.memory is) (subst (λ (x : Vaulted _). IsSafe B view x None) (sym (e.no_memory (c.in-Err.is ∙ ap (λ (k : KeepFault). Err k) is)).0) c.requires.safe))
+
+pub returns-in-Ok-clause-clean : goal.returns-in-Ok-clause-clean
+returns-in-Ok-clause-clean g c =
+    let S = g.J.Whose.book.session in
+    let v = c.args.vault.now in
+    let w = c.sync_file.new.self in
+    let d = c.lend-lent.result.1 in
+    let n = c.sync_file.new.desk in
+    let e = c.in-Ok.ensures in
+    let seen : w.seen ≡ v.seen = ap (λ (v : Vaulted _). v.seen) e.done ∙ seen_back c.args.file.seen v.seen d v.syncs v.syncs n.seen c.requires.seen c.lend-lent.ensures.desk.2 e.met ∙ c.requires.seen in
+    let same = ap length seen in
+    let whole = c.requires.safe.stands.1 in
+    let s = file_synced d.what c.number-number.result (g.D.Disk.view w.disk).calls (durable v.syncs) in
+    λ block low.
+    subst (λ (o : ℕ). is_dirty S w.seen w.syncs o block ≡ false) c.lend-lent.ensures.desk.1
+    (subst (λ (ss : List VaultSync). is_dirty S w.seen ss d.what block ≡ false) (sym (ap (λ (v : Vaulted _). v.syncs) e.done))
+    (synced_law S w.seen v.syncs s c.number-number.result d.what block refl refl (omega (arith, whole, same))))

@@ -1,0 +1,43 @@
+use Rattle.std.proofs.Common.{◌≡◌, ℕ, List, refl, sym, ◌∙◌, subst, arith, length}
+use Rattle.std.specs.Vec.{vec_len}
+use Rattle.pass_entry.specs.declared.entry.Entry.{Entry}
+use Rattle.pass_clean.specs.Blocks.{IsRisingBy}
+use Rattle.pass_safe.specs.Settled.{IsClean}
+use Rattle.pass_safe.proofs.Clean.{clean_not_dirty, is_zero, none_dirty, not_zero, some_dirty, stays_clean}
+use Rattle.pass_safe.proofs.Lent.{ok_on}
+use Rattle.pass_safe.proofs.working.settle_file.Goals as goal
+
+pub save_blocks-file-requires-clause-rising : goal.save_blocks-file-requires-clause-rising
+save_blocks-file-requires-clause-rising g c = subst (λ (l : List (ℕ × List ℕ)). IsRisingBy l) (sym c.deref.ensures.value) c.in-Ok.ensures.rising
+
+pub returns-then-is_empty-clause-clean : goal.returns-then-is_empty-clause-clean
+returns-then-is_empty-clause-clean g c =
+    let S = g.J.Whose.book.session in
+    let v = c.args.vault.now in
+    let f = c.args.file in
+    let empty = is_zero (vec_len c.in-Ok.blocks) (sym c.is_empty.ensures ∙ c.if-is_empty.true) in
+    let long = c.in-Ok.blocks.ok.0 in
+    let none : length c.in-Ok.blocks.items ≡ 0 = omega (arith, empty, long) in
+    λ listed.
+    subst (λ (h : List Entry). IsClean S h v.syncs f.what) c.requires.seen
+    (stays_clean S f.seen f.syncs v.syncs f.what listed (none_dirty S f.seen f.syncs f.what c.in-Ok.blocks.items c.in-Ok.ensures.dirty none))
+
+pub returns-then-is_empty-clause-dirty : goal.returns-then-is_empty-clause-dirty
+returns-then-is_empty-clause-dirty g c =
+    let S = g.J.Whose.book.session in
+    let f = c.args.file in
+    let empty = is_zero (vec_len c.in-Ok.blocks) (sym c.is_empty.ensures ∙ c.if-is_empty.true) in
+    let long = c.in-Ok.blocks.ok.0 in
+    let none : length c.in-Ok.blocks.items ≡ 0 = omega (arith, empty, long) in
+    (λ some. absurd (cc), λ dirty. absurd (clean_not_dirty S f.seen f.syncs f.what (none_dirty S f.seen f.syncs f.what c.in-Ok.blocks.items c.in-Ok.ensures.dirty none) dirty))
+
+pub returns-in-Ok-result-clause-dirty : goal.returns-in-Ok-result-clause-dirty
+returns-in-Ok-result-clause-dirty g c =
+    let S = g.J.Whose.book.session in
+    let f = c.args.file in
+    let long = c.in-Ok.blocks.ok.0 in
+    let some : length c.in-Ok.blocks.items ≡ 0 → ⊥ = λ none. not_zero (vec_len c.in-Ok.blocks) (sym c.is_empty.ensures ∙ c.if-is_empty.false) (omega (arith, none, long)) in
+    (λ is. some_dirty S f.seen f.syncs f.what c.in-Ok.blocks.items c.in-Ok.ensures.dirty some, λ dirty. refl)
+
+pub returns-in-Ok-result-clause-clean : goal.returns-in-Ok-result-clause-clean
+returns-in-Ok-result-clause-clean g c = λ listed. ok_on c.save_blocks-file.result.1 c.in-Ok-result.receipt c.in-Ok-result.is c.save_blocks-file.ensures.clean

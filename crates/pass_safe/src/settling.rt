@@ -1,0 +1,66 @@
+//! The data of a file, where a store is settled while its calls go on.
+ghost use Rattle.std.specs.Prelude.{◌≡◌, ◌⊎◌, ◌≤◌, ◌↔◌, Err, true, IfOk, IfErr, OnErr, length};
+ghost use Rattle.pass_book.specs.Syncs.{durable};
+ghost use Rattle.pass_safe.specs.Commits.{HasFlushed, HasStopped};
+ghost use Rattle.pass_safe.specs.Safes.{Leaves};
+ghost use Rattle.pass_safe.specs.Settled.{HasSettled, settled_by};
+ghost use Rattle.pass_safe.specs.Syncings.{HasRisen, IsCopy};
+ghost use Rattle.pass_safe.specs.declared.fault.SafeFault.TheVariants.{NoMemory};
+
+use crate::fault::SafeFault;
+use crate::safe::Safe;
+use crate::saving::{Copied, flush_copied};
+use pass_file::FileDesk;
+use pass_hold::Whose;
+use pass_outside::Disk;
+use pass_vault::Receipt;
+use std::alloc::Global;
+
+/// Whether all that a file has seen is durable. The file comes back as it was.
+pub fn is_seen<J: Whose, D: Disk>(safe: &Safe<J, D>, file: FileDesk<J>) -> (FileDesk<J>, bool)
+    ensures file { result.0 ≡ file }
+    ensures seen { (result.1 ≡ true) ↔ (length file.seen ≤ durable safe.now.vault.syncs) }
+{
+    let (lent, desk) = file.lend();
+    let is = desk.seen() <= safe.durable();
+    (lent.back(desk), is)
+}
+
+/// Settles a file all of whose entries are durable: it sees what the vault has seen.
+pub fn settle_shared<J: Whose, D: Disk>(
+    alloc: Global,
+    safe: &mut Safe<J, D>,
+    file: FileDesk<J>,
+) -> (FileDesk<J>, Result<Option<Receipt>, SafeFault>)
+    requires below { length file.seen ≤ durable safe.old.vault.syncs }
+    ensures file { result.0 ≡ record file { seen = safe.old.vault.seen; syncs = result.0.syncs } }
+    ensures done { IfOk result.1 (λ r. safe.new.vault ≡ record safe.old.vault { disk = safe.new.vault.disk; syncs = settled_by file.what file.number safe.old.vault.syncs r }) }
+    ensures undone { OnErr result.1 (safe.new.vault ≡ record safe.old.vault { disk = safe.new.vault.disk }) }
+    ensures memory { result.1 ≡ Err NoMemory → safe.new ≡ safe.old }
+    ensures risen { IfErr result.1 HasRisen }
+    ensures safe { Leaves D.view safe.old safe.new result.1 }
+{
+    let file = safe.show(file);
+    safe.settle(alloc, file)
+}
+
+/// Settles a file that has seen the whole history of a copy, whose entries are made durable first. The book is free.
+pub fn settle_copied<J: Whose, D: Disk>(
+    alloc: Global,
+    safe: &mut Safe<J, D>,
+    file: FileDesk<J>,
+    copied: Copied,
+) -> (FileDesk<J>, Result<Option<Receipt>, SafeFault>)
+    requires copied { IsCopy J.book safe.old.vault copied file.seen }
+    ensures file { result.0 ≡ record file { syncs = result.0.syncs } }
+    ensures done { IfOk result.1 (λ r. HasSettled file safe.old.vault safe.new.vault r) }
+    ensures undone { OnErr result.1 (HasStopped file.seen safe.old.vault safe.new.vault) }
+    ensures memory { result.1 ≡ Err NoMemory → ((safe.new ≡ safe.old) ⊎ HasFlushed file.seen safe.old.vault safe.new.vault) × (result.0 ≡ file) }
+    ensures risen { IfErr result.1 HasRisen }
+    ensures safe { Leaves D.view safe.old safe.new result.1 }
+{
+    if let Err(fault) = flush_copied(alloc, safe, copied) {
+        return (file, Err(fault));
+    }
+    safe.settle(alloc, file)
+}

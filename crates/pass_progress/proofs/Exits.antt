@@ -34,7 +34,7 @@ parted : (m : ℕ × Entry) (made : Made) → (front : Made) × (s : ℕ × Entr
 parted m [] = ([], m, refl)
 parted m (n ∷ made) = let (front, s, whole) = parted n made in (m ∷ front, s, ap (λ ms. m ∷ ms) whole)
 
-last_ends : (p : Process) (front : Made) (s : ℕ × Entry) → ends_call p (front ++ s ∷ []) ≡ is_last p s.1
+pub last_ends : (p : Process) (front : Made) (s : ℕ × Entry) → ends_call p (front ++ s ∷ []) ≡ is_last p s.1
 last_ends p front s = ap (λ o. option_map_or (λ (s : ℕ × Entry). is_last p s.1) o false) (ap (λ n. slice_get (front ++ s ∷ []) n) (let z : length (front ++ s ∷ []) - 1 ≡ length front = omega (arith, length-append front (s ∷ [])) in z) ∙ slice_get-last front s)
 
 -- a step of an exit is a leave, or the end

@@ -1,4 +1,5 @@
 mod Answering
+mod Bearing
 mod Births
 mod Exits
 mod Positions

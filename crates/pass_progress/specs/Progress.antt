@@ -112,6 +112,15 @@ abbrev pub BirthLaw : Type 0
 BirthLaw = (session : Session) (who : ℕ) (r : Request) (old new : List Entry) → Goes session who r old new
     → BornAs who old new (λ what. (r ≡ requests.Fork) × (what ≡ pnode_at (call_entries new who (next_number old who)) 0))
 
+-- a fork that did not go through has borne none
+abbrev pub ChildlessLaw : Type 0
+ChildlessLaw = (session : Session) (places : ℕ) (old new : ProcView) (end : CallEnd) → IsBetween session old → IsBetween session new → MayGoOn old requests.Fork
+    → Answers session places old new requests.Fork (Err end) → BornAs old.who old.seen new.seen (λ what. ⊥)
+
+-- the process counts the calls that are done
+abbrev pub NumberLaw : Type 0
+NumberLaw = (session : Session) (old new : ProcView) (r : Request) → IsBetween session new → IsDone session old new r → new.number ≡ next_number old.seen old.who
+
 -- a child that has begun and has made no entry
 pub record IsNewborn (session : Session) (who : ℕ) (seen : List Entry) : Type 0 where
   pub legal : IsLegal session seen

@@ -1,5 +1,5 @@
 //! What holds of every call of a process for whoever runs a trace. Each function carries laws in its contract and does nothing.
-ghost use Rattle.pass_progress.specs.Progress.{BirthLaw, ExitLaw, LastReadLaw, LookedLaw, NewbornLaw, ProgressLaw, UnderWayLaw};
+ghost use Rattle.pass_progress.specs.Progress.{BirthLaw, ChildlessLaw, ExitLaw, LastReadLaw, LookedLaw, NewbornLaw, NumberLaw, ProgressLaw, UnderWayLaw};
 ghost use Rattle.pass_progress.specs.Syncs.{SyncLaw};
 
 /// What an answer makes of the history.
@@ -13,11 +13,13 @@ pub fn standing()
     ensures under_way { UnderWayLaw }
     ensures last_read { LastReadLaw }
     ensures looked { LookedLaw }
+    ensures number { NumberLaw }
 {}
 
 /// How a process bears children, begins and ends.
 pub fn lives()
     ensures birth { BirthLaw }
+    ensures childless { ChildlessLaw }
     ensures newborn { NewbornLaw }
     ensures exit { ExitLaw }
 {}

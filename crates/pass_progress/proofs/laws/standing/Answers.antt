@@ -1,3 +1,4 @@
+use Rattle.pass_progress.proofs.Bearing.{number_law}
 use Rattle.pass_progress.proofs.Rests.{last_read_law, looked_law, under_way_law}
 use Rattle.pass_progress.proofs.laws.standing.Goals as goal
 
@@ -9,3 +10,6 @@ returns-clause-last_read c = last_read_law
 
 pub returns-clause-looked : goal.returns-clause-looked
 returns-clause-looked c = looked_law
+
+pub returns-clause-number : goal.returns-clause-number
+returns-clause-number c = number_law

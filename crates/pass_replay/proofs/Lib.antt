@@ -12,8 +12,6 @@ pub mod Rooms
 pub mod SoFar
 pub mod Started
 pub mod Staying
-pub mod Lined
-pub mod Grown
 pub mod Closed
 pub mod Reserving
 pub mod Replaying

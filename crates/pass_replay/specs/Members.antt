@@ -1,21 +1,18 @@
 -- What each process of a run has seen and made by itself.
-use Rattle.std.specs.Prelude.{ℕ, ◌+◌, ◌-◌, ◌==◌, ◌≡◌, ◌≤◌, ◌<◌, ◌⊎◌, Bool, true, false, List, [], ◌++◌, Some, None, Contains, filter, map, take, length, slice_get}
+use Rattle.std.specs.Prelude.{ℕ, ◌+◌, ◌-◌, ◌≡◌, ◌≤◌, ◌<◌, Bool, true, false, List, Some, None, Contains, take, length, slice_get}
 use mathlib.Core.List.{IsPrefix}
 use Rattle.pass_entry.specs.declared.entry.Entry.{Entry}
 use Rattle.pass_entry.specs.declared.entry.Act.TheVariants as act
 use Rattle.pass_plain.specs.declared.request.Request.{Request}
 use Rattle.pass_plain.specs.Histories.{call_entries}
 use Rattle.pass_plain.specs.Sessions.{Session}
-use Rattle.pass_plain.specs.Processes.{Held, process_after, has_begun, has_ended}
+use Rattle.pass_plain.specs.Processes.{Held, has_begun, has_ended}
 use Rattle.pass_plain.specs.Replies.{reply_to}
-use Rattle.pass_plain.specs.Calls.{Made, Step, name_of, call_steps, pnode_at}
-use Rattle.pass_plain.specs.CallLaws.{IsBegun}
-use Rattle.pass_plain.specs.Legal.{IsLegal, before_call, is_over, last_number}
-use Rattle.pass_plain.specs.NextSteps.{AreOfCall}
+use Rattle.pass_plain.specs.Calls.{Step, call_steps, pnode_at}
+use Rattle.pass_plain.specs.Legal.{IsLegal, before_call, is_over}
 use Rattle.pass_plain.specs.Lawful.{AgreeBy}
-use Rattle.pass_plain.specs.Traces.{Line, LineCall, fork_as, name_of_call, request_of, lines_of, calls_of}
+use Rattle.pass_plain.specs.Traces.{Line, LineCall, fork_as, request_of, lines_of, calls_of}
 use Rattle.pass_plain.specs.Runs.{next_number}
-use Rattle.pass_replay.specs.Lines.{AreLinesBehind}
 use Rattle.pass_replay.specs.Making.{IsNextEntry}
 
 -- the function gives the pnode of each child that the first `done` lines of the process forked
@@ -34,15 +31,6 @@ pub record IsLineStep (trace : List Line) (process who : ℕ) (history : List En
   pub next : next_number history who ≡ e.number
   pub is : (call : LineCall) → slice_get (calls_of trace process) (e.number - 1) ≡ Some call → (pnode : ℕ → ℕ) → KnowsChildren trace history process who (e.number - 1) pnode
       → IsNextEntry who e.number (request_by pnode history who e.number call) (before_call history who e.number) (call_entries history who e.number) e
-
--- the calls that the process has made are its lines in order, then exit: their steps are those of the lines' requests, and only the last
--- call may lack steps
-pub record MakesLines (trace : List Line) (process who : ℕ) (seen : List Entry) : Type 0 where
-  pub last : last_number seen who ≤ length (calls_of trace process)
-  pub whole : (number : ℕ) → 1 ≤ number → number < last_number seen who → is_over seen who number ≡ true
-  pub lines : (done : ℕ) (call : LineCall) → slice_get (calls_of trace process) done ≡ Some call → (pnode : ℕ → ℕ) → KnowsChildren trace seen process who done pnode
-      → IsBegun who (before_call seen who (done + 1)) (call_entries seen who (done + 1)) (request_by pnode seen who (done + 1) call)
-  pub named : (done : ℕ) (call : LineCall) → slice_get (calls_of trace process) done ≡ Some call → AreOfCall (call_entries seen who (done + 1)) (name_of_call call)
 
 -- the process has begun, and each entry by it was, where it stands, the next step of its lines
 pub record MakesSteps (trace : List Line) (process who : ℕ) (seen : List Entry) : Type 0 where
@@ -106,29 +94,3 @@ pub record AreStill (session : Session) (trace : List Line) (members : List Memb
   pub alike : (m : Member) → Contains members m → m.ended ≡ false → length m.seen ≡ count
   pub waits : (m : Member) → Contains members m → m.ended ≡ false → Waits session trace m
   pub fewer : (m : Member) → Contains members m → m.ended ≡ true → length m.seen ≤ count
-
--- a process whose calls are its lines has made the steps of its lines
-abbrev pub StepsLaw : Type 0
-StepsLaw = (session : Session) (trace : List Line) (process who : ℕ) (seen : List Entry) → IsLegal session seen → has_begun seen who ≡ true
-    → MakesLines trace process who seen → MakesSteps trace process who seen
-
--- a call of the process: behind what it had seen its entries are those of this call, first steps of this request
-pub record MakesCall (who : ℕ) (old new : List Entry) (request : Request) (made : Made) : Type 0 where
-  pub begins : IsPrefix old new
-  pub own : filter (λ (e : Entry). e.who == who) new ≡ filter (λ (e : Entry). e.who == who) old ++ map (λ (m : ℕ × Entry). m.1) made
-  pub made_is : call_entries new who (last_number old who + 1) ≡ made
-  pub before_is : before_call new who (last_number old who + 1) ≡ process_after old who
-  pub steps : IsBegun who (process_after old who) made request
-  pub named : AreOfCall made (name_of request)
-
--- a process whose calls are its lines, the last one over, goes on with the call of its next line
-abbrev pub CallLaw : Type 0
-CallLaw = (session : Session) (trace : List Line) (process who : ℕ) (old new : List Entry) (call : LineCall) (pnode : ℕ → ℕ) (made : Made) → AreLinesBehind [] trace → IsLegal session new
-    → MakesLines trace process who old → (last_number old who ≡ 0) ⊎ (is_over old who (last_number old who) ≡ true)
-    → slice_get (calls_of trace process) (last_number old who) ≡ Some call → KnowsChildren trace old process who (last_number old who) pnode
-    → MakesCall who old new (request_of pnode (process_after old who).last_read call) made → MakesLines trace process who new
-
--- and had made its lines in what it had seen before
-abbrev pub FrontLaw : Type 0
-FrontLaw = (session : Session) (trace : List Line) (process who : ℕ) (old later : List Entry) → IsLegal session (old ++ later)
-    → MakesLines trace process who (old ++ later) → MakesLines trace process who old

@@ -1,14 +1,6 @@
 //! What holds of the history of a run. Each function carries laws in its contract and does nothing.
-ghost use Rattle.pass_replay.specs.Members.{CallLaw, FrontLaw, StepsLaw};
 ghost use Rattle.pass_replay.specs.Replays.{RunLaw, DoneLaw, StuckLaw, ForkLaw, PlacesLaw};
 ghost use Rattle.pass_replay.specs.Starts.{RoomLaw, BegunLaw};
-
-/// A process whose calls are its lines: how it goes on by one call, and that its steps are those of its lines.
-pub fn calls()
-    ensures call { CallLaw }
-    ensures front { FrontLaw }
-    ensures steps { StepsLaw }
-{}
 
 /// What each process has seen and made by itself makes the whole history a run of the trace; and it says how the run has ended.
 pub fn runs()

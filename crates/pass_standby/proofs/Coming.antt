@@ -3,7 +3,7 @@ use Rattle.std.proofs.Common.{◌≡◌, ◌⊎◌, ℕ, ◌+◌, ◌<◌, ◌�
 use Rattle.std.specs.Prelude.{not, nat_lt, if◌then◌else◌}
 use Rattle.std.specs.Int.{w32, from_be_bytes}
 use Rattle.std.proofs.lemmas.Bool.Decides.{nat_tests}
-use Rattle.std.proofs.lemmas.List.{take-append-le, drop-append-le}
+use Rattle.std.proofs.lemmas.List.{append-nil, take-append-le, drop-append-le}
 use Rattle.std.proofs.lemmas.List.Sums.{fold-append}
 use Rattle.pass_log.specs.Frames.{number}
 use Rattle.pass_standby.specs.declared.frame.Judgement.{Judgement}
@@ -165,6 +165,20 @@ gathered t x (y ∷ ys) fine begun within =
     let stop : next_stop (t.begun ++ x ∷ []) ≡ next_stop t.begun = same_stop t.at t.begun begun x below in
     let rest = gathered (record t { begun = t.begun ++ x ∷ [] }) y ys fine (begun_is t.at (t.begun ++ x ∷ []) still) (omega (arith, size, stop, within)) in
     ap (λ (u : Told). followed u (y ∷ ys)) one ∙ rest ∙ ap (λ (f : List ℕ). judged t f (judgement t.at f)) (append_assoc t.begun (x ∷ []) (y ∷ ys))
+
+-- below the next stop they only come
+pub below_stop : (t : Told) (xs : List ℕ) → t.bad ≡ false → IsBegun t.at t.begun → length t.begun + length xs < next_stop t.begun → followed t xs ≡ record t { begun = t.begun ++ xs }
+below_stop t [] fine begun within = ap (λ (l : List ℕ). record t { begun = l }) (sym (append-nil t.begun))
+below_stop t (x ∷ xs) fine begun within =
+    let below : length t.begun + 1 < next_stop t.begun = omega (arith, within) in
+    let still : judgement t.at (t.begun ++ x ∷ []) ≡ Begun = still_begun t.at t.begun begun x below in
+    let one : arrived t x ≡ record t { begun = t.begun ++ x ∷ [] } =
+    ap (λ (b : Bool). if b then t else judged t (t.begun ++ x ∷ []) (judgement t.at (t.begun ++ x ∷ []))) fine
+    ∙ ap (judged t (t.begun ++ x ∷ [])) still in
+    let size : length (t.begun ++ x ∷ []) ≡ length t.begun + 1 = length-append t.begun (x ∷ []) in
+    let stop : next_stop (t.begun ++ x ∷ []) ≡ next_stop t.begun = same_stop t.at t.begun begun x below in
+    let rest = below_stop (record t { begun = t.begun ++ x ∷ [] }) xs fine (begun_is t.at (t.begun ++ x ∷ []) still) (omega (arith, size, stop, within)) in
+    ap (λ (u : Told). followed u xs) one ∙ rest ∙ ap (λ (l : List ℕ). record t { begun = l }) (append_assoc t.begun (x ∷ []) xs)
 
 -- what is judged whole at its stop is all of a frame
 pub whole_is : (at : ℕ) (begun more : List ℕ) → IsBegun at begun → length begun + length more ≤ next_stop begun → judgement at (begun ++ more) ≡ Whole → IsWhole at (begun ++ more)

@@ -12,9 +12,9 @@ use Rattle.pass_standby.specs.declared.fault.StandbyFault.TheVariants as faults
 use Rattle.pass_standby.specs.declared.frame.Judgement.{Judgement}
 use Rattle.pass_standby.specs.declared.frame.Judgement.TheVariants.{Begun, Bad, Whole}
 use Rattle.pass_standby.specs.Streams.{head, judgement, batch_in, Told, spoiled, with_batch, judged, arrived, followed, next_stop, IsBegun, IsWhole, HasFrames, HasSomeFrames}
-use Rattle.pass_standby.specs.Standing.{told_so_far, IsFollowing, HasBegun, Spoils, Stops, Starves, Undone, Ends}
+use Rattle.pass_standby.specs.Standing.{told_so_far, IsFollowing, HasBegun, Spoils, LeavesEither, Stops, Starves, Undone, Ends}
 use Rattle.pass_log.specs.Log.{log_end, LeavesStore}
-use Rattle.pass_standby.proofs.Coming.{followed-append, gathered, whole_is}
+use Rattle.pass_standby.proofs.Coming.{followed-append, gathered, below_stop, whole_is}
 use Rattle.pass_standby.proofs.Keeping.{store_same, store_then, work_none, work_then, work_as}
 
 -- behind a bad frame nothing counts
@@ -68,16 +68,24 @@ module _ (t : Told) (front rest : List ℕ) where
       let all = followed-append t front rest in
       record { bad = ap (λ (u : Told). u.bad) all ∙ s.bad; list_is = s.list_is ∙ ap (λ (u : Told). u.list) (sym all); at_is = s.at_is ∙ ap (λ (u : Told). u.at) (sym all) }
 
-  pub stops_behind : (list : List Record) (at : ℕ) → Stops (followed t front) rest list at → Stops t (front ++ rest) list at
-  stops_behind list at s =
+  pub stops_behind : (m : Moment) (list : List Record) (at : ℕ) → Stops m (followed t front) rest list at → Stops m t (front ++ rest) list at
+  stops_behind m list at s =
       let all = behind s.count in
+      let next : followed t (take (length front + s.count + 1) (front ++ rest)) ≡ followed (followed t front) (take (s.count + 1) rest) =
+      ap (λ (n : ℕ). followed t (take n (front ++ rest))) (one_more s.count) ∙ behind (s.count + 1) in
       record {
         count = length front + s.count;
-        within = within_both s.count s.within;
-        good = ap (λ (u : Told). u.bad) all ∙ s.good;
+        within = omega (arith, length-append front rest, s.within);
+        good = ap (λ (u : Told). u.bad) next ∙ s.good;
+        whole = omega (arith, ap (λ (u : Told). u.at) all, ap (λ (u : Told). u.at) next, s.whole);
         list_is = s.list_is ∙ ap (λ (u : Told). u.list) (sym all);
         at_is = s.at_is ∙ ap (λ (u : Told). u.at) (sym all);
+        leaves = subst (λ (u : Told). LeavesEither m u (followed t (take (length front + s.count + 1) (front ++ rest)))) (sym all)
+            (subst (LeavesEither m (followed (followed t front) (take s.count rest))) (sym next) s.leaves);
       }
+    where
+      one_more : (n : ℕ) → length front + n + 1 ≡ length front + (n + 1)
+      one_more n = omega arith
 
   pub starves_behind : (list : List Record) (at : ℕ) → length t.list ≤ length (followed t front).list → Starves (followed t front) rest list at → Starves t (front ++ rest) list at
   starves_behind list at more s =
@@ -122,7 +130,7 @@ followed_grows t (x ∷ bytes) = omega (arith, arrived_grows t x, followed_grows
 -- what a fault has left behind bytes that were taken
 pub ends_behind : {D : Type 0} (view : D → Moment) (t : Told) (front rest : List ℕ) (new : Following D) (e : StandbyFault)
     → Ends view (followed t front) rest new e → Ends view t (front ++ rest) new e
-ends_behind view t front rest new faults.DiskFault h = stops_behind t front rest new.index (log_end new.log) h
+ends_behind view t front rest new faults.DiskFault h = stops_behind t front rest (view new.disk) new.index (log_end new.log) h
 ends_behind view t front rest new (faults.BadStream at) h = (h.0, spoils_behind t front rest new.index (log_end new.log) h.1, h.2)
 ends_behind view t front rest new faults.NoMemory h = starves_behind t front rest new.index (log_end new.log) (followed_grows t front) h
 ends_behind view t front rest new (faults.BadLog at) h = h
@@ -151,14 +159,29 @@ module _ {D : Type 0} (view : D → Moment) (t u : Told) (piece : List ℕ) (use
     at_is = at_is;
   }
 
-  pub stops_none : (list : List Record) (at : ℕ) → list ≡ t.list → at ≡ t.at → Stops t piece list at
-  stops_none list at list_is at_is = record { count = 0; within = omega arith; good = fine; list_is = list_is; at_is = at_is }
+  -- the byte at which the frame was whole
+  pub stops_here : (m : Moment) (list : List Record) (at : ℕ) → 0 < used → (begun : List ℕ) → followed t (take (used - 1) piece) ≡ record t { begun = begun } → list ≡ t.list → at ≡ t.at
+      → u.bad ≡ false → t.at < u.at → LeavesEither m t u → Stops m t piece list at
+  stops_here m list at some begun before list_is at_is good more leaves =
+      let all : followed t (take (used - 1 + 1) piece) ≡ u = ap (λ (n : ℕ). followed t (take n piece)) (last used some) ∙ is in
+      record {
+        count = used - 1;
+        within = omega (arith, some, within);
+        good = ap (λ (v : Told). v.bad) all ∙ good;
+        whole = omega (arith, ap (λ (v : Told). v.at) before, ap (λ (v : Told). v.at) all, more);
+        list_is = list_is ∙ ap (λ (v : Told). v.list) (sym before);
+        at_is = at_is ∙ ap (λ (v : Told). v.at) (sym before);
+        leaves = subst (λ (v : Told). LeavesEither m v (followed t (take (used - 1 + 1) piece))) (sym before) (subst (LeavesEither m t) (sym all) leaves);
+      }
+    where
+      last : (n : ℕ) → 0 < n → n - 1 + 1 ≡ n
+      last n some = omega (arith, some)
 
-  pub undone_ends : (new : Following D) (e : StandbyFault) → Undone view t u new e → Ends view t piece new e
-  undone_ends new faults.DiskFault h = stops_none new.index (log_end new.log) h.0 h.1
-  undone_ends new (faults.BadStream at) h = (h.0, spoils_piece new.index (log_end new.log) h.1 h.2 h.3, h.4)
-  undone_ends new faults.NoMemory (inl h) = starves_none new.index (log_end new.log) h.0 h.1
-  undone_ends new faults.NoMemory (inr h) = record {
+  pub undone_ends : (new : Following D) (e : StandbyFault) → 0 < used → (begun : List ℕ) → followed t (take (used - 1) piece) ≡ record t { begun = begun } → Undone view t u new e → Ends view t piece new e
+  undone_ends new faults.DiskFault some begun before h = stops_here (view new.disk) new.index (log_end new.log) some begun before h.0 h.1 h.2 h.3 h.4
+  undone_ends new (faults.BadStream at) some begun before h = (h.0, spoils_piece new.index (log_end new.log) h.1 h.2 h.3, h.4)
+  undone_ends new faults.NoMemory some begun before (inl h) = starves_none new.index (log_end new.log) h.0 h.1
+  undone_ends new faults.NoMemory some begun before (inr h) = record {
     count = used;
     within = within;
     good = ap (λ (v : Told). v.bad) is ∙ h.0;
@@ -167,8 +190,8 @@ module _ {D : Type 0} (view : D → Moment) (t u : Told) (piece : List ℕ) (use
     least = h.2;
     at_is = h.3 ∙ ap (λ (v : Told). v.at) (sym is);
   }
-  undone_ends new (faults.BadLog at) h = h
-  undone_ends new (faults.Closed at) h = h
+  undone_ends new (faults.BadLog at) some begun before h = h
+  undone_ends new (faults.Closed at) some begun before h = h
 
   pub some_of_both : (log : List ℕ) → HasFrames t log ⊎ HasFrames u log → HasSomeFrames t piece log
   some_of_both log (inl h) = (0, omega arith, h)
@@ -199,6 +222,13 @@ taken_so t begun piece used fine is count some bytes =
     let more : 0 < length (take used piece) = omega (arith, size, used_some t.begun piece t.at used is count some) in
     taken_is t (take used piece) fine is more (used_stop t.begun piece t.at used is count some)
     ∙ ap (λ (f : List ℕ). judged t f (judgement t.at f)) (sym bytes) ∙ sym (judged_same t begun begun (judgement t.at begun))
+
+-- before the last byte of what came, no stop was reached
+pub before_so : (t : Told) (piece : List ℕ) (used : ℕ) → t.bad ≡ false → IsBegun t.at t.begun → used ≡ min (next_stop t.begun - length t.begun) (length piece) → 0 < length piece
+    → followed t (take (used - 1) piece) ≡ record t { begun = t.begun ++ take (used - 1) piece }
+before_so t piece used fine is count some =
+    below_stop t (take (used - 1) piece) fine is
+    (omega (arith, length-take (used - 1) piece, count, is.short, used_some t.begun piece t.at used is count some, used_within t.begun piece t.at used is count some))
 
 pub whole_so : (at : ℕ) (begun frame piece : List ℕ) (used : ℕ) → IsBegun at begun → used ≡ min (next_stop begun - length begun) (length piece) → 0 < length piece
     → frame ≡ begun ++ take used piece → judgement at frame ≡ Whole → IsWhole at frame

@@ -1,5 +1,5 @@
 -- What a standby's calls do to its disk.
-use Rattle.std.proofs.Common.{◌≡◌, ◌⊎◌, ℕ, ◌+◌, ◌≤◌, Bool, true, false, List, [], ◌∷◌, ◌++◌, length, drop, IsTrue, Result, Ok, Err, inl, inr, ⊎_elim, refl, sym, ◌∙◌, ap, subst, arith, length-drop}
+use Rattle.std.proofs.Common.{◌≡◌, ◌⊎◌, ℕ, ◌+◌, ◌<◌, ◌≤◌, Bool, true, false, List, [], ◌∷◌, ◌++◌, length, drop, IsTrue, Result, Ok, Err, inl, inr, ⊎_elim, refl, sym, ◌∙◌, ap, subst, arith, length-drop}
 use Rattle.std.specs.Prelude.{OnOk, Option, Some, None, nat_le, ◌&&◌}
 use Rattle.std.specs.Option.{option_map_or}
 use Rattle.std.specs.Int.{w32, to_be_bytes}
@@ -14,7 +14,7 @@ use Rattle.pass_graph.proofs.Accepting.{fine-append}
 use Rattle.pass_log.specs.declared.fault.LogFault.{LogFault}
 use Rattle.pass_log.specs.declared.log.Log.{Log}
 use Rattle.pass_log.specs.Log.{SameStore, LeavesStore, IsFrameOf, IsSettled, log_end, log_opened}
-use Rattle.pass_log.specs.Records.{Held, records_in, spellings, image_of, IsOldOrBoth}
+use Rattle.pass_log.specs.Records.{records_in, spellings, image_of, IsOldOrBoth}
 use Rattle.pass_log.specs.Records as logs
 use Rattle.pass_outside.specs.Areas.{Image}
 use Rattle.pass_outside.specs.Moments.{Moment, Adds, AfterStep, IsDeviceWork}
@@ -26,7 +26,7 @@ use Rattle.pass_standby.specs.declared.following.Following.{Following}
 use Rattle.pass_standby.specs.declared.fault.StandbyFault.{StandbyFault}
 use Rattle.pass_standby.specs.declared.fault.StandbyFault.TheVariants as faults
 use Rattle.pass_standby.specs.Logs.{IsBatch}
-use Rattle.pass_standby.specs.Standing.{told_so_far, staged_of, Leaves, IsKept, IsFollowing, Undone}
+use Rattle.pass_standby.specs.Standing.{told_so_far, staged_of, Leaves, LeavesEither, IsKept, IsFollowing, Undone}
 
 -- nothing was done
 pub store_same : (m : Moment) → LeavesStore m m
@@ -166,6 +166,21 @@ module _ {D : Type 0} (view : D → Moment) (old : Following D) (kept : IsFollow
       either c (inl same) = inl (same ∙ kept.reads told)
       either c (inr more) = inr (subst (λ (u : Told). HasFrames u c.log) (sym after_is) (image_after c.log told more))
 
+  -- a device call failed on the way
+  pub stopped_with : (new : Moment) → new.tells ≡ (view old.disk).tells → ((c : Image) → (view old.disk).left_since (view old.disk).calls c → (view old.disk).may_leave c)
+      → ((c : Image) → new.may_leave c → (view old.disk).calls ≤ new.calls → new.left_since (view old.disk).calls c)
+      → ((batch : List Record) → IsFrameOf batch (staged_of old.begun.items) → IsTrue (view old.disk).tells → Adds (view old.disk) new (λ c. IsOldOrBoth batch (image_of (view old.disk).seen.log) (image_of c.log)))
+      → ((judged (told_so_far old) old.begun.items Whole).bad ≡ false) × (log_end old.log < (judged (told_so_far old) old.begun.items Whole).at)
+      × LeavesEither new (told_so_far old) (judged (told_so_far old) old.begun.items Whole)
+  stopped_with new same before since any = (
+    ap (λ (u : Told). u.bad) after_is,
+    omega (arith, ap (λ (u : Told). u.at) after_is, whole.size),
+    λ tells c may.
+        let told = subst IsTrue same tells in
+        let adds = moments_with new told any in
+        ⊎_elim (λ left. inl (kept.leaves told c (before c left))) (λ either. either) (adds.nothing_else (view old.disk).calls c (omega arith) (since c may adds.later)),
+  )
+
   module _ (disk : D) (log : Log) (end : log_end log ≡ log_end old.log + length old.begun.items) (index : List Record) where
     -- the index has all of it
     pub kept_with : index ≡ old.index ++ list → IsSettled log (view disk) → (view disk).faults ≡ log_opened log → (view disk).tells ≡ (view old.disk).tells
@@ -229,17 +244,17 @@ undone_bad {D} view old new at kept place none same_disk same_log same_index =
         (subst (λ (l : List Record). Leaves (view old.disk) l (log_end new.log)) (sym same_index)
         (subst (λ (l : Log). Leaves (view old.disk) old.index (log_end l)) (sym same_log) kept.leaves))
 
--- what no step of the disk or the index has changed
+-- a device call failed, or memory was refused, before the frame was kept
 pub undone_before : {D : Type 0} (view : D → Moment) (t u : Told) (new : Following D) (e : StandbyFault) → (e ≡ faults.DiskFault) ⊎ (e ≡ faults.NoMemory) → new.index ≡ t.list → log_end new.log ≡ t.at
-    → Undone view t u new e
-undone_before view t u new faults.DiskFault which list at = (list, at)
-undone_before view t u new faults.NoMemory which list at = inl (list, at)
-undone_before view t u new (faults.BadStream n) (inl h) list at = absurd (cc h)
-undone_before view t u new (faults.BadStream n) (inr h) list at = absurd (cc h)
-undone_before view t u new (faults.BadLog n) (inl h) list at = absurd (cc h)
-undone_before view t u new (faults.BadLog n) (inr h) list at = absurd (cc h)
-undone_before view t u new (faults.Closed n) (inl h) list at = absurd (cc h)
-undone_before view t u new (faults.Closed n) (inr h) list at = absurd (cc h)
+    → (e ≡ faults.DiskFault → (u.bad ≡ false) × (t.at < u.at) × LeavesEither (view new.disk) t u) → Undone view t u new e
+undone_before view t u new faults.DiskFault which list at whole = let (good, more, leaves) = whole refl in (list, at, good, more, leaves)
+undone_before view t u new faults.NoMemory which list at whole = inl (list, at)
+undone_before view t u new (faults.BadStream n) (inl h) list at whole = absurd (cc h)
+undone_before view t u new (faults.BadStream n) (inr h) list at whole = absurd (cc h)
+undone_before view t u new (faults.BadLog n) (inl h) list at whole = absurd (cc h)
+undone_before view t u new (faults.BadLog n) (inr h) list at whole = absurd (cc h)
+undone_before view t u new (faults.Closed n) (inl h) list at whole = absurd (cc h)
+undone_before view t u new (faults.Closed n) (inr h) list at whole = absurd (cc h)
 
 -- a frame that wasn't read
 abbrev pub IsNotRead : {D : Type 0} → Following D → ℕ → StandbyFault → Type 0
@@ -248,7 +263,7 @@ IsNotRead old at e = (e ≡ faults.NoMemory) ⊎ ((e ≡ faults.BadStream at) ×
 pub undone_unread : {D : Type 0} (view : D → Moment) (old new : Following D) (at : ℕ) (e : StandbyFault) → IsFollowing view old → at ≡ log_end old.log → IsNotRead old at e
     → new.disk ≡ old.disk → new.log ≡ old.log → new.index ≡ old.index → Undone view (told_so_far old) (judged (told_so_far old) old.begun.items Whole) new e
 undone_unread view old new at e kept place (inl h) same_disk same_log same_index =
-    undone_before view (told_so_far old) (judged (told_so_far old) old.begun.items Whole) new e (inr h) same_index (ap log_end same_log)
+    undone_before view (told_so_far old) (judged (told_so_far old) old.begun.items Whole) new e (inr h) same_index (ap log_end same_log) (λ disk. absurd (cc (h, disk)))
 undone_unread {D} view old new at e kept place (inr h) same_disk same_log same_index =
     subst (λ (x : StandbyFault). Undone view (told_so_far old) (judged (told_so_far old) old.begun.items Whole) new x) (sym h.0)
     (undone_bad view old new at kept place h.1 same_disk same_log same_index)

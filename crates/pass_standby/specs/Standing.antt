@@ -1,5 +1,5 @@
 -- A standby, and what its calls leave of the disk (this project's own rule).
-use Rattle.std.specs.Prelude.{ℕ, ◌≤◌, ◌≡◌, ◌^◌, false, true, List, [], ◌∷◌, ◌++◌, ◌⊎◌, length, take, drop, IsTrue, Ok}
+use Rattle.std.specs.Prelude.{ℕ, ◌+◌, ◌<◌, ◌≤◌, ◌≡◌, ◌^◌, false, true, List, [], ◌∷◌, ◌++◌, ◌⊎◌, length, take, drop, IsTrue, Ok}
 use Rattle.pass_entry.specs.declared.record.Record.{Record}
 use Rattle.pass_graph.specs.declared.logged.Logged.{Logged}
 use Rattle.pass_graph.specs.Logged.{Summarizes}
@@ -14,7 +14,7 @@ use Rattle.pass_standby.specs.declared.standby.Fate.{Fate}
 use Rattle.pass_standby.specs.declared.standby.Fate.TheVariants as fates
 use Rattle.pass_standby.specs.declared.fault.StandbyFault.{StandbyFault}
 use Rattle.pass_standby.specs.declared.fault.StandbyFault.TheVariants as faults
-use Rattle.pass_standby.specs.Streams.{Told, IsBegun, followed}
+use Rattle.pass_standby.specs.Streams.{Told, IsBegun, HasFrames, followed}
 
 -- A standby as contracts see it: its disk, the records that its index has, the place behind its last whole frame, the bytes of the
 -- frame that has begun there, and what has come of it.
@@ -39,15 +39,23 @@ pub record Spoils (t : Told) (bytes : List ℕ) (list : List Record) (at : ℕ) 
   pub list_is : list ≡ (followed t bytes).list
   pub at_is : at ≡ (followed t bytes).at
 
--- some beginning of these bytes was taken: its whole frames stand, of these records and up to there
-pub record Stops (t : Told) (bytes : List ℕ) (list : List Record) (at : ℕ) : Type 0 where
+-- A crash leaves the frames that had come then, or also one more that couldn't be kept.
+abbrev pub LeavesEither : Moment → Told → Told → Type 0
+LeavesEither m t u = IsTrue m.tells → (c : Image) → m.may_leave c → HasFrames t c.log ⊎ HasFrames u c.log
+
+-- A device call failed as the byte behind so many of these made a frame whole, which has no flaw. The whole frames in front of it
+-- stand, of these records and up to there; each crash leaves them, or also that one.
+pub record Stops (m : Moment) (t : Told) (bytes : List ℕ) (list : List Record) (at : ℕ) : Type 0 where
   pub count : ℕ
-  pub within : count ≤ length bytes
-  pub good : (followed t (take count bytes)).bad ≡ false
+  pub within : count < length bytes
+  pub good : (followed t (take (count + 1) bytes)).bad ≡ false
+  pub whole : (followed t (take count bytes)).at < (followed t (take (count + 1) bytes)).at
   pub list_is : list ≡ (followed t (take count bytes)).list
   pub at_is : at ≡ (followed t (take count bytes)).at
+  pub leaves : LeavesEither m (followed t (take count bytes)) (followed t (take (count + 1) bytes))
 
--- The same where memory was refused: the index has all records from before, and may lack some of the last frame's.
+-- Memory was refused behind some beginning of these bytes, whose whole frames stand: the index has all records from before, and may
+-- lack some of the last frame's.
 pub record Starves (t : Told) (bytes : List ℕ) (list : List Record) (at : ℕ) : Type 0 where
   pub count : ℕ
   pub within : count ≤ length bytes
@@ -84,7 +92,7 @@ staged_of frame = drop 1 frame ++ 0 ∷ []
 
 -- What a fault has left while one frame was kept, where t was told before and u is with it.
 abbrev pub Undone : {D : Type 0} → (D → Moment) → Told → Told → Following D → StandbyFault → Type 0
-Undone view t u new faults.DiskFault = (new.index ≡ t.list) × (log_end new.log ≡ t.at)
+Undone view t u new faults.DiskFault = (new.index ≡ t.list) × (log_end new.log ≡ t.at) × (u.bad ≡ false) × (t.at < u.at) × LeavesEither (view new.disk) t u
 Undone view t u new (faults.BadStream at) = (at ≡ log_end new.log) × (u.bad ≡ true) × (new.index ≡ u.list) × (log_end new.log ≡ u.at) × Leaves (view new.disk) new.index (log_end new.log)
 Undone view t u new faults.NoMemory = ((new.index ≡ t.list) × (log_end new.log ≡ t.at))
     ⊎ ((u.bad ≡ false) × ((lacks : List Record) × (new.index ++ lacks ≡ u.list)) × (length t.list ≤ length new.index) × (log_end new.log ≡ u.at))
@@ -93,7 +101,7 @@ Undone view t u new (faults.Closed at) = ⊥
 
 -- what a fault that ended a feed has left
 abbrev pub Ends : {D : Type 0} → (D → Moment) → Told → List ℕ → Following D → StandbyFault → Type 0
-Ends view t bytes new faults.DiskFault = Stops t bytes new.index (log_end new.log)
+Ends view t bytes new faults.DiskFault = Stops (view new.disk) t bytes new.index (log_end new.log)
 Ends view t bytes new (faults.BadStream at) = (at ≡ log_end new.log) × Spoils t bytes new.index (log_end new.log) × Leaves (view new.disk) new.index (log_end new.log)
 Ends view t bytes new faults.NoMemory = Starves t bytes new.index (log_end new.log)
 Ends view t bytes new (faults.BadLog at) = ⊥
@@ -110,7 +118,7 @@ pub record IsStanding {D : Type 0} (view : D → Moment) (f : Following D) (fate
 
 -- what a fault of a feed has left of a standby
 abbrev pub HasEnded : {D : Type 0} → (D → Moment) → Standing D → List ℕ → Standing D → StandbyFault → Type 0
-HasEnded view old bytes new faults.DiskFault = (new.fate ≡ fates.Failed) × Stops (told_of old) bytes new.list new.at
+HasEnded view old bytes new faults.DiskFault = (new.fate ≡ fates.Failed) × Stops (view new.disk) (told_of old) bytes new.list new.at
 HasEnded view old bytes new (faults.BadStream at) = (new.fate ≡ fates.Bad) × (at ≡ new.at) × Spoils (told_of old) bytes new.list new.at × Leaves (view new.disk) new.list new.at
 HasEnded view old bytes new faults.NoMemory = (new.fate ≡ fates.Starved) × Starves (told_of old) bytes new.list new.at
 HasEnded view old bytes new (faults.BadLog at) = ⊥

@@ -115,6 +115,8 @@ impl<D: Disk> Following<D> {
         ensures work { IsDeviceWork (D.view self.old.disk) (D.view self.new.disk) (IsErrOf result StandbyFault.DiskFault) }
     {
         let at = self.log.end();
+        // The count marks the moment.
+        let _calls = self.disk.calls();
         let batch = match read_whole(self.alloc, &mut self.judge, &self.begun, at) {
             Ok(batch) => batch,
             Err(fault) => return Err(fault),

@@ -7,7 +7,7 @@ use Rattle.pass_standby.specs.declared.frame.Judgement.TheVariants.{Whole}
 use Rattle.pass_standby.specs.Logs.{IsBatch}
 use Rattle.pass_standby.specs.Streams.{head, batch_in, judged}
 use Rattle.pass_standby.specs.Standing.{told_so_far, IsKept}
-use Rattle.pass_standby.proofs.Keeping.{IsNotRead, store_same, work_none, work_as, moments_with, kept_with, told_with, undone_with, undone_before, undone_unread, unread_no_fault}
+use Rattle.pass_standby.proofs.Keeping.{IsNotRead, store_same, work_none, work_as, moments_with, stopped_with, kept_with, told_with, undone_with, undone_before, undone_unread, unread_no_fault}
 use Rattle.pass_standby.proofs.following.Following.keep.Goals as goal
 
 pub returns-in-Err-clause-err : goal.returns-in-Err-clause-err
@@ -33,8 +33,12 @@ returns-in-Err-clause-work g c =
 pub returns-in-Err-append-clause-err : goal.returns-in-Err-append-clause-err
 returns-in-Err-append-clause-err g c =
     let old = c.args.self.now in
+    let b : IsBatch old.index (drop head old.begun.items) [] c.in-Ok.batch.items c.read_whole.new.judge =
+    subst (λ (l : List ℕ). IsBatch old.index (drop head l) [] c.in-Ok.batch.items c.read_whole.new.judge) c.deref.ensures.value (c.in-Ok.ensures.batch old.index c.requires.following.says) in
     undone_before g.D.Disk.view (told_so_far old) (judged (told_so_far old) old.begun.items Whole) c.append.new.self c.in-Err-append.fault c.in-Err-append.ensures.fault
     c.append.ensures.index c.in-Err-append.ensures.same_end
+    (λ disk. stopped_with g.D.Disk.view old c.requires.following c.requires.whole c.requires.spelled c.in-Ok.batch.items c.read_whole.new.judge b (g.D.Disk.view c.append.new.self.disk)
+    c.append.ensures.work.tells c.calls-calls.ensures.now (λ i may later. g.met.D.Disk.counts_now c.append.new.self.disk (g.D.Disk.view old.disk).calls i later may) c.append.ensures.any_moment)
 
 pub returns-in-Err-append-clause-any_moment : goal.returns-in-Err-append-clause-any_moment
 returns-in-Err-append-clause-any_moment g c = λ told.

@@ -4,7 +4,7 @@ use Rattle.pass_log.specs.Log.{log_end}
 use Rattle.pass_standby.specs.declared.fault.StandbyFault.TheVariants as faults
 use Rattle.pass_standby.specs.Streams.{HasSomeFrames}
 use Rattle.pass_standby.specs.Standing.{told_so_far}
-use Rattle.pass_standby.proofs.Feeding.{taken_so, whole_so, some_so, used_within, used_some, undone_ends, starves_none, some_of_both}
+use Rattle.pass_standby.proofs.Feeding.{taken_so, before_so, whole_so, some_so, used_within, used_some, undone_ends, starves_none, some_of_both}
 use Rattle.pass_standby.proofs.Keeping.{store_same, work_none, work_as, work_err}
 use Rattle.pass_standby.proofs.following.Following.take.Goals as goal
 
@@ -38,7 +38,9 @@ returns-in-Err-clause-err g c =
     let piece = c.args.piece.now in
     let within = used_within f.begun.items piece (log_end f.log) c.in-Ok.used c.requires.begun c.in-Ok.ensures.count c.requires.some in
     let is = taken_so t begun piece c.in-Ok.used refl c.requires.begun c.in-Ok.ensures.count c.requires.some c.in-Ok.ensures.bytes in
-    undone_ends g.D.Disk.view t _ piece c.in-Ok.used refl within is c.settle.new.self c.in-Err.fault c.in-Err.ensures.err
+    let some = used_some f.begun.items piece (log_end f.log) c.in-Ok.used c.requires.begun c.in-Ok.ensures.count c.requires.some in
+    let before = before_so t piece c.in-Ok.used refl c.requires.begun c.in-Ok.ensures.count c.requires.some in
+    undone_ends g.D.Disk.view t _ piece c.in-Ok.used refl within is c.settle.new.self c.in-Err.fault some _ before c.in-Err.ensures.err
 
 pub returns-in-Err-clause-any_moment : goal.returns-in-Err-clause-any_moment
 returns-in-Err-clause-any_moment g c = λ told.

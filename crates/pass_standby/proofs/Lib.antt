@@ -8,3 +8,5 @@ pub mod Walking
 pub mod Unopened
 pub mod Begins
 pub mod Standings
+pub mod Places
+pub mod Withheld

@@ -65,6 +65,14 @@ pub record IsFound (bytes : List ℕ) (found : Found) : Type 0 where
 abbrev pub IsFoundOn : Moment → Found → Type 0
 IsFoundOn m found = (bytes : List ℕ) × (IsTrue m.tells → bytes ≡ m.seen.log) × IsFound bytes found
 
+-- The cause of a fault of reading the log area: it is longer than it may be. Of a disk that tells nothing some bytes are so.
+abbrev pub IsLeftUnread : Moment → StandbyFault → Type 0
+IsLeftUnread m faults.DiskFault = Unit {0}
+IsLeftUnread m (faults.BadLog at) = (bytes : List ℕ) × (IsTrue m.tells → bytes ≡ m.seen.log) × (longest < length bytes) × (at ≡ longest)
+IsLeftUnread m faults.NoMemory = Unit {0}
+IsLeftUnread m (faults.BadStream at) = ⊥
+IsLeftUnread m (faults.Closed at) = ⊥
+
 -- the cause of a fault of opening
 abbrev pub IsUnopened : Moment → StandbyFault → Type 0
 IsUnopened m faults.DiskFault = Unit {0}

@@ -10,7 +10,9 @@ mod following;
 mod frame;
 pub mod laws;
 mod opening;
+mod sending;
 mod standby;
 
 pub use fault::StandbyFault;
+pub use sending::{SendFault, send};
 pub use standby::{Fate, Standby};

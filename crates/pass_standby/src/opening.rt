@@ -7,7 +7,7 @@ ghost use Rattle.pass_log.specs.Records.{image_of};
 ghost use Rattle.pass_outside.specs.Areas.{Image};
 ghost use Rattle.pass_outside.specs.Moments.{IsAtEnd, Adds, IsDeviceWork};
 ghost use Rattle.pass_plain.specs.WellLogged.{IsWellLogged};
-ghost use Rattle.pass_standby.specs.Logs.{HasBadFrame, IsBroken, IsFound, IsFoundOn, IsGoodLog, IsUnopened};
+ghost use Rattle.pass_standby.specs.Logs.{HasBadFrame, IsBroken, IsFound, IsFoundOn, IsGoodLog, IsLeftUnread, IsUnopened};
 ghost use Rattle.pass_standby.specs.Standing.{IsKept};
 ghost use Rattle.pass_standby.specs.Streams.{is_open};
 
@@ -66,8 +66,8 @@ fn read_area<D: Disk>(alloc: Global, disk: &mut D, size: usize) -> Result<Vec<u8
     Ok(bytes)
 }
 
-// The frame behind an open gate at the front, and what follows it, which isn't empty.
-fn frame_at(bytes: &[u8]) -> Option<(&[u8], &[u8])>
+/// The frame behind an open gate at the front, and what follows it, which isn't empty.
+pub(crate) fn frame_at(bytes: &[u8]) -> Option<(&[u8], &[u8])>
     requires some { 0 < length bytes.now }
     requires gate { is_open bytes.now ≡ true }
     ensures fits { IfSome result (λ f. length f.0.now < 2 ^ 32) }
@@ -131,8 +131,8 @@ fn fault_at(fault: BatchFault, at: u64) -> StandbyFault
     }
 }
 
-// What the bytes of a log hold; at most one byte is an empty log.
-fn found_in(alloc: Global, bytes: &[u8]) -> Result<Found, StandbyFault>
+/// What the bytes of a log hold; at most one byte is an empty log.
+pub(crate) fn found_in(alloc: Global, bytes: &[u8]) -> Result<Found, StandbyFault>
     requires { length bytes.now ≤ 2 ^ 39 }
     ensures found { IfOk result (IsFound bytes.now) }
     ensures fault { IfErr result (λ e. (e ≡ StandbyFault.NoMemory) ⊎ ((at : ℕ) × (e ≡ StandbyFault.BadLog at) × (1 < length bytes.now) × HasBadFrame bytes.now at)) }
@@ -150,10 +150,11 @@ fn found_in(alloc: Global, bytes: &[u8]) -> Result<Found, StandbyFault>
     walk(alloc, bytes)
 }
 
-/// What the log area holds.
-pub(crate) fn read_log<D: Disk>(alloc: Global, disk: &mut D) -> Result<Found, StandbyFault>
-    ensures found { IfOk result (λ f. IsFoundOn (D.view disk.old) f) }
-    ensures fault { IfErr result (IsUnopened (D.view disk.old)) }
+/// The bytes of the log area.
+pub(crate) fn read_bytes<D: Disk>(alloc: Global, disk: &mut D) -> Result<Vec<u8>, StandbyFault>
+    ensures bytes { IfOk result (λ v. IsTrue (D.view disk.old).tells → v.items ≡ (D.view disk.old).seen.log) }
+    ensures length { IfOk result (λ v. length v.items ≤ 2 ^ 39) }
+    ensures fault { IfErr result (IsLeftUnread (D.view disk.old)) }
     ensures work { IsDeviceWork (D.view disk.old) (D.view disk.new) (IsErrOf result StandbyFault.DiskFault) }
     ensures content { (D.view disk.new).seen ≡ (D.view disk.old).seen }
     ensures crash { (c : Image) → (D.view disk.new).may_leave c → (D.view disk.old).may_leave c }
@@ -163,7 +164,22 @@ pub(crate) fn read_log<D: Disk>(alloc: Global, disk: &mut D) -> Result<Found, St
     if size > LONGEST {
         return Err(StandbyFault::BadLog { at: LONGEST });
     }
-    let bytes = read_area(alloc, disk, size as usize)?;
+    read_area(alloc, disk, size as usize)
+}
+
+// What the log area holds.
+fn read_log<D: Disk>(alloc: Global, disk: &mut D) -> Result<Found, StandbyFault>
+    ensures found { IfOk result (λ f. IsFoundOn (D.view disk.old) f) }
+    ensures fault { IfErr result (IsUnopened (D.view disk.old)) }
+    ensures work { IsDeviceWork (D.view disk.old) (D.view disk.new) (IsErrOf result StandbyFault.DiskFault) }
+    ensures content { (D.view disk.new).seen ≡ (D.view disk.old).seen }
+    ensures crash { (c : Image) → (D.view disk.new).may_leave c → (D.view disk.old).may_leave c }
+    ensures run { Adds (D.view disk.old) (D.view disk.new) (D.view disk.old).may_leave }
+{
+    let bytes = match read_bytes(alloc, disk) {
+        Ok(bytes) => bytes,
+        Err(fault) => return Err(fault),
+    };
     found_in(alloc, &bytes)
 }
 

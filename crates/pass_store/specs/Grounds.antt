@@ -1,0 +1,20 @@
+-- What the vault of a store was opened with.
+use Rattle.std.specs.Prelude.{ℕ, List, []}
+use Rattle.pass_entry.specs.declared.record.Record.{Record}
+use Rattle.pass_vault.specs.Vaulted.{Vaulted}
+
+-- The records that the log had and the bytes of the store area then, the session's ceiling, the count of device calls since which nothing
+-- else was there, the count as the vault was opened, and the disk's count of faults then.
+pub record Ground : Type 0 where
+  pub before : List Record
+  pub store : List ℕ
+  pub ceiling : ℕ
+  pub since : ℕ
+  pub ready : ℕ
+  pub opened : ℕ
+
+abbrev pub ground_of : {D : Type 0} → Vaulted D → Ground
+ground_of v = record { before = v.before; store = v.store; ceiling = v.ceiling; since = v.since; ready = v.ready; opened = v.opened }
+
+abbrev pub no_ground : Ground
+no_ground = record { before = []; store = []; ceiling = 0; since = 0; ready = 0; opened = 0 }

@@ -1,0 +1,16 @@
+//! What a store was opened with.
+use pass_hold::Whose;
+use std::marker::Brand;
+
+/// Which opening a store is of: its book, and what its vault was opened with. It is picked once, where the store is opened.
+pub trait Opening: Whose {
+    ghost use Rattle.pass_store.specs.Grounds.{Ground};
+
+    ghost ground: { Ground };
+}
+
+impl Opening for Brand {
+    ghost use Rattle.pass_store.specs.Grounds.{no_ground};
+
+    ghost ground = { no_ground };
+}

@@ -1,0 +1,23 @@
+//! A store under its locks: threads call it side by side, and all that they do stands in one legal history.
+#![tactic(auto)]
+
+mod asking;
+mod blank;
+mod cellar;
+mod disclosing;
+mod flows;
+mod ground;
+mod locks;
+mod meeting;
+mod naming;
+mod running;
+mod slot;
+mod store;
+mod transfers;
+
+pub use blank::Blank;
+pub use cellar::Cellar;
+pub use ground::Opening;
+pub use locks::Locks;
+pub use slot::{Slot, Sought};
+pub use store::Store;

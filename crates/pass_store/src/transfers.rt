@@ -1,0 +1,154 @@
+//! The calls on what a process holds open.
+ghost use Rattle.std.specs.Prelude.{◌≡◌, ◌<◌, ◌≤◌, IsErrOf};
+ghost use Rattle.pass_entry.specs.Limits.{transfer_limit};
+ghost use Rattle.pass_plain.specs.declared.request.Request.TheVariants as requests;
+ghost use Rattle.pass_calls.specs.Answers.{Answers};
+ghost use Rattle.pass_calls.specs.declared.answer.CallEnd.TheVariants as ends;
+
+use crate::asking::{asked, held_pipe, see_way};
+use crate::ground::Opening;
+use crate::slot::Slot;
+use crate::store::Store;
+use pass_calls::{CallEnd, Moved};
+use pass_entry::{Ask, Bytes, CallName};
+use pass_outside::{Disk, Gate};
+use pass_proc::Proc;
+use std::alloc::Global;
+use std::sync::Wait;
+
+impl<'g, J: Opening, D: Disk, G: Gate> Store<'g, J, D, G> {
+    /// Gives up a descriptor. It takes no memory.
+    pub fn close_fd<R: Wait>(
+        &self,
+        rt: &R,
+        alloc: Global,
+        proc: &mut Proc<J>,
+        fd: u8,
+    ) -> Result<Moved, CallEnd>
+        requires fd { fd < 64 }
+        ensures call { Answers J.book.session J.places proc.old proc.new (requests.CloseFd fd) result }
+        ensures memory { ¬ IsErrOf result ends.NoMemory }
+    {
+        match held_pipe(proc, fd) {
+            Some(d) => {
+                let mut slot = self.locks.object(rt, alloc, &d);
+                self.gate.inside(d.pnode);
+                let mut shelf = self.locks.book.lock(rt);
+                match &mut *slot {
+                    Slot::Pipe(pipe) => pass_calls::close_pipe(alloc, &mut shelf, proc, pipe, fd),
+                    _ => unreachable!(),
+                }
+            }
+            None => {
+                let mut shelf = self.locks.book.lock(rt);
+                pass_calls::close(alloc, &mut shelf, proc, fd)
+            }
+        }
+    }
+
+    /// Sets the offset of a descriptor of a file. It takes no memory.
+    pub fn seek<R: Wait>(
+        &self,
+        rt: &R,
+        alloc: Global,
+        proc: &mut Proc<J>,
+        fd: u8,
+        at: u64,
+    ) -> Result<Moved, CallEnd>
+        requires fd { fd < 64 }
+        ensures call { Answers J.book.session J.places proc.old proc.new (requests.Seek fd at) result }
+        ensures memory { ¬ IsErrOf result ends.NoMemory }
+    {
+        let mut shelf = self.locks.book.lock(rt);
+        pass_calls::seek(alloc, &mut shelf, proc, fd, at)
+    }
+
+    /// Reads at most so many bytes, which are then the process's last read ones.
+    pub fn pass_read<R: Wait>(
+        &self,
+        rt: &R,
+        alloc: Global,
+        proc: &mut Proc<J>,
+        fd: u8,
+        len: u32,
+    ) -> Result<Moved, CallEnd>
+        requires fd { fd < 64 }
+        requires len { (1 ≤ len) × (len ≤ transfer_limit) }
+        ensures call { Answers J.book.session J.places proc.old proc.new (requests.Read fd len) result }
+    {
+        let ask = Ask::ToRead { fd };
+        let d = match asked(proc, fd, &ask) {
+            Ok(d) => d,
+            Err(fault) => {
+                return Err(self.refuse(rt, alloc, proc, CallName::Read, ask, fault));
+            }
+        };
+        let mut slot = self.locks.object(rt, alloc, &d);
+        self.gate.inside(d.pnode);
+        let mut shelf = self.locks.book.lock(rt);
+        match &mut *slot {
+            Slot::File(file) => pass_calls::read_file(alloc, file, &mut shelf, proc, fd, len),
+            Slot::Pipe(pipe) => pass_calls::read_pipe(alloc, pipe, &mut shelf, proc, fd, len),
+            _ => unreachable!(),
+        }
+    }
+
+    /// Writes all these bytes.
+    pub fn pass_write<R: Wait>(
+        &self,
+        rt: &R,
+        alloc: Global,
+        proc: &mut Proc<J>,
+        fd: u8,
+        bytes: &Bytes,
+    ) -> Result<Moved, CallEnd>
+        requires fd { fd < 64 }
+        ensures call { Answers J.book.session J.places proc.old proc.new (requests.Write fd bytes.now) result }
+    {
+        see_way(proc, fd, bytes);
+        let len = bytes.as_bytes().len() as u32;
+        let ask = Ask::ToWrite { fd, len };
+        let d = match asked(proc, fd, &ask) {
+            Ok(d) => d,
+            Err(fault) => {
+                return Err(self.refuse(rt, alloc, proc, CallName::Write, ask, fault));
+            }
+        };
+        let mut slot = self.locks.object(rt, alloc, &d);
+        self.gate.inside(d.pnode);
+        let mut shelf = self.locks.book.lock(rt);
+        match &mut *slot {
+            Slot::File(file) => pass_calls::write_file(alloc, file, &mut shelf, proc, fd, bytes),
+            Slot::Pipe(pipe) => pass_calls::write_pipe(alloc, pipe, &mut shelf, proc, fd, bytes),
+            _ => unreachable!(),
+        }
+    }
+
+    /// Sets the size of a file.
+    pub fn truncate<R: Wait>(
+        &self,
+        rt: &R,
+        alloc: Global,
+        proc: &mut Proc<J>,
+        fd: u8,
+        size: u64,
+    ) -> Result<Moved, CallEnd>
+        requires fd { fd < 64 }
+        ensures call { Answers J.book.session J.places proc.old proc.new (requests.Truncate fd size) result }
+    {
+        let ask = Ask::ToCut { fd, size };
+        let d = match asked(proc, fd, &ask) {
+            Ok(d) => d,
+            Err(fault) => {
+                return Err(self.refuse(rt, alloc, proc, CallName::Truncate, ask, fault));
+            }
+        };
+        let mut slot = self.locks.object(rt, alloc, &d);
+        self.gate.inside(d.pnode);
+        let mut shelf = self.locks.book.lock(rt);
+        match &mut *slot {
+            Slot::File(file) => pass_calls::truncate(alloc, file, &mut shelf, proc, fd, size),
+            _ => unreachable!(),
+        }
+    }
+}

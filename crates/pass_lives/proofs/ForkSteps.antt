@@ -19,7 +19,7 @@ use Rattle.pass_plain.specs.Sessions.{Session}
 use Rattle.pass_plain.specs.Versions.{nodes_of, source_in}
 use Rattle.pass_plain.proofs.Counts.{few_pipes}
 use Rattle.pass_hold.specs.Callers.{CallerState, moved_on}
-use Rattle.pass_hold.specs.Callings.{IsCallMade, IsEntered, IsGoing, HasGone}
+use Rattle.pass_hold.specs.Callings.{IsCallMade, IsEntered, IsGoing, HasGone, made_by}
 use Rattle.pass_hold.proofs.Callings.{entry_of, more, call_made, idle_again, held_going}
 use Rattle.pass_pipe.specs.Desks.{join_entry}
 use Rattle.pass_proc.specs.Births.{birth_entry}
@@ -229,12 +229,13 @@ module _ (session : Session) (number : ℕ) (p : ProcessView) (c : CallerState) 
         few = few;
       }
 
-      pub child_is : (child : ProcView) → child.who ≡ k.child → child.number ≡ 0 → child.way ≡ None → child.seen ≡ e.seen → child.state ≡ record new_process { descriptors = k.descriptors }
+      pub child_is : (child : ProcView) → child.who ≡ k.child → child.number ≡ 0 → made_by child.who child.seen ≡ [] → child.way ≡ None → child.seen ≡ e.seen → child.state ≡ record new_process { descriptors = k.descriptors }
           → IsChild (proc_with p number e None) child
-      child_is child its no_call no_way sees holds = record {
+      child_is child its no_call no_entry no_way sees holds = record {
         named = ap (λ (es : Made). pnode_at es 0) gone.is.made_is ∙ is.child ∙ sym its;
         seen = sees;
         number = no_call;
+        none = no_entry;
         way = no_way;
         state = holds ∙ ap (λ (ds : Held). record new_process { descriptors = ds }) (sym is.holds);
       }

@@ -1,5 +1,5 @@
 -- A fork under way, and what comes of it.
-use Rattle.std.specs.Prelude.{◌≡◌, ℕ, ◌<◌, ◌≤◌, ◌^◌, false, List, ◌∷◌, ◌++◌, Option, Some, None, length, slice_get}
+use Rattle.std.specs.Prelude.{◌≡◌, ℕ, ◌<◌, ◌≤◌, ◌^◌, false, List, [], ◌∷◌, ◌++◌, Option, Some, None, length, slice_get}
 use Rattle.pass_entry.specs.declared.entry.Entry.{Entry}
 use Rattle.pass_entry.specs.declared.objects.Descriptor.{Descriptor}
 use Rattle.pass_entry.specs.declared.objects.Node.{Node}
@@ -11,7 +11,7 @@ use Rattle.pass_plain.specs.Processes.{Held, new_process, process_after}
 use Rattle.pass_plain.specs.Sessions.{Session}
 use Rattle.pass_plain.specs.Versions.{nodes_of}
 use Rattle.pass_hold.specs.Callers.{CallerState}
-use Rattle.pass_hold.specs.Callings.{HasGone}
+use Rattle.pass_hold.specs.Callings.{HasGone, made_by}
 use Rattle.pass_proc.specs.Procs.{IsCallerOf, ProcView}
 use Rattle.pass_proc.specs.UnderWay.{IsWay}
 use Rattle.pass_proc.specs.Views.{ProcessView}
@@ -53,11 +53,12 @@ pub record IsForking (session : Session) (number : ℕ) (p : ProcessView) (c : C
   pub own : c.own ≡ 65
   pub few : length c.seen ≤ 2 ^ 32
 
--- the child of its parent's last call, just begun: the call's first entry gave its number; it has seen what its parent has, has made no call, and
--- holds what its parent holds
+-- the child of its parent's last call, just begun: the call's first entry gave its number; it has seen what its parent has, has made no call and
+-- no entry, and holds what its parent holds
 pub record IsChild (parent child : ProcView) : Type 0 where
   pub named : pnode_at (call_entries parent.seen parent.who parent.number) 0 ≡ child.who
   pub seen : child.seen ≡ parent.seen
   pub number : child.number ≡ 0
+  pub none : made_by child.who child.seen ≡ []
   pub way : child.way ≡ None
   pub state : child.state ≡ record new_process { descriptors = parent.state.descriptors }

@@ -7,7 +7,7 @@ ghost use Rattle.pass_plain.specs.declared.request.Request.TheVariants as reques
 ghost use Rattle.pass_plain.specs.Registries.{next_pnode, registry_after};
 ghost use Rattle.pass_plain.specs.Sessions.{is_opened};
 ghost use Rattle.pass_book.specs.Openings.{new_desk};
-ghost use Rattle.pass_hold.specs.Callings.{IsIdle};
+ghost use Rattle.pass_hold.specs.Callings.{IsIdle, made_by};
 ghost use Rattle.pass_hold.specs.Places.{HasRoom};
 ghost use Rattle.pass_proc.specs.CallEnds.{HasReplied};
 ghost use Rattle.pass_proc.specs.Procs.{IsCallerOf, ProcView, proc_with};
@@ -218,6 +218,14 @@ pub fn join<J: Whose>(
     forking.pass(process);
 }
 
+/// A process that has made no call has made no entry.
+fn untouched<J: Whose>(child: &Proc<J>)
+    requires { child.now.number ≡ 0 }
+    ensures { made_by child.now.who child.now.seen ≡ [] }
+{
+    let _ = &child.number;
+}
+
 /// Ends a fork once the child has joined all pipes: the child begins, by the blank desk of its number. What lies in the child's slot from then on
 /// comes with it.
 pub fn end_fork<J: Whose>(
@@ -248,5 +256,7 @@ pub fn end_fork<J: Whose>(
     } = forking;
     let who = process.pnode();
     let _ = caller.held();
-    Proc::born(alloc, shelf, caller, room, desk, who, number, out, &source)
+    let pair = Proc::born(alloc, shelf, caller, room, desk, who, number, out, &source);
+    untouched(&pair.0);
+    pair
 }

@@ -1,0 +1,7 @@
+mod Raised
+mod Parted
+mod Sought
+mod Laying
+mod Bared
+mod Judging
+mod Told

@@ -1,0 +1,5 @@
+pub mod Judgements
+pub mod Openings
+pub mod Layouts
+pub mod Sessions
+pub mod Lawful

@@ -22,17 +22,18 @@ use Rattle.pass_range.specs.Tables.{AreUnmatched}
 use Rattle.pass_recover.specs.declared.fault.OpenFault.{OpenFault}
 use Rattle.pass_recover.specs.declared.fault.OpenFault.TheVariants.{DiskFault, BadFrame, BadRecord, Flaw, NoMemory}
 use Rattle.pass_recover.specs.Faults.{LogHas, IsCauseOf}
+use Rattle.pass_standby.specs.Sending.{HoldsLogged, IsPlace, IsSent}
 use Rattle.pass_run.specs.declared.status.Status.{Status}
 use Rattle.pass_run.specs.declared.status.Status.TheVariants as status
 use Rattle.pass_run.specs.Statuses.{status_of_opening}
 use Rattle.pass_run.specs.Stores.{store_fault, image_fault}
 use Rattle.pass_cli.specs.Answers.{is_reported}
-use Rattle.pass_cli.specs.Asked.{IsAskJudged, IsAnswered, IsAnswerTo, IsGiven, IsGraphAnswer, IsLacking, IsLogOf, IsPatternStatus, IsPut, IsQuestionRead, IsUnknown, HasPatternFault, asked_in}
+use Rattle.pass_cli.specs.Asked.{IsAskJudged, IsAnswered, IsAnswerTo, IsGiven, IsGraphAnswer, IsLacking, IsLogOf, IsPatternStatus, IsPut, IsQuestionRead, IsNowhere, IsUnknown, HasGiven, HasPatternFault, asked_in}
 use Rattle.pass_cli.specs.Checks.{check_text}
 use Rattle.pass_cli.specs.Matches.{IsOfShape}
 use Rattle.pass_cli.proofs.Patterns.{same_fault}
 use Rattle.pass_cli.specs.declared.words.Question.{Question}
-use Rattle.pass_cli.specs.declared.words.Question.TheVariants.{Check, Graph, Match}
+use Rattle.pass_cli.specs.declared.words.Question.TheVariants.{Check, Graph, Match, Send}
 
 -- words that ask nothing
 pub words_judged : (m : Moment) (bytes : List ℕ) → IsAskJudged None m m bytes status.BadWords
@@ -43,6 +44,7 @@ words_judged m bytes = record {
   unhidden = λ asked rose. absurd asked;
   bad_store = λ fault. (λ is. absurd (cc), λ is. absurd is.0);
   no_object = λ node. (λ is. absurd (cc), λ is. absurd is.0);
+  no_frame = λ place. (λ is. absurd (cc), λ is. absurd is.0);
   done = (λ is. absurd (cc), λ is. absurd is.0);
   reads = λ quiet. refl;
 }
@@ -52,6 +54,28 @@ one_fault : (q : Question) (one other : PatternFault) → HasPatternFault q one 
 one_fault Check one other has also = absurd has
 one_fault (Graph q) one other has also = absurd has
 one_fault (Match from text form) one other has also = same_fault text one other has also
+one_fault (Send from) one other has also = absurd has
+
+-- a question that gives nodes gives no place
+no_place : (q : Question) (bytes : List ℕ) (node : Node) (place : ℕ) → IsUnknown q bytes node → IsNowhere q bytes place → ⊥
+no_place Check bytes node place unknown is = is
+no_place (Graph q) bytes node place unknown is = is
+no_place (Match from text form) bytes node place unknown is = is
+no_place (Send from) bytes node place unknown is = unknown.2
+
+-- nor does one that the graph answers
+answered_place : (list : List Record) (q : Question) (text bytes : List ℕ) (place : ℕ) → IsGraphAnswer list q text → IsNowhere q bytes place → ⊥
+answered_place list Check text bytes place says is = is
+answered_place list (Graph q) text bytes place says is = is
+answered_place list (Match from pattern form) text bytes place says is = is
+answered_place list (Send from) text bytes place says is = says
+
+-- the place that is given is one
+same_place : (q : Question) (bytes : List ℕ) (one other : ℕ) → IsNowhere q bytes one → IsNowhere q bytes other → other ≡ one
+same_place Check bytes one other is also = absurd is
+same_place (Graph q) bytes one other is also = absurd is
+same_place (Match from text form) bytes one other is also = absurd is
+same_place (Send from) bytes one other is also = also.0 ∙ sym is.0
 
 -- a pattern that is none
 module _ (q : Question) (m : Moment) (bytes : List ℕ) (why : PatternFault) (has : HasPatternFault q why) where
@@ -66,6 +90,7 @@ module _ (q : Question) (m : Moment) (bytes : List ℕ) (why : PatternFault) (ha
     unhidden = λ put rose. absurd (lost put);
     bad_store = λ fault. (λ is. absurd (cc), λ is. absurd (lost is.0));
     no_object = λ node. (λ is. absurd (cc), λ is. absurd (lost is.0));
+    no_frame = λ place. (λ is. absurd (cc), λ is. absurd (lost is.0));
     done = (λ is. absurd (cc), λ is. absurd (lost is.0));
     reads = λ quiet. refl;
   }
@@ -99,6 +124,7 @@ module _ (q : Question) (put : IsPut (Some q)) (old new : Moment) (bytes : List 
     unhidden = λ asked rose. refl;
     bad_store = λ fault. (λ is. absurd (cc), λ is. absurd (is.1 old.faults new.faults refl));
     no_object = λ node. (λ is. absurd (cc), λ is. absurd (is.1.0 old.faults new.faults refl));
+    no_frame = λ place. (λ is. absurd (cc), λ is. absurd (is.1.0 old.faults new.faults refl));
     done = (λ is. absurd (cc), λ is. absurd (is.1.0 old.faults new.faults refl));
     reads = λ quiet. absurd (quiet old.faults new.faults refl);
   }
@@ -123,6 +149,7 @@ module _ (q : Question) (put : IsPut (Some q)) (old new : Moment) (bytes : List 
       unhidden = λ asked rose. absurd (omega (arith, still, rose));
       bad_store = λ other. (λ is. (put, λ opened now fails. absurd (cc), has ∙ ap Some (same other is)), λ is. only other (sym has ∙ is.2));
       no_object = λ node. (λ is. absurd (cc), λ is. absurd (none (sym has ∙ is.1.1)));
+      no_frame = λ place. (λ is. absurd (cc), λ is. absurd (none (sym has ∙ is.1.1)));
       done = (λ is. absurd (cc), λ is. absurd (none (sym has ∙ is.1.1)));
       reads = λ quiet. same_seen;
     }
@@ -143,16 +170,17 @@ module _ (q : Question) (put : IsPut (Some q)) (old new : Moment) (bytes : List 
       some : (fault : OpenFault) → ◌≡◌ {A = Option OpenFault} None (Some fault) → ⊥
       some fault is = cc
 
-      -- it has none, and each node of the question
-      pub done_judged : ((node : Node) → IsUnknown q bytes node → ⊥) → Judged status.Done
-      done_judged known = record {
+      -- it has none, and what the question gives
+      pub done_judged : HasGiven q bytes → Judged status.Done
+      done_judged given = record {
         bad_words = (λ is. absurd (cc), λ none. absurd (asks none));
         bad_pattern = λ why. (λ is. absurd (cc), λ is. absurd (put why is));
         disk_fault = λ opened now is. absurd (cc);
         unhidden = λ asked rose. absurd (omega (arith, still, rose));
         bad_store = λ fault. (λ is. absurd (cc), λ is. absurd (some fault (sym none ∙ is.2)));
-        no_object = λ node. (λ is. absurd (cc), λ is. absurd (known node is.2));
-        done = (λ is. (put, (λ opened now fails. absurd (cc), none), known), λ is. refl);
+        no_object = λ node. (λ is. absurd (cc), λ is. absurd (given.node node is.2));
+        no_frame = λ place. (λ is. absurd (cc), λ is. absurd (given.place place is.2));
+        done = (λ is. (put, (λ opened now fails. absurd (cc), none), given), λ is. refl);
         reads = λ quiet. same_seen;
       }
 
@@ -165,11 +193,29 @@ module _ (q : Question) (put : IsPut (Some q)) (old new : Moment) (bytes : List 
         unhidden = λ asked rose. absurd (omega (arith, still, rose));
         bad_store = λ fault. (λ is. absurd (cc), λ is. absurd (some fault (sym none ∙ is.2)));
         no_object = λ other. (λ is. (put, (λ opened now fails. absurd (cc), none), subst (λ n. IsUnknown q bytes n) (same other is) unknown), λ is. ap status.NoObject (sym (alone other is.2)));
-        done = (λ is. absurd (cc), λ is. absurd (is.2 node unknown));
+        no_frame = λ place. (λ is. absurd (cc), λ is. absurd (no_place q bytes node place unknown is.2));
+        done = (λ is. absurd (cc), λ is. absurd (is.2.node node unknown));
         reads = λ quiet. same_seen;
       }
         where
           same : (other : Node) → ◌≡◌ {A = Status} (status.NoObject node) (status.NoObject other) → node ≡ other
+          same other is = cc
+
+      -- it has none, and no frame at the question's place
+      pub place_judged : (place : ℕ) → IsNowhere q bytes place → Judged (status.NoFrame place)
+      place_judged place nowhere = record {
+        bad_words = (λ is. absurd (cc), λ none. absurd (asks none));
+        bad_pattern = λ why. (λ is. absurd (cc), λ is. absurd (put why is));
+        disk_fault = λ opened now is. absurd (cc);
+        unhidden = λ asked rose. absurd (omega (arith, still, rose));
+        bad_store = λ fault. (λ is. absurd (cc), λ is. absurd (some fault (sym none ∙ is.2)));
+        no_object = λ node. (λ is. absurd (cc), λ is. absurd (no_place q bytes node place is.2 nowhere));
+        no_frame = λ other. (λ is. (put, (λ opened now fails. absurd (cc), none), subst (λ n. IsNowhere q bytes n) (same other is) nowhere), λ is. ap status.NoFrame (sym (same_place q bytes place other nowhere is.2)));
+        done = (λ is. absurd (cc), λ is. absurd (is.2.place place nowhere));
+        reads = λ quiet. same_seen;
+      }
+        where
+          same : (other : ℕ) → ◌≡◌ {A = Status} (status.NoFrame place) (status.NoFrame other) → place ≡ other
           same other is = cc
 
 -- what is judged of a store by a question, and the text where it is answered
@@ -237,7 +283,7 @@ opened_judges old new image unmatched judged text (bytes, told, read) sound tell
   bytes,
   told,
   (
-    subst (λ (s : Status). IsAskJudged (Some Check) old new bytes s) (sym is) (done_judged Check (λ fault is. is) old new bytes still same (held_in image) read.holds sound (λ node unknown. unknown.2)),
+    subst (λ (s : Status). IsAskJudged (Some Check) old new bytes s) (sym is) (done_judged Check (λ fault is. is) old new bytes still same (held_in image) read.holds sound (record { node = λ node unknown. unknown.2; place = λ place is. is })),
     λ done. (held_in image, read.holds, (unmatched, tells, says)),
   ),
 )
@@ -248,6 +294,7 @@ answer_to : (q : Question) (old : Moment) (bytes text : List ℕ) (held : Held) 
 answer_to Check old bytes text held is says = absurd says
 answer_to (Graph q) old bytes text held is says = (held, is, says)
 answer_to (Match from pattern form) old bytes text held is says = (held, is, says)
+answer_to (Send from) old bytes text held is says = absurd says
 
 -- a log that was read, and what its graph answers
 pub answered_judges : (q : Question) → IsPut (Some q) → (old new : Moment) (list : List Record) (judged : Status) (text : List ℕ) → LogHas old (λ bytes. IsLogOf bytes list)
@@ -272,7 +319,7 @@ answered_judges q put old new list judged text (bytes, told, of) still same know
 
     by : (s : Status) → s ≢ status.NoMemory → IsAnswered list q s text → IsAskJudged (Some q) old new bytes s × (s ≡ status.Done → IsAnswerTo q old bytes text)
     by status.Done known (none, says) = (
-      done_judged q put old new bytes still same of.held of.image sound (λ node is. none node (absent node is)),
+      done_judged q put old new bytes still same of.held of.image sound (record { node = λ node is. none node (absent node is); place = λ place is. answered_place list q text bytes place says is }),
       λ done. answer_to q old bytes text of.held of.image (subst (λ l. IsGraphAnswer l q text) (sym of.list_is) says),
     )
     by (status.NoObject node) known (is, alone) = (
@@ -320,3 +367,29 @@ fault_judges q put old new fault judged text is known cause still reads =
       ),
     )
     by NoMemory known cause still reads = absurd (known refl)
+
+-- a log that was sent
+pub sent_judges : (from : ℕ) (old new : Moment) (text : List ℕ) → LogHas old (λ bytes. HoldsLogged bytes × IsSent bytes from text) → new.faults ≡ old.faults → new.seen ≡ old.seen
+    → Judges (Send from) old new status.Done text
+sent_judges from old new text (bytes, told, ((held, image, logged), sent)) still same = (
+  bytes,
+  told,
+  (
+    done_judged (Send from) (λ why is. is) old new bytes still same held image logged
+        (record { node = λ node unknown. unknown.2; place = λ place is. is.1 (sent.frames, sent.found, sent.place) }),
+    λ done. sent,
+  ),
+)
+
+-- a log with no frame at that place, which isn't its end either
+pub unplaced_judges : (from : ℕ) (old new : Moment) (judged : Status) (text : List ℕ) → judged ≡ status.NoFrame from → LogHas old (λ bytes. HoldsLogged bytes × (IsPlace bytes from → ⊥))
+    → new.faults ≡ old.faults → new.seen ≡ old.seen → Judges (Send from) old new judged text
+unplaced_judges from old new judged text is (bytes, told, ((held, image, logged), nowhere)) still same = (
+  bytes,
+  told,
+  (
+    subst (λ (s : Status). IsAskJudged (Some (Send from)) old new bytes s) (sym is)
+        (place_judged (Send from) (λ why none. none) old new bytes still same held image logged from (refl, nowhere)),
+    λ done. let z : status.NoFrame from ≡ status.Done = sym is ∙ done in absurd (cc),
+  ),
+)

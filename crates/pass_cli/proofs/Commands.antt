@@ -5,9 +5,9 @@ use Rattle.std.specs.Option.{option_map_or}
 use Rattle.pass_run.specs.declared.status.Status.{Status}
 use Rattle.pass_run.specs.declared.status.Status.TheVariants as status
 use Rattle.pass_cli.specs.Asked.{IsPut, IsQuestionRead, asked_in}
-use Rattle.pass_cli.specs.Words.{Reads, Text, command_of, is_run, is_run_command, question_in, question_of}
+use Rattle.pass_cli.specs.Words.{Reads, Text, command_of, is_follow, is_follow_command, is_run, is_run_command, question_in, question_of}
 use Rattle.pass_cli.specs.declared.words.Command.{Command}
-use Rattle.pass_cli.specs.declared.words.Command.TheVariants.{Run, Ask}
+use Rattle.pass_cli.specs.declared.words.Command.TheVariants.{Run, Ask, Follow}
 use Rattle.pass_cli.specs.declared.words.Question.{Question}
 
 -- what stands in a value that was read
@@ -18,21 +18,34 @@ module _ (words : List Text) (r : Result Command Status) (read : Reads r (comman
   pub runs : (workers : ℕ) → r ≡ Ok (Run workers) → IsTrue (is_run words)
   runs workers is = ap (λ (o : Option Command). option_map_or is_run_command o false) (subst (λ (x : Result Command Status). Reads x (command_of words)) is read)
 
-  pub asks : (q : Question) → r ≡ Ok (Ask q) → (¬ (IsTrue (is_run words))) × (question_of words ≡ Some q)
+  -- which words these are not
+  pub not_run : (c : Option Command) → command_of words ≡ c → option_map_or is_run_command c false ≡ false → ¬ (IsTrue (is_run words))
+  not_run c named other runs = let z : true ≡ false = sym runs ∙ ap (λ (o : Option Command). option_map_or is_run_command o false) named ∙ other in cc
+
+  pub not_follow : (c : Option Command) → command_of words ≡ c → option_map_or is_follow_command c false ≡ false → ¬ (IsTrue (is_follow words))
+  not_follow c named other follows = let z : true ≡ false = sym follows ∙ ap (λ (o : Option Command). option_map_or is_follow_command o false) named ∙ other in cc
+
+  pub runs_only : (workers : ℕ) → r ≡ Ok (Run workers) → ¬ (IsTrue (is_follow words))
+  runs_only workers is = not_follow (Some (Run workers)) (subst (λ (x : Result Command Status). Reads x (command_of words)) is read) refl
+
+  pub follows : r ≡ Ok Follow → IsTrue (is_follow words) × ¬ (IsTrue (is_run words))
+  follows is =
+      let named : command_of words ≡ Some Follow = subst (λ (x : Result Command Status). Reads x (command_of words)) is read in
+      (ap (λ (o : Option Command). option_map_or is_follow_command o false) named, not_run (Some Follow) named refl)
+
+  pub asks : (q : Question) → r ≡ Ok (Ask q) → (¬ (IsTrue (is_run words))) × (question_of words ≡ Some q) × ¬ (IsTrue (is_follow words))
   asks q is =
       let named : command_of words ≡ Some (Ask q) = subst (λ (x : Result Command Status). Reads x (command_of words)) is read in (
-        λ runs. let z : true ≡ false = sym runs ∙ ap (λ (o : Option Command). option_map_or is_run_command o false) named in cc,
+        not_run (Some (Ask q)) named refl,
         ap (λ (o : Option Command). option_and_then question_in o) named,
+        not_follow (Some (Ask q)) named refl,
       )
 
-  pub refuses : (s : Status) → r ≡ Err s → s ≢ status.NoMemory → (¬ (IsTrue (is_run words))) × (question_of words ≡ None)
+  pub refuses : (s : Status) → r ≡ Err s → s ≢ status.NoMemory → (¬ (IsTrue (is_run words))) × (question_of words ≡ None) × ¬ (IsTrue (is_follow words))
   refuses s is known = by s (subst (λ (x : Result Command Status). Reads x (command_of words)) is read) known
     where
-      by : (t : Status) → Reads {X = Command} (Err t) (command_of words) → t ≢ status.NoMemory → (¬ (IsTrue (is_run words))) × (question_of words ≡ None)
-      by status.BadWords none known = (
-        λ runs. let z : true ≡ false = sym runs ∙ ap (λ (o : Option Command). option_map_or is_run_command o false) none in cc,
-        ap (λ (o : Option Command). option_and_then question_in o) none,
-      )
+      by : (t : Status) → Reads {X = Command} (Err t) (command_of words) → t ≢ status.NoMemory → (¬ (IsTrue (is_run words))) × (question_of words ≡ None) × ¬ (IsTrue (is_follow words))
+      by status.BadWords none known = (not_run None none refl, ap (λ (o : Option Command). option_and_then question_in o) none, not_follow None none refl)
       by status.NoMemory none known = absurd (known refl)
       by _ none known = absurd none
 

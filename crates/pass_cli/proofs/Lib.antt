@@ -5,5 +5,6 @@ pub mod Judging
 pub mod Lacking
 pub mod Listed
 pub mod Patterns
+pub mod Streams
 pub mod TakenWords
 pub mod Written

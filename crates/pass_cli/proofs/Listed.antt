@@ -2,7 +2,7 @@
 use Rattle.std.proofs.Common.{◌≡◌, ◌<◌, ◌≤◌, Bool, false, List, [], ◌∷◌, length, refl, arith}
 use Rattle.std.specs.Prelude.{None, map}
 use Rattle.std.specs.Borrow.{Bor}
-use Rattle.pass_cli.specs.Words.{Text, match_in, query_in, recipe_in}
+use Rattle.pass_cli.specs.Words.{Text, match_in, query_in, recipe_in, send_in}
 
 pub too_few : (name : Text) (words : List (Bor Text)) → length words < 1 → query_in name (map (λ w. w.now) words) ≡ None
 too_few name [] few = refl
@@ -33,3 +33,12 @@ match_too_long json [] many = absurd (omega arith)
 match_too_long json (x ∷ []) many = absurd (omega arith)
 match_too_long json (x ∷ y ∷ []) many = absurd (omega arith)
 match_too_long json (x ∷ y ∷ z ∷ words) many = refl
+
+pub no_place : (words : List (Bor Text)) → length words < 1 → send_in false (map (λ w. w.now) words) ≡ None
+no_place [] few = refl
+no_place (x ∷ words) few = absurd (omega arith)
+
+pub places_too_many : (words : List (Bor Text)) → 2 ≤ length words → send_in false (map (λ w. w.now) words) ≡ None
+places_too_many [] many = absurd (omega arith)
+places_too_many (x ∷ []) many = absurd (omega arith)
+places_too_many (x ∷ y ∷ words) many = refl

@@ -10,6 +10,7 @@ use Rattle.pass_plain.specs.WellLogged.{IsWellLogged}
 use Rattle.pass_graph.specs.ListRanks.{HasNode}
 use Rattle.pass_pattern.specs.declared.fault.PatternFault.{PatternFault}
 use Rattle.pass_recover.specs.declared.fault.OpenFault.{OpenFault}
+use Rattle.pass_standby.specs.Sending.{IsPlace, IsSent}
 use Rattle.pass_run.specs.declared.status.Status.{Status}
 use Rattle.pass_run.specs.declared.status.Status.TheVariants as status
 use Rattle.pass_run.specs.Statuses.{status_text}
@@ -22,28 +23,41 @@ use Rattle.pass_cli.specs.Matches.{IsMatched, IsPatternFault}
 use Rattle.pass_query.specs.declared.fault.QueryFault.{QueryFault}
 use Rattle.pass_query.specs.declared.fault.QueryFault.TheVariants as query
 use Rattle.pass_cli.specs.declared.words.Question.{Question}
-use Rattle.pass_cli.specs.declared.words.Question.TheVariants.{Check, Graph, Match}
+use Rattle.pass_cli.specs.declared.words.Question.TheVariants.{Check, Graph, Match, Send}
 
 -- the text with which the graph of the records answers
 abbrev pub IsGraphAnswer : List Record → Question → List ℕ → Type 0
 IsGraphAnswer list Check text = ⊥
 IsGraphAnswer list (Graph q) text = IsGraphText list q text
 IsGraphAnswer list (Match from pattern form) text = IsMatched list pattern from form text
+IsGraphAnswer list (Send from) text = ⊥
 
 -- the question is about this node, the first one given that the graph of the records hasn't
 abbrev pub IsLacking : List Record → Question → Node → Type 0
 IsLacking list Check node = ⊥
 IsLacking list (Graph q) node = IsMissing list q node
 IsLacking list (Match from pattern form) node = (node ≡ from) × ¬ (HasNode list from)
+IsLacking list (Send from) node = ⊥
 
 -- the text that answers a question, for a log area with these bytes
 abbrev pub IsAnswerTo : Question → Moment → List ℕ → List ℕ → Type 0
 IsAnswerTo Check old bytes text = IsCheckText old bytes text
+IsAnswerTo (Send from) old bytes text = IsSent bytes from text
 IsAnswerTo q old bytes text = (held : Held) × (image_of bytes ≡ Ok held) × IsGraphAnswer held.list q text
 
 -- the graph of the log lacks this node of the question
 abbrev pub IsUnknown : Question → List ℕ → Node → Type 0
 IsUnknown q bytes node = (held : Held) × (image_of bytes ≡ Ok held) × IsLacking held.list q node
+
+-- the question gives this place, at which no frame of the log stands, nor does the log end there
+abbrev pub IsNowhere : Question → List ℕ → ℕ → Type 0
+IsNowhere (Send from) bytes place = (place ≡ from) × ¬ (IsPlace bytes from)
+IsNowhere _ bytes place = ⊥
+
+-- the log has what the question gives
+pub record HasGiven (q : Question) (bytes : List ℕ) : Type 0 where
+  pub node : (node : Node) → ¬ (IsUnknown q bytes node)
+  pub place : (place : ℕ) → ¬ (IsNowhere q bytes place)
 
 -- why what the question gives as a pattern is none
 abbrev pub HasPatternFault : Question → PatternFault → Type 0
@@ -59,7 +73,7 @@ abbrev pub IsSoundLog : List ℕ → Status → Type 0
 IsSoundLog bytes judged = IsNoDiskFault judged × (store_fault bytes ≡ None)
 
 -- What is judged by the question that the words ask, the disk before and after, and the bytes of its log area. The words come
--- first, then the question's pattern, the device's faults, what the log has, and then the nodes of the question.
+-- first, then the question's pattern, the device's faults, what the log has, and then the nodes or the place of the question.
 pub record IsAskJudged (asked : Option Question) (old new : Moment) (bytes : List ℕ) (judged : Status) : Type 0 where
   pub bad_words : judged ≡ status.BadWords ↔ (asked ≡ None)
   pub bad_pattern : (fault : PatternFault) → judged ≡ status.BadPattern fault ↔ IsSomeAnd asked (λ q. HasPatternFault q fault)
@@ -68,7 +82,8 @@ pub record IsAskJudged (asked : Option Question) (old new : Moment) (bytes : Lis
   pub unhidden : IsPut asked → old.faults < new.faults → judged ≡ status.DiskFault old.faults new.faults
   pub bad_store : (fault : OpenFault) → judged ≡ status.BadStore fault ↔ (IsPut asked × IsNoDiskFault judged × (store_fault bytes ≡ Some fault))
   pub no_object : (node : Node) → judged ≡ status.NoObject node ↔ (IsPut asked × IsSoundLog bytes judged × IsSomeAnd asked (λ q. IsUnknown q bytes node))
-  pub done : judged ≡ status.Done ↔ (IsPut asked × IsSoundLog bytes judged × IsSomeAnd asked (λ q. (node : Node) → ¬ (IsUnknown q bytes node)))
+  pub no_frame : (place : ℕ) → judged ≡ status.NoFrame place ↔ (IsPut asked × IsSoundLog bytes judged × IsSomeAnd asked (λ q. IsNowhere q bytes place))
+  pub done : judged ≡ status.Done ↔ (IsPut asked × IsSoundLog bytes judged × IsSomeAnd asked (λ q. HasGiven q bytes))
   -- what the disk reads is as it was
   pub reads : IsNoDiskFault judged → new.seen ≡ old.seen
 

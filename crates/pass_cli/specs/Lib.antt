@@ -1,6 +1,7 @@
 pub mod Answers
 pub mod Asked
 pub mod Checks
+pub mod Follows
 pub mod GraphAnswers
 pub mod Line
 pub mod Matches

@@ -17,11 +17,11 @@ use Rattle.pass_trace.specs.Words.{is_text}
 use Rattle.pass_cli.specs.Line.{command_line}
 use Rattle.pass_cli.specs.Numbers.{number_in, node_in}
 use Rattle.pass_cli.specs.declared.words.Command.{Command}
-use Rattle.pass_cli.specs.declared.words.Command.TheVariants.{Run, Ask}
+use Rattle.pass_cli.specs.declared.words.Command.TheVariants.{Run, Ask, Follow}
 use Rattle.pass_cli.specs.declared.words.GraphQuestion.{GraphQuestion}
 use Rattle.pass_cli.specs.declared.words.GraphQuestion.TheVariants.{Lineage, Recipe}
 use Rattle.pass_cli.specs.declared.words.Question.{Question}
-use Rattle.pass_cli.specs.declared.words.Question.TheVariants.{Check, Graph, Match}
+use Rattle.pass_cli.specs.declared.words.Question.TheVariants.{Check, Graph, Match, Send}
 
 abbrev pub Text : Type 0
 Text = List ℕ
@@ -36,10 +36,10 @@ abbrev pub run_in : Bool → Option Text → List Text → Option Command
 run_in false workers [] = option_map Run (workers_in workers)
 run_in _ _ _ = None
 
--- check
-abbrev pub check_in : Bool → Option Text → List Text → Option Command
-check_in false None [] = Some (Ask Check)
-check_in _ _ _ = None
+-- check and follow, which take no further word
+abbrev pub alone_in : Command → Bool → Option Text → List Text → Option Command
+alone_in command false None [] = Some command
+alone_in _ _ _ _ = None
 
 abbrev pub name_in : Text → Option Text
 name_in word = if is_name word then Some word else None
@@ -83,6 +83,15 @@ abbrev pub match_in : Bool → List Text → Option Question
 match_in json (node ∷ text ∷ []) = match_of (form_of json) text (node_in node)
 match_in _ _ = None
 
+-- the greatest number that is written with 19 digits
+abbrev pub last_place : ℕ
+last_place = 9999999999999999999
+
+-- send FROM
+abbrev pub send_in : Bool → List Text → Option Question
+send_in false (word ∷ []) = option_map Send (number_in 0 last_place word)
+send_in _ _ = None
+
 -- a question to the graph
 abbrev pub graph_in : Bool → Text → List Text → Option GraphQuestion
 graph_in json name words =
@@ -94,8 +103,10 @@ graph_in json name words =
 abbrev pub command_in : Bool → Option Text → Text → List Text → Option Command
 command_in json workers name words =
     if is_text name (codes "run") then run_in json workers words
-    else if is_text name (codes "check") then check_in json workers words
+    else if is_text name (codes "check") then alone_in (Ask Check) json workers words
+    else if is_text name (codes "follow") then alone_in Follow json workers words
     else if is_some workers then None
+    else if is_text name (codes "send") then option_map Ask (send_in json words)
     else if is_text name (codes "match") then option_map Ask (match_in json words)
     else option_map (λ q. Ask (Graph q)) (graph_in json name words)
 
@@ -123,6 +134,14 @@ is_run_command _ = false
 -- the words are those of run
 abbrev pub is_run : List Text → Bool
 is_run words = option_map_or is_run_command (command_of words) false
+
+abbrev pub is_follow_command : Command → Bool
+is_follow_command Follow = true
+is_follow_command _ = false
+
+-- the words are those of follow
+abbrev pub is_follow : List Text → Bool
+is_follow words = option_map_or is_follow_command (command_of words) false
 
 abbrev pub question_in : Command → Option Question
 question_in (Ask question) = Some question

@@ -14,6 +14,7 @@ use crate::judged::{Judged, refused, told};
 use crate::listing::check_answer;
 use crate::matching::judge_match;
 use crate::opening::open_index;
+use crate::sending::judge_send;
 use crate::words::{Command, GraphQuestion, Question, read_words};
 use crate::writing::write_answer;
 use pass_entry::Record;
@@ -30,8 +31,8 @@ pub struct Asked<D> {
     pub disk: D,
 }
 
-/// Answers a command that runs no trace: a question about the store, which writes nothing to its disk. `words` are the program's
-/// words after the folder; those of a run, and any that are no command's, are bad ones.
+/// Answers a question about the store, which writes nothing to its disk. `words` are the program's
+/// words after the folder; those that run a trace or follow a log, and any that are no command's, are bad ones.
 pub fn ask<K: Sink, D: Disk>(alloc: Global, words: &[String], sink: &mut K, disk: D) -> Asked<D>
     ensures answer { result.status ≢ Status.NoMemory → IsAsked (question_of (map string_bytes words.now)) (D.view disk) (D.view result.disk)
         (record { tells = K.tells; before = K.taken sink.old; after = K.taken sink.new }) result.status }
@@ -47,13 +48,13 @@ pub fn ask<K: Sink, D: Disk>(alloc: Global, words: &[String], sink: &mut K, disk
     ask_for(alloc, question, sink, disk)
 }
 
-// The question of a command; that of a run is none.
+// The question of a command; that of a run or of a standby is none.
 fn question_in(command: Result<Command, Status>) -> Result<Question, Status>
     ensures question { (words : List (List ℕ)) → Reads command (command_of words) → Reads result (question_of words) }
 {
     match command {
         Ok(Command::Ask(question)) => Ok(question),
-        Ok(Command::Run { .. }) => Err(Status::BadWords),
+        Ok(Command::Run { .. } | Command::Follow) => Err(Status::BadWords),
         Err(status) => Err(status),
     }
 }
@@ -101,6 +102,7 @@ fn judge_words<D: Disk>(alloc: Global, question: Result<Question, Status>, disk:
         Ok(Question::Check) => judge_store(alloc, disk),
         Ok(Question::Graph(question)) => judge_graph(alloc, &question, disk),
         Ok(Question::Match { from, text, form }) => judge_match(alloc, from, &text, form, disk),
+        Ok(Question::Send(from)) => judge_send(alloc, from, disk),
         Err(status) => refused(alloc, status),
     }
 }

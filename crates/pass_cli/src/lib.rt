@@ -3,6 +3,7 @@
 
 mod asking;
 mod counting;
+mod following;
 mod graph;
 mod judged;
 mod line;
@@ -13,6 +14,7 @@ mod numbers;
 mod opening;
 mod pattern_text;
 mod reading;
+mod sending;
 mod verdict;
 mod words;
 mod writing;

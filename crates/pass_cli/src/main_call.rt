@@ -4,9 +4,11 @@ ghost use Rattle.pass_outside.specs.Faults.{HasRisen};
 ghost use Rattle.pass_run.specs.Stored.{IsLater, IsLeftAlone};
 ghost use Rattle.pass_cli.specs.Answers.{OfBytes, IsReadInTime, IsAnswer, IsNothing, IsRecorded, outcome_of};
 ghost use Rattle.pass_cli.specs.Asked.{IsAsked, IsPut, IsQuestionRead, asked_in};
-ghost use Rattle.pass_cli.specs.Words.{is_run, question_of};
+ghost use Rattle.pass_cli.specs.Follows.{IsFollowAnswer, IsFollowedOn, OfRead};
+ghost use Rattle.pass_cli.specs.Words.{is_follow, is_run, question_of};
 
 use crate::asking::{Asked, ask_for};
+use crate::following::{Followed, follow};
 use crate::verdict::judge;
 use crate::words::{Command, Question, read_words};
 use crate::writing::write_answer;
@@ -31,10 +33,10 @@ pub struct Ended<D> {
     pub disk: D,
 }
 
-/// Runs the trace of the source and writes the report to the sink, or answers the words of another command. `words` are the
-/// program's words after the folder.
+/// Runs the trace of the source and writes the report to the sink, follows the log that the source gives, or answers the words
+/// of another command. `words` are the program's words after the folder.
 pub fn pass_main<R: Threads + Wait + Sync, S: Source, K: Sink, D: Disk + Send, G: Gate + Sync>(
-    _rt: &R,
+    rt: &R,
     alloc: Global,
     words: &[String],
     source: &mut S,
@@ -48,19 +50,25 @@ pub fn pass_main<R: Threads + Wait + Sync, S: Source, K: Sink, D: Disk + Send, G
     // What a run hands out, also where memory was refused.
     ensures recorded { IsTrue (is_run (map string_bytes words.now)) → OfBytes S.tells (S.left source.old)
         (λ bytes. (IsNothing (outcome_of result) × IsLeftAlone (D.view disk) (D.view result.disk)) ⊎ IsRecorded (D.view disk) (D.view result.disk) bytes (outcome_of result)) }
+    // A standby ends as what came of the stream, and leaves on the disk whole frames of it.
+    ensures follow { IsTrue (is_follow (map string_bytes words.now)) → result.status ≢ Status.NoMemory
+        → IsFollowAnswer S.tells (S.left source.old) (S.left source.new) (S.fault_count source.old) (S.fault_count source.new)
+        (record { tells = K.tells; before = K.taken sink.old; after = K.taken sink.new }) (D.view disk) (D.view result.disk) result.status }
+    ensures followed { IsTrue (is_follow (map string_bytes words.now)) → OfRead S.tells (S.left source.old) (S.left source.new) (D.view disk)
+        (λ log bytes. IsFollowedOn log bytes (D.view disk) (D.view result.disk)) }
     // Every other command is answered as by `ask`, and records nothing.
-    ensures asked { ¬ IsTrue (is_run (map string_bytes words.now)) → result.status ≢ Status.NoMemory → IsAsked (question_of (map string_bytes words.now)) (D.view disk) (D.view result.disk)
+    ensures asked { ¬ IsTrue (is_run (map string_bytes words.now)) → ¬ IsTrue (is_follow (map string_bytes words.now)) → result.status ≢ Status.NoMemory → IsAsked (question_of (map string_bytes words.now)) (D.view disk) (D.view result.disk)
         (record { tells = K.tells; before = K.taken sink.old; after = K.taken sink.new }) result.status }
     ensures unrecorded { ¬ IsTrue (is_run (map string_bytes words.now)) → IsNothing (outcome_of result) }
-    ensures alone { ¬ IsTrue (is_run (map string_bytes words.now)) → IsLeftAlone (D.view disk) (D.view result.disk) }
-    ensures unopened { ¬ IsTrue (is_run (map string_bytes words.now)) → ¬ IsPut (question_of (map string_bytes words.now)) → result.disk ≡ disk }
+    ensures alone { ¬ IsTrue (is_run (map string_bytes words.now)) → ¬ IsTrue (is_follow (map string_bytes words.now)) → IsLeftAlone (D.view disk) (D.view result.disk) }
+    ensures unopened { ¬ IsTrue (is_run (map string_bytes words.now)) → ¬ IsTrue (is_follow (map string_bytes words.now)) → ¬ IsPut (question_of (map string_bytes words.now)) → result.disk ≡ disk }
     // What the disk tells stays, and its counts never fall.
     ensures later { IsLater (D.view disk) (D.view result.disk) }
     ensures write_fault { result.status ≢ Status.NoMemory → (result.status ≡ Status.WriteFault
         ↔ HasRisen (K.fault_count sink.old) (K.fault_count sink.new)) }
     ensures untaken { result.status ≡ Status.NoMemory → sink.new ≡ sink.old }
-    // Only a run reads the source.
-    ensures unread { ¬ IsTrue (is_run (map string_bytes words.now)) → source.new ≡ source.old }
+    // Only a run and a standby read the source.
+    ensures unread { ¬ IsTrue (is_run (map string_bytes words.now)) → ¬ IsTrue (is_follow (map string_bytes words.now)) → source.new ≡ source.old }
     // The source is read to its end, or to where its bytes are seen to be too long for a trace.
     ensures stops { IsTrue S.tells → IsTrue (is_run (map string_bytes words.now)) → result.status ≢ Status.NoMemory → ¬ HasRisen (S.fault_count source.old) (S.fault_count source.new)
         → IsReadInTime (S.left source.old) (S.left source.new) }
@@ -68,6 +76,7 @@ pub fn pass_main<R: Threads + Wait + Sync, S: Source, K: Sink, D: Disk + Send, G
     match read_words(alloc, words) {
         Ok(Command::Run { workers }) => run_words(alloc, workers, source, sink, disk, gate),
         Ok(Command::Ask(question)) => answered(alloc, Ok(question), sink, disk),
+        Ok(Command::Follow) => follow_words(rt, alloc, source, sink, disk),
         Err(status) => answered(alloc, Err(status), sink, disk),
     }
 }
@@ -113,7 +122,30 @@ fn run_words<S: Source, K: Sink, D: Disk + Send, G: Gate + Sync>(
     }
 }
 
-// Answers what was read, where that is no run.
+// Follows the log that the source gives.
+fn follow_words<R: Wait, S: Source, K: Sink, D: Disk>(
+    rt: &R,
+    alloc: Global,
+    source: &mut S,
+    sink: &mut K,
+    disk: D,
+) -> Ended<D>
+    ensures answer { result.status ≢ Status.NoMemory
+        → IsFollowAnswer S.tells (S.left source.old) (S.left source.new) (S.fault_count source.old) (S.fault_count source.new)
+        (record { tells = K.tells; before = K.taken sink.old; after = K.taken sink.new }) (D.view disk) (D.view result.disk) result.status }
+    ensures on_disk { OfRead S.tells (S.left source.old) (S.left source.new) (D.view disk) (λ log bytes. IsFollowedOn log bytes (D.view disk) (D.view result.disk)) }
+    ensures nothing { IsNothing (outcome_of result) }
+    ensures later { IsLater (D.view disk) (D.view result.disk) }
+    ensures write_fault { result.status ≢ Status.NoMemory → (result.status ≡ Status.WriteFault
+        ↔ HasRisen (K.fault_count sink.old) (K.fault_count sink.new)) }
+    ensures untaken { result.status ≡ Status.NoMemory → sink.new ≡ sink.old }
+{
+    let Followed { judged, disk } = follow(rt, alloc, source, disk);
+    let status = write_answer(alloc, sink, judged.status, &judged.text);
+    asked(alloc, Asked { status, disk })
+}
+
+// Answers what was read, where that is a question or no command.
 fn answered<K: Sink, D: Disk>(
     alloc: Global,
     question: Result<Question, Status>,

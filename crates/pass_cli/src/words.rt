@@ -1,8 +1,8 @@
 //! The commands of the program, and how its words name them.
 ghost use Rattle.std.specs.Prelude.{◌≡◌, ◌≢◌, ◌⊎◌, ◌≤◌, Option, IfOk, IfSome, IsSome, IsTrue, map, option_map, string_bytes};
 ghost use Rattle.clap.specs.Words.{found_of, kind_of, rows_of};
-ghost use Rattle.pass_cli.specs.Words.{Reads, HasWorkers, check_in, command_found, command_in, command_of, form_of, graph_in, match_in, match_of, question_of, is_set, path_on, query_in, query_on, name_in, recipe_in, run_in, workers_in};
-ghost use Rattle.pass_cli.specs.Numbers.{node_in};
+ghost use Rattle.pass_cli.specs.Words.{Reads, HasWorkers, alone_in, command_found, command_in, command_of, form_of, graph_in, match_in, match_of, question_of, is_set, path_on, query_in, query_on, name_in, recipe_in, run_in, send_in, last_place, workers_in};
+ghost use Rattle.pass_cli.specs.Numbers.{node_in, number_in};
 ghost use Rattle.pass_query.specs.declared.question.Query.{Query};
 ghost use Rattle.pass_cli.specs.declared.words.GraphQuestion.{GraphQuestion};
 ghost use Rattle.pass_cli.specs.declared.words.Question.{Question};
@@ -23,6 +23,9 @@ const WORKERS: u32 = 4;
 
 /// How many workers may take turns.
 const MOST_WORKERS: u64 = 64;
+
+/// The greatest number of 19 digits: no longer one is read.
+const LAST_PLACE: u64 = 9_999_999_999_999_999_999;
 
 /// A question to the graph of the log.
 #[derive(Debug, Drop)]
@@ -46,6 +49,8 @@ pub enum Question {
         text: PatternText,
         form: Form,
     },
+    /// The bytes of its log from this place on, which may be none of its frames.
+    Send(u64),
 }
 
 /// What the program's words ask for.
@@ -55,6 +60,8 @@ pub enum Command {
     Run { workers: u32 },
     /// To answer a question.
     Ask(Question),
+    /// To keep what comes of another store's log.
+    Follow,
 }
 
 /// Whether the words ask a question, which may share the store with others; not told where memory is refused.
@@ -134,13 +141,19 @@ fn command_in(
         return or_bad(run_in(json, workers, words));
     }
     if name == b"check".as_slice() {
-        return or_bad(check_in(json, workers, words));
+        return or_bad(alone_in(Command::Ask(Question::Check), json, workers, words));
+    }
+    if name == b"follow".as_slice() {
+        return or_bad(alone_in(Command::Follow, json, workers, words));
     }
     if workers.is_some() {
         return Err(Status::BadWords);
     }
     if name == b"match".as_slice() {
         return asked(match_in(alloc, json, words));
+    }
+    if name == b"send".as_slice() {
+        return asked(send_in(json, words));
     }
     let question = graph_in(alloc, json, name, words)?;
     Ok(Command::Ask(Question::Graph(question)))
@@ -192,14 +205,15 @@ fn workers_in(workers: Option<&str>) -> Option<u32>
     }
 }
 
-fn check_in(json: bool, workers: Option<&str>, words: &[&str]) -> Option<Command>
-    ensures command { result ≡ check_in json (option_map (λ w. w.now) workers.entry) (map (λ w. w.now) words.now) }
-    ensures workers { IfSome result HasWorkers }
+// A command that takes no further word.
+fn alone_in(command: Command, json: bool, workers: Option<&str>, words: &[&str]) -> Option<Command>
+    ensures command { result ≡ alone_in command json (option_map (λ w. w.now) workers.entry) (map (λ w. w.now) words.now) }
+    ensures workers { HasWorkers command → IfSome result HasWorkers }
 {
     if json || workers.is_some() || !words.is_empty() {
         return None;
     }
-    Some(Command::Ask(Question::Check))
+    Some(command)
 }
 
 fn form_of(json: bool) -> Form
@@ -233,6 +247,29 @@ fn match_of(alloc: Global, json: bool, node: &[u8], text: &[u8]) -> Result<Quest
             form: form_of(json),
         }),
         Err(AllocError) => Err(Status::NoMemory),
+    }
+}
+
+#[tactic(auto, using(crate::proofs::Listed::no_place, crate::proofs::Listed::places_too_many))]
+fn send_in(json: bool, words: &[&str]) -> Result<Question, Status>
+    ensures { Reads result (send_in json (map (λ w. w.now) words.now)) }
+{
+    if json {
+        return Err(Status::BadWords);
+    }
+    match words {
+        [] => Err(Status::BadWords),
+        [word] => send_of(word.as_bytes()),
+        [_, _, ..] => Err(Status::BadWords),
+    }
+}
+
+fn send_of(word: &[u8]) -> Result<Question, Status>
+    ensures { Reads result (option_map Question.Send (number_in 0 last_place word.now)) }
+{
+    match number_in(word, 0, LAST_PLACE) {
+        Some(from) => Ok(Question::Send(from)),
+        None => Err(Status::BadWords),
     }
 }
 

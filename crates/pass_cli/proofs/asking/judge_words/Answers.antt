@@ -2,7 +2,7 @@ use Rattle.std.proofs.Common.{◌≡◌, ◌∙◌, sym, ap, subst}
 use Rattle.std.specs.Prelude.{Err, Option, Some}
 use Rattle.pass_cli.specs.Asked.{IsPut, IsQuestionRead, asked_in}
 use Rattle.pass_cli.specs.declared.words.Question.{Question}
-use Rattle.pass_cli.specs.declared.words.Question.TheVariants.{Check, Graph, Match}
+use Rattle.pass_cli.specs.declared.words.Question.TheVariants.{Check, Graph, Match, Send}
 use Rattle.pass_cli.proofs.Answering.{for_question, refused_judges, refused_reports, refused_writes}
 use Rattle.pass_cli.proofs.Commands.{ok_same}
 use Rattle.pass_cli.proofs.asking.judge_words.Goals as goal
@@ -33,6 +33,14 @@ returns-in-Ok-Match-clause-judged g c = λ known.
 
 pub returns-in-Ok-Match-clause-unopened : goal.returns-in-Ok-Match-clause-unopened
 returns-in-Ok-Match-clause-unopened g c = λ lost. c.judge_match.ensures.unopened (λ put. lost (put_as (asked_in c.args.question) (Match c.in-Ok-Match.from c.in-Ok-Match.text c.in-Ok-Match.form) (ap asked_in (ok_same c.args.question c.in-Ok-Match.field-0 (Match c.in-Ok-Match.from c.in-Ok-Match.text c.in-Ok-Match.form) c.in-Ok-Match.is c.in-Ok-Match.field-0-is)) put))
+
+pub returns-in-Ok-Send-clause-judged : goal.returns-in-Ok-Send-clause-judged
+returns-in-Ok-Send-clause-judged g c = λ known.
+    for_question (asked_in c.args.question) (Send c.in-Ok-Send.from) (g.D.Disk.view c.args.disk.now) (g.D.Disk.view c.judge_send.new.disk) c.judge_send.result.status c.judge_send.result.text.items
+    (ap asked_in (ok_same c.args.question c.in-Ok-Send.field-0 (Send c.in-Ok-Send.from) c.in-Ok-Send.is c.in-Ok-Send.field-0-is)) (c.judge_send.ensures.judged known)
+
+pub returns-in-Ok-Send-clause-unopened : goal.returns-in-Ok-Send-clause-unopened
+returns-in-Ok-Send-clause-unopened g c = λ lost. absurd (lost (put_as (asked_in c.args.question) (Send c.in-Ok-Send.from) (ap asked_in (ok_same c.args.question c.in-Ok-Send.field-0 (Send c.in-Ok-Send.from) c.in-Ok-Send.is c.in-Ok-Send.field-0-is)) (λ why is. is)))
 
 pub returns-in-Err-clause-judged : goal.returns-in-Err-clause-judged
 returns-in-Err-clause-judged g c = λ known.

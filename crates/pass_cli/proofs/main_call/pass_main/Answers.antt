@@ -2,8 +2,9 @@ use Rattle.std.proofs.Common.{refl, sym, ap, subst, inl}
 use Rattle.std.specs.Prelude.{Option, Err, map, string_bytes}
 use Rattle.pass_cli.specs.Asked.{IsAsked, IsPut}
 use Rattle.pass_cli.specs.declared.words.Question.{Question}
-use Rattle.pass_cli.specs.declared.words.Command.TheVariants.{Run, Ask}
-use Rattle.pass_cli.proofs.Commands.{ok_same, runs, asks, refuses, refusal_read}
+use Rattle.pass_cli.specs.declared.words.Command.TheVariants.{Run, Ask, Follow}
+use Rattle.pass_cli.proofs.Commands.{ok_same, runs, runs_only, follows, asks, refuses, refusal_read}
+use Rattle.pass_cli.proofs.Streams.{untouched_on_disk}
 use Rattle.pass_cli.proofs.main_call.pass_main.Goals as goal
 
 pub returns-in-Ok-Run-clause-asked : goal.returns-in-Ok-Run-clause-asked
@@ -31,7 +32,7 @@ pub returns-in-Ok-Ask-clause-stops : goal.returns-in-Ok-Ask-clause-stops
 returns-in-Ok-Ask-clause-stops g c = λ tells run. absurd ((asks (map string_bytes c.args.words.now) c.read_words.result c.read_words.ensures.command c.in-Ok-Ask.question (ok_same c.read_words.result c.in-Ok-Ask.field-0 (Ask c.in-Ok-Ask.question) c.in-Ok-Ask.is c.in-Ok-Ask.field-0-is)).0 run)
 
 pub returns-in-Ok-Ask-clause-asked : goal.returns-in-Ok-Ask-clause-asked
-returns-in-Ok-Ask-clause-asked g c = λ other known.
+returns-in-Ok-Ask-clause-asked g c = λ other plain known.
     let words = map string_bytes c.args.words.now in
     subst (λ (asked : Option Question). IsAsked asked (g.D.Disk.view c.args.disk) (g.D.Disk.view c.answered.result.disk)
     (record { tells = g.K.Sink.tells; before = g.K.Sink.taken c.args.sink.now; after = g.K.Sink.taken c.answered.new.sink }) c.answered.result.status)
@@ -39,7 +40,7 @@ returns-in-Ok-Ask-clause-asked g c = λ other known.
     (c.answered.ensures.answer known)
 
 pub returns-in-Ok-Ask-clause-unopened : goal.returns-in-Ok-Ask-clause-unopened
-returns-in-Ok-Ask-clause-unopened g c = λ other lost.
+returns-in-Ok-Ask-clause-unopened g c = λ other plain lost.
     let words = map string_bytes c.args.words.now in
     let asked = (asks words c.read_words.result c.read_words.ensures.command c.in-Ok-Ask.question (ok_same c.read_words.result c.in-Ok-Ask.field-0 (Ask c.in-Ok-Ask.question) c.in-Ok-Ask.is c.in-Ok-Ask.field-0-is)).1 in
     c.answered.ensures.unopened (λ put. lost (subst IsPut (sym asked) put))
@@ -59,7 +60,7 @@ returns-in-Err-clause-stops g c = λ tells run known.
     absurd ((refuses (map string_bytes c.args.words.now) c.read_words.result c.read_words.ensures.command c.in-Err.status c.in-Err.is (λ starved. known (c.answered-in-Err.ensures.starved (ap Err starved)))).0 run)
 
 pub returns-in-Err-clause-asked : goal.returns-in-Err-clause-asked
-returns-in-Err-clause-asked g c = λ other known.
+returns-in-Err-clause-asked g c = λ other plain known.
     let words = map string_bytes c.args.words.now in
     subst (λ (asked : Option Question). IsAsked asked (g.D.Disk.view c.args.disk) (g.D.Disk.view c.answered-in-Err.result.disk)
     (record { tells = g.K.Sink.tells; before = g.K.Sink.taken c.args.sink.now; after = g.K.Sink.taken c.answered-in-Err.new.sink }) c.answered-in-Err.result.status)
@@ -67,4 +68,45 @@ returns-in-Err-clause-asked g c = λ other known.
     (c.answered-in-Err.ensures.answer known)
 
 pub returns-in-Err-clause-unopened : goal.returns-in-Err-clause-unopened
-returns-in-Err-clause-unopened g c = λ other lost. c.answered-in-Err.ensures.unopened (λ put. put)
+returns-in-Err-clause-unopened g c = λ other plain lost. c.answered-in-Err.ensures.unopened (λ put. put)
+
+pub returns-in-Ok-Run-clause-follow : goal.returns-in-Ok-Run-clause-follow
+returns-in-Ok-Run-clause-follow g c = λ is. absurd (runs_only (map string_bytes c.args.words.now) c.read_words.result c.read_words.ensures.command c.in-Ok-Run.workers (ok_same c.read_words.result c.in-Ok-Run.field-0 (Run c.in-Ok-Run.workers) c.in-Ok-Run.is c.in-Ok-Run.field-0-is) is)
+
+pub returns-in-Ok-Ask-clause-follow : goal.returns-in-Ok-Ask-clause-follow
+returns-in-Ok-Ask-clause-follow g c = λ is. absurd ((asks (map string_bytes c.args.words.now) c.read_words.result c.read_words.ensures.command c.in-Ok-Ask.question (ok_same c.read_words.result c.in-Ok-Ask.field-0 (Ask c.in-Ok-Ask.question) c.in-Ok-Ask.is c.in-Ok-Ask.field-0-is)).2 is)
+
+pub returns-in-Ok-Run-clause-followed : goal.returns-in-Ok-Run-clause-followed
+returns-in-Ok-Run-clause-followed g c = λ is. absurd (runs_only (map string_bytes c.args.words.now) c.read_words.result c.read_words.ensures.command c.in-Ok-Run.workers (ok_same c.read_words.result c.in-Ok-Run.field-0 (Run c.in-Ok-Run.workers) c.in-Ok-Run.is c.in-Ok-Run.field-0-is) is)
+
+pub returns-in-Ok-Ask-clause-followed : goal.returns-in-Ok-Ask-clause-followed
+returns-in-Ok-Ask-clause-followed g c = λ is. absurd ((asks (map string_bytes c.args.words.now) c.read_words.result c.read_words.ensures.command c.in-Ok-Ask.question (ok_same c.read_words.result c.in-Ok-Ask.field-0 (Ask c.in-Ok-Ask.question) c.in-Ok-Ask.is c.in-Ok-Ask.field-0-is)).2 is)
+
+pub returns-in-Err-clause-follow : goal.returns-in-Err-clause-follow
+returns-in-Err-clause-follow g c = λ is known.
+    absurd ((refuses (map string_bytes c.args.words.now) c.read_words.result c.read_words.ensures.command c.in-Err.status c.in-Err.is (λ starved. known (c.answered-in-Err.ensures.starved (ap Err starved)))).2 is)
+
+pub returns-in-Err-clause-followed : goal.returns-in-Err-clause-followed
+returns-in-Err-clause-followed g c = λ is.
+    untouched_on_disk g.D.Disk.view g.S.Source.tells (g.S.Source.left c.args.source.now) c.args.disk c.answered-in-Err.result.disk (c.answered-in-Err.ensures.unopened (λ put. put))
+
+pub returns-in-Ok-Follow-clause-run : goal.returns-in-Ok-Follow-clause-run
+returns-in-Ok-Follow-clause-run g c = λ run. absurd ((follows (map string_bytes c.args.words.now) c.read_words.result c.read_words.ensures.command (ok_same c.read_words.result c.in-Ok-Follow.field-0 Follow c.in-Ok-Follow.is c.in-Ok-Follow.field-0-is)).1 run)
+
+pub returns-in-Ok-Follow-clause-recorded : goal.returns-in-Ok-Follow-clause-recorded
+returns-in-Ok-Follow-clause-recorded g c = λ run. absurd ((follows (map string_bytes c.args.words.now) c.read_words.result c.read_words.ensures.command (ok_same c.read_words.result c.in-Ok-Follow.field-0 Follow c.in-Ok-Follow.is c.in-Ok-Follow.field-0-is)).1 run)
+
+pub returns-in-Ok-Follow-clause-stops : goal.returns-in-Ok-Follow-clause-stops
+returns-in-Ok-Follow-clause-stops g c = λ tells run. absurd ((follows (map string_bytes c.args.words.now) c.read_words.result c.read_words.ensures.command (ok_same c.read_words.result c.in-Ok-Follow.field-0 Follow c.in-Ok-Follow.is c.in-Ok-Follow.field-0-is)).1 run)
+
+pub returns-in-Ok-Follow-clause-asked : goal.returns-in-Ok-Follow-clause-asked
+returns-in-Ok-Follow-clause-asked g c = λ other plain. absurd (plain (follows (map string_bytes c.args.words.now) c.read_words.result c.read_words.ensures.command (ok_same c.read_words.result c.in-Ok-Follow.field-0 Follow c.in-Ok-Follow.is c.in-Ok-Follow.field-0-is)).0)
+
+pub returns-in-Ok-Follow-clause-alone : goal.returns-in-Ok-Follow-clause-alone
+returns-in-Ok-Follow-clause-alone g c = λ other plain. absurd (plain (follows (map string_bytes c.args.words.now) c.read_words.result c.read_words.ensures.command (ok_same c.read_words.result c.in-Ok-Follow.field-0 Follow c.in-Ok-Follow.is c.in-Ok-Follow.field-0-is)).0)
+
+pub returns-in-Ok-Follow-clause-unopened : goal.returns-in-Ok-Follow-clause-unopened
+returns-in-Ok-Follow-clause-unopened g c = λ other plain. absurd (plain (follows (map string_bytes c.args.words.now) c.read_words.result c.read_words.ensures.command (ok_same c.read_words.result c.in-Ok-Follow.field-0 Follow c.in-Ok-Follow.is c.in-Ok-Follow.field-0-is)).0)
+
+pub returns-in-Ok-Follow-clause-unread : goal.returns-in-Ok-Follow-clause-unread
+returns-in-Ok-Follow-clause-unread g c = λ other plain. absurd (plain (follows (map string_bytes c.args.words.now) c.read_words.result c.read_words.ensures.command (ok_same c.read_words.result c.in-Ok-Follow.field-0 Follow c.in-Ok-Follow.is c.in-Ok-Follow.field-0-is)).0)

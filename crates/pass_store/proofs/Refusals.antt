@@ -57,6 +57,9 @@ tag_asks fd attr value low names = record { request = requests.TagObj fd attr va
 pub disclose_asks : (fd source : ℕ) → (fd < 64) × (source < 64) → Asks calls.Disclose (ask.HeldTwo fd source)
 disclose_asks fd source low = record { request = requests.Disclose fd source; named = refl; asked = refl; within = disclose_within fd source low }
 
+pub child_asks : (child : ℕ) → Asks calls.WaitChild (ask.Child child)
+child_asks child = record { request = requests.WaitChild child; named = refl; asked = refl; within = refl }
+
 -- what is held where it is not refused
 pub read_held : (p : Process) (fd : ℕ) → refusal p (ask.ToRead fd) ≡ None → is_held p fd ≡ true
 read_held p fd fine = let (d, at) = read_at p fd fine in ap is_some at

@@ -1,3 +1,4 @@
+pub mod Children
 pub mod Grounds
 pub mod Meetings
 pub mod Slots

@@ -5,7 +5,9 @@ mod asking;
 mod blank;
 mod cellar;
 mod disclosing;
+mod exiting;
 mod flows;
+mod forking;
 mod ground;
 mod locks;
 mod meeting;
@@ -14,6 +16,7 @@ mod running;
 mod slot;
 mod store;
 mod transfers;
+mod waiting;
 
 pub use blank::Blank;
 pub use cellar::Cellar;

@@ -1,0 +1,115 @@
+//! The call `exit`.
+ghost use Rattle.std.specs.Prelude.{◌≡◌, ℕ, List, None, Some, slice_get};
+ghost use Rattle.pass_entry.specs.declared.entry.Entry.{Entry as AnyEntry};
+ghost use Rattle.pass_lives.specs.Exits.{HasExited};
+ghost use Rattle.pass_store.specs.Slots.{Has};
+ghost use Rattle.pass_store.specs.declared.slot.Sought.TheVariants as sought;
+
+use crate::ground::Opening;
+use crate::slot::{Slot, Sought};
+use crate::store::Store;
+use pass_entry::Descriptor;
+use pass_hold::{Shelf, Whose};
+use pass_lives::{Exiting, begin_exit, end_exit, leave};
+use pass_outside::{Disk, Gate};
+use pass_proc::{Proc, Trail};
+use std::alloc::Global;
+use std::mem;
+use std::sync::Wait;
+
+/// Leaves the pipe that lies in a slot.
+fn leave_in<J: Whose>(
+    alloc: Global,
+    slot: &mut Slot<J>,
+    shelf: &mut Shelf<J>,
+    exiting: &mut Exiting<J>,
+    d: &Descriptor,
+)
+    requires pipe { Has slot.old sought.Pipe d.now.pnode }
+    requires next { slice_get exiting.old.rest 0 ≡ Some d.now }
+    ensures before { exiting.new.before ≡ exiting.old.before }
+{
+    match slot {
+        Slot::Pipe(pipe) => leave(alloc, pipe, shelf, exiting, d),
+        _ => unreachable!(),
+    }
+}
+
+/// Ends a process whose right to end lies in a slot. From then on the process lies there.
+fn end_in<J: Whose>(
+    alloc: Global,
+    slot: &mut Slot<J>,
+    shelf: &mut Shelf<J>,
+    exiting: Exiting<J>,
+) -> (u64, Trail<J>)
+    requires living { Has slot.old sought.Living exiting.before.who }
+    requires left { slice_get exiting.rest 0 ≡ None }
+    ensures call { HasExited J.book.session exiting.before result.1.seen result.0 }
+    ensures who { result.1.who ≡ exiting.before.who }
+{
+    match mem::replace(slot, Slot::Empty) {
+        Slot::Living(living) => {
+            let (place, ended, trail) = end_exit(alloc, shelf, exiting, living);
+            *slot = Slot::Ended(ended);
+            (place, trail)
+        }
+        _ => unreachable!(),
+    }
+}
+
+impl<'g, J: Opening, D: Disk, G: Gate> Store<'g, J, D, G> {
+    /// Leaves the next pipe of a process that exits, under its lock.
+    fn leave_next<R: Wait>(&self, rt: &R, alloc: Global, exiting: &mut Exiting<J>, d: &Descriptor)
+        requires next { slice_get exiting.old.rest 0 ≡ Some d.now }
+        ensures before { exiting.new.before ≡ exiting.old.before }
+    {
+        let mut slot = self.locks.hold(rt, alloc, d.pnode, Sought::Pipe);
+        self.gate.inside(d.pnode);
+        let mut shelf = self.locks.book.lock(rt);
+        leave_in(alloc, &mut slot, &mut shelf, exiting, d);
+    }
+
+    /// Leaves the pipes of a process that exits, each under its lock.
+    fn leave_all<R: Wait>(&self, rt: &R, alloc: Global, exiting: Exiting<J>) -> Exiting<J>
+        ensures before { result.before ≡ exiting.before }
+        ensures left { slice_get result.rest 0 ≡ None }
+    {
+        let mut exiting = exiting;
+        for _ in rt.forever() {
+            let Some(d) = exiting.next() else {
+                return exiting;
+            };
+            self.leave_next(rt, alloc, &mut exiting, &d);
+        }
+        unreachable!()
+    }
+
+    /// Ends a process. The answer is the place of its last entry, and what it had seen then. It takes no memory.
+    fn end_process<R: Wait>(&self, rt: &R, alloc: Global, proc: Proc<J>) -> (u64, Trail<J>)
+        ensures call { HasExited J.book.session proc result.1.seen result.0 }
+        ensures who { result.1.who ≡ proc.who }
+    {
+        let who = proc.pnode();
+        let exiting = self.leave_all(rt, alloc, begin_exit(proc));
+        let mut slot = self.locks.hold(rt, alloc, who, Sought::Living);
+        self.gate.inside(who);
+        let mut shelf = self.locks.book.lock(rt);
+        end_in(alloc, &mut slot, &mut shelf, exiting)
+    }
+
+    /// Ends a process, which gives up all its descriptors, and answers the place of its last entry. It is not refused: its places were
+    /// claimed as it was made. It takes no memory.
+    pub fn exit<R: Wait>(&self, rt: &R, alloc: Global, proc: Proc<J>) -> u64
+        ensures { (seen : List AnyEntry) × HasExited J.book.session proc seen result }
+    {
+        self.end_process(rt, alloc, proc).0
+    }
+
+    /// Ends a process as `exit` does, and answers what it had seen then.
+    pub fn retire<R: Wait>(&self, rt: &R, alloc: Global, proc: Proc<J>) -> Trail<J>
+        ensures call { (place : ℕ) × HasExited J.book.session proc result.seen place }
+        ensures who { result.who ≡ proc.who }
+    {
+        self.end_process(rt, alloc, proc).1
+    }
+}

@@ -14,6 +14,7 @@ ghost use Rattle.pass_hold.specs.Callers.{moved_on};
 ghost use Rattle.pass_hold.specs.Callings.{IsEntered};
 ghost use Rattle.pass_hold.specs.Places.{HasRoom};
 ghost use Rattle.pass_registry.specs.Desks.{IsMade, on_registry};
+ghost use Rattle.pass_registry.specs.Files.{files_of};
 ghost use Rattle.pass_registry.specs.Listed.{lost_by};
 ghost use Rattle.pass_registry.specs.Outcomes.{reply_done, reply_made};
 ghost use Rattle.pass_registry.specs.States.{IsOf};
@@ -133,6 +134,13 @@ impl<J: Whose> RegistryDesk<J> {
         ensures some { IsSome result ↔ Exists (registry_after J.book.session self.now.seen) file kinds.File }
     {
         self.registry.number(file)
+    }
+
+    /// How many files the store has.
+    pub fn files(&self) -> u32
+        ensures { result ≡ length (files_of (registry_after J.book.session self.now.seen).objects) }
+    {
+        self.registry.files()
     }
 
     /// The number that the next object gets, as long as this desk is held.

@@ -1,9 +1,9 @@
 //! The objects of a store by their numbers.
-ghost use Rattle.std.specs.Prelude.{◌≡◌, ◌≤◌, ◌<◌, ◌-◌, ◌++◌, ◌∷◌, [], ◌==◌, ◌&&◌, false, is_some, find, IfOk};
+ghost use Rattle.std.specs.Prelude.{◌≡◌, ◌≤◌, ◌<◌, ◌-◌, ◌++◌, ◌∷◌, [], ◌==◌, ◌&&◌, false, is_some, find, length, IfOk};
 ghost use Rattle.std.specs.List.{list_any};
 ghost use Rattle.pass_entry.specs.declared.objects.Kind.TheVariants as kinds;
 ghost use Rattle.pass_plain.specs.Registries.{same_kind};
-ghost use Rattle.pass_registry.specs.Files.{number_of};
+ghost use Rattle.pass_registry.specs.Files.{files_of, number_of};
 
 use indexmap::IndexMap;
 use pass_entry::{KIND_LIMIT, Kind, Pnode};
@@ -135,5 +135,12 @@ impl Objects {
             Some(object) => object.number(),
             None => None,
         }
+    }
+
+    /// How many files there are.
+    pub fn files(&self) -> u32
+        ensures { result ≡ length (files_of self.now.objects) }
+    {
+        self.files
     }
 }

@@ -14,7 +14,7 @@ ghost use Rattle.pass_plain.specs.Replies.{is_app_object};
 ghost use Rattle.pass_plain.specs.Sessions.{Session};
 ghost use Rattle.pass_plain.specs.Sound.{IsSound};
 ghost use Rattle.pass_plain.specs.States.{registry_reply};
-ghost use Rattle.pass_registry.specs.Files.{number_of};
+ghost use Rattle.pass_registry.specs.Files.{files_of, number_of};
 ghost use Rattle.pass_registry.specs.Outcomes.{minted, displaced, reply_made, reply_done};
 ghost use Rattle.pass_registry.specs.States.{IsOf, next_pnode, opened, with_act};
 ghost use Rattle.pass_registry.specs.Openings.{IsSingle, file_object, app_object};
@@ -202,6 +202,13 @@ impl Registry {
         ensures some { IsSome result ↔ Exists self.now.registry file kinds.File }
     {
         self.table.number(file)
+    }
+
+    /// How many files the store has.
+    pub fn files(&self) -> u32
+        ensures { result ≡ length (files_of self.now.registry.objects) }
+    {
+        self.table.files()
     }
 
     /// The number that the next object gets.

@@ -1,4 +1,4 @@
--- The text that is written of a trace that was read is the text of the same trace.
+-- The text that is written of lines that may follow each other is one of a trace, and says them again.
 use Rattle.std.proofs.Common.{◌≡◌, ℕ, suc, ◌+◌, ◌<◌, ◌≤◌, Bool, true, false, not, ◌&&◌, ◌||◌, cond, eqb, leb, ltb, List, [], ◌∷◌, ◌++◌, length, get_or, fold, map, Option, Some, None, Result, Ok, Err, refl, sym, ap, ◌∙◌, subst, inl, inr, arith, append_assoc, append-nil, length-append}
 use Rattle.std.specs.List.{list_all, list_any, onto_first}
 use Rattle.std.proofs.Math.Seq.{take-append_seam, get_or-append_seam}
@@ -10,12 +10,13 @@ use Rattle.pass_trace.specs.declared.trace.TraceLine.{TraceLine}
 use Rattle.pass_trace.specs.declared.trace.TraceReason.{TraceReason}
 use Rattle.pass_trace.specs.declared.trace.TraceReason.TheVariants as reason
 use Rattle.pass_trace.specs.Lines.{lines_of, words_of}
-use Rattle.pass_trace.specs.Rules.{is_fork_of, is_there, may_call, creates, count_created, rule_of}
+use Rattle.pass_trace.specs.Ranges.{IsGoodLine}
+use Rattle.pass_trace.specs.Rules.{is_fork_of, is_there, may_call, creates, count_created, rule_of, LinesFollow}
 use Rattle.pass_trace.specs.Commands.{◌>>=◌}
 use Rattle.pass_trace.specs.Traces.{line_of, text_line_of, said, lines_from, reason_behind, fault_at, trace_of, IsTraceText}
 use Rattle.pass_trace.specs.Texts.{line_text, text_of, renumbered_from}
 use Rattle.pass_trace.proofs.LinesLemmas.{lines_from-push}
-use Rattle.pass_trace.proofs.Good.{IsGoodLine, text_line_is}
+use Rattle.pass_trace.proofs.Good.{text_line_is}
 use Rattle.pass_trace.proofs.Written.{renumbered, text_line_of-text, is_printable-text}
 
 -- no line has a fault, where the first has this number and stands behind these lines of the trace
@@ -60,20 +61,16 @@ NoFault-from before (text ∷ texts) s k from to =
           subst (λ ts. fault_at ts k ≡ None) whole at
     ]
 
--- lines of a trace that may follow each other behind these
-abbrev Follow : List TraceLine → List TraceLine → Type 0
-Follow earlier [] = Unit {0}
-Follow earlier (line ∷ lines) = IsGoodLine line × (rule_of earlier line ≡ None) × Follow (earlier ++ line ∷ []) lines
+-- the lines that texts without a fault say may follow each other
+LinesFollow-step : (earlier : List TraceLine) (read : Result (Option TraceLine) TraceReason) (rest : List TraceLine) → ((line : TraceLine) → read ≡ Ok (Some line) → IsGoodLine line) → reason_behind earlier read ≡ None → LinesFollow (earlier ++ said read) rest → LinesFollow earlier (said read ++ rest)
+LinesFollow-step earlier (Ok (Some line)) rest good fits f = (good line refl, fits, f)
+LinesFollow-step earlier (Ok None) rest good fits f = subst (λ e. LinesFollow e rest) (append-nil earlier) f
+LinesFollow-step earlier (Err reason) rest good fits f = cc
 
-Follow-step : (earlier : List TraceLine) (read : Result (Option TraceLine) TraceReason) (rest : List TraceLine) → ((line : TraceLine) → read ≡ Ok (Some line) → IsGoodLine line) → reason_behind earlier read ≡ None → Follow (earlier ++ said read) rest → Follow earlier (said read ++ rest)
-Follow-step earlier (Ok (Some line)) rest good fits f = (good line refl, fits, f)
-Follow-step earlier (Ok None) rest good fits f = subst (λ e. Follow e rest) (append-nil earlier) f
-Follow-step earlier (Err reason) rest good fits f = cc
-
-Follow-from : (number : ℕ) (earlier : List TraceLine) (texts : List (List ℕ)) → Sound number earlier texts → Follow earlier (lines_from number texts)
-Follow-from number earlier [] s = tt
-Follow-from number earlier (text ∷ texts) s =
-    Follow-step earlier (text_line_of number text) (lines_from (number + 1) texts) (text_line_is number text) s.0 (Follow-from (number + 1) (earlier ++ said (text_line_of number text)) texts s.1)
+LinesFollow-from : (number : ℕ) (earlier : List TraceLine) (texts : List (List ℕ)) → Sound number earlier texts → LinesFollow earlier (lines_from number texts)
+LinesFollow-from number earlier [] s = tt
+LinesFollow-from number earlier (text ∷ texts) s =
+    LinesFollow-step earlier (text_line_of number text) (lines_from (number + 1) texts) (text_line_is number text) s.0 (LinesFollow-from (number + 1) (earlier ++ said (text_line_of number text)) texts s.1)
 
 -- a text has no more lines than are allowed
 within_cases : (a b c : Bool) (read : Result TraceLine TraceReason) (earlier : List TraceLine) → reason_behind earlier (cond a (Err reason.Many) (cond b (Err reason.Length) (cond c (Ok None) (read >>= λ l. Ok (Some l))))) ≡ None → a ≡ false
@@ -154,7 +151,7 @@ length-line_texts : (lines : List TraceLine) → length (line_texts lines) ≡ l
 length-line_texts [] = refl
 length-line_texts (line ∷ lines) = ap suc (length-line_texts lines)
 
-Sound-texts : (number : ℕ) (xs ys lines : List TraceLine) → Same xs ys → Follow xs lines → number + length lines ≤ 100001 → Sound number ys (line_texts lines)
+Sound-texts : (number : ℕ) (xs ys lines : List TraceLine) → Same xs ys → LinesFollow xs lines → number + length lines ≤ 100001 → Sound number ys (line_texts lines)
 Sound-texts number xs ys [] s f within = tt
 Sound-texts number xs ys (line ∷ lines) s f within =
     let read = text_line_of-text number line (omega (arith, within)) f.0 in
@@ -163,7 +160,7 @@ Sound-texts number xs ys (line ∷ lines) s f within =
     let rest = Sound-texts (number + 1) (xs ++ line ∷ []) (ys ++ renumbered number line ∷ []) lines next f.2 (omega (arith, within)) in
     (ap (reason_behind ys) read ∙ rule, subst (λ r. Sound (number + 1) (ys ++ said r) (line_texts lines)) (sym read) rest)
 
-lines_from-texts : (number : ℕ) (earlier lines : List TraceLine) → Follow earlier lines → number + length lines ≤ 100001 → lines_from number (line_texts lines) ≡ renumbered_from number lines
+lines_from-texts : (number : ℕ) (earlier lines : List TraceLine) → LinesFollow earlier lines → number + length lines ≤ 100001 → lines_from number (line_texts lines) ≡ renumbered_from number lines
 lines_from-texts number earlier [] f within = refl
 lines_from-texts number earlier (line ∷ lines) f within =
     let read = text_line_of-text number line (omega (arith, within)) f.0 in
@@ -177,31 +174,27 @@ lines_of-line (b ∷ text) rest h =
     let other = ne_eqb b 10 (λ e. omega (arith, e, leb-true 32 b (and_parts (leb 32 b) (leb b 126) parts.0).0)) in
     ap (λ t. cond t ([] ∷ lines_of (text ++ 10 ∷ rest)) (onto_first b (lines_of (text ++ 10 ∷ rest)))) other ∙ ap (onto_first b) (lines_of-line text rest parts.1)
 
-lines_of-text : (earlier lines : List TraceLine) → Follow earlier lines → lines_of (text_of lines) ≡ line_texts lines
+lines_of-text : (earlier lines : List TraceLine) → LinesFollow earlier lines → lines_of (text_of lines) ≡ line_texts lines
 lines_of-text earlier [] f = refl
 lines_of-text earlier (line ∷ lines) f =
     let whole = append_assoc (line_text line) (10 ∷ []) (text_of lines) in
     ap lines_of whole ∙ lines_of-line (line_text line) (text_of lines) (is_printable-text line f.0) ∙ ap (λ ts. line_text line ∷ ts) (lines_of-text (earlier ++ line ∷ []) lines f.2)
 
 -- what a text of a trace says of its lines
-follows : (bytes : List ℕ) → IsTraceText bytes → Follow [] (trace_of bytes)
-follows bytes h = Follow-from 1 [] (lines_of bytes) (Sound-from [] (lines_of bytes) h)
+pub follows : (bytes : List ℕ) → IsTraceText bytes → LinesFollow [] (trace_of bytes)
+follows bytes h = LinesFollow-from 1 [] (lines_of bytes) (Sound-from [] (lines_of bytes) h)
 
-within : (bytes : List ℕ) → IsTraceText bytes → 1 + length (trace_of bytes) ≤ 100001
+pub within : (bytes : List ℕ) → IsTraceText bytes → length (trace_of bytes) ≤ 100000
 within bytes h =
     let texts = texts_within 1 [] (lines_of bytes) (omega arith) (Sound-from [] (lines_of bytes) h) in
     omega (arith, texts, length-lines_from 1 (lines_of bytes))
 
-pub IsTraceText-text_of : (bytes : List ℕ) → IsTraceText bytes → IsTraceText (text_of (trace_of bytes))
-IsTraceText-text_of bytes h =
-    let lines = trace_of bytes in
-    let f = follows bytes h in
-    let sound = Sound-texts 1 [] [] lines tt f (within bytes h) in
+-- lines that may follow each other are the trace of what is written of them
+pub text_of-follows : (lines : List TraceLine) → LinesFollow [] lines → length lines ≤ 100000 → IsTraceText (text_of lines)
+text_of-follows lines f few =
+    let sound = Sound-texts 1 [] [] lines tt f (omega (arith, few)) in
     let none : NoFault (line_texts lines) = λ k to. NoFault-from [] (line_texts lines) sound k (omega arith) to in
     subst NoFault (sym (lines_of-text [] lines f)) none
 
-pub trace_of-text_of : (bytes : List ℕ) → IsTraceText bytes → trace_of (text_of (trace_of bytes)) ≡ renumbered_from 1 (trace_of bytes)
-trace_of-text_of bytes h =
-    let lines = trace_of bytes in
-    let f = follows bytes h in
-    ap (lines_from 1) (lines_of-text [] lines f) ∙ lines_from-texts 1 [] lines f (within bytes h)
+pub trace_of-follows : (lines : List TraceLine) → LinesFollow [] lines → length lines ≤ 100000 → trace_of (text_of lines) ≡ renumbered_from 1 lines
+trace_of-follows lines f few = ap (lines_from 1) (lines_of-text [] lines f) ∙ lines_from-texts 1 [] lines f (omega (arith, few))

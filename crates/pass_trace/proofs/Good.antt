@@ -7,7 +7,6 @@ use Rattle.hex.specs.Hex.{IsBytes, decode_of, decode_sized}
 use Rattle.hex.specs.declared.error.FromHexError.{FromHexError}
 use Rattle.hex.proofs.HexLemmas.{decode_of-ok, decode_sized-ok, decode_sized-twice}
 use Rattle.pass_entry.specs.Texts.{is_name, is_line, is_name_byte, IsName, IsLine}
-use Rattle.pass_entry.specs.declared.objects.Mode as entry
 use Rattle.pass_entry.specs.declared.objects.Mode.TheVariants as mode
 use Rattle.pass_trace.specs.declared.trace.Command.{Command}
 use Rattle.pass_trace.specs.declared.trace.Command.TheVariants as command
@@ -22,55 +21,17 @@ use Rattle.pass_entry.specs.declared.entry.CallName.{CallName}
 use Rattle.pass_entry.specs.declared.entry.CallName.TheVariants as call
 use Rattle.pass_trace.specs.Calls.{forms_of}
 use Rattle.pass_trace.specs.Lines.{words_of}
+pub use Rattle.pass_trace.specs.Ranges.{IsPayload, IsMode, IsArgs, IsGood, IsGoodLine}
 use Rattle.pass_trace.specs.Rules.{child_of}
 use Rattle.pass_trace.specs.Words.{is_text, is_word, is_number, is_payload, have_forms, have_these, value_of}
 use Rattle.pass_trace.specs.Commands.{◌>>=◌, word_at, number_in, process_of, fd_of, name_of, mode_of, given, decoded, repeated_of, hex_of, payload_of, args_of, command_of, creat_of, open_of, close_of, read_of, write_of, seek_of, truncate_of, pipe_of, fork_of, exec_of, wait_of, rename_of, unlink_of, mkobj_of, revive_of, freeze_of, disclose_of, tag_of, sync_of}
 use Rattle.pass_trace.specs.Traces.{has_row, row_of, call_line_of, line_of, text_line_of}
-
-abbrev pub IsPayload : Payload → Type 0
-IsPayload (Given bytes) = (length bytes ≤ 4096) × IsBytes bytes
-IsPayload Last = Unit {0}
-
-abbrev pub IsMode : entry.Mode → Type 0
-IsMode mode.App = ⊥
-IsMode _ = Unit {0}
-
--- the arguments are a line, made of words
-pub record IsArgs (args : List ℕ) : Type 0 where
-  pub line : IsLine args
-  pub words : (ws : List (List ℕ)) × (list_all is_word ws ≡ true) × (args ≡ join_with_byte 32 ws)
-
-abbrev pub IsGood : Command → Type 0
-IsGood (command.Creat fd name) = (fd ≤ 63) × IsName name
-IsGood (command.Open fd name mode) = (fd ≤ 63) × IsName name × IsMode mode
-IsGood (command.Close fd) = fd ≤ 63
-IsGood (command.Read fd len) = (fd ≤ 63) × (1 ≤ len) × (len ≤ 4096)
-IsGood (command.Write fd payload) = (fd ≤ 63) × IsPayload payload
-IsGood (command.Seek fd off) = (fd ≤ 63) × (off ≤ 4294967295)
-IsGood (command.Truncate fd size) = (fd ≤ 63) × (size ≤ 4294967295)
-IsGood (command.Pipe reader writer) = (reader ≤ 63) × (writer ≤ 63)
-IsGood (command.Fork child) = (1 ≤ child) × (child ≤ 8192)
-IsGood (command.Exec name args) = IsName name × IsArgs args
-IsGood (command.Wait child) = (1 ≤ child) × (child ≤ 8192)
-IsGood (command.Rename from to) = IsName from × IsName to
-IsGood (command.Unlink name) = IsName name
-IsGood (command.MkObj fd) = fd ≤ 63
-IsGood (command.Revive fd pnode) = (fd ≤ 63) × (1 ≤ pnode) × (pnode ≤ 2 ^ 48 - 1)
-IsGood (command.Freeze fd) = fd ≤ 63
-IsGood (command.Disclose target source) = (target ≤ 63) × (source ≤ 63)
-IsGood (command.Tag fd attr value) = (fd ≤ 63) × IsName attr × IsName value
-IsGood (command.Sync fd) = fd ≤ 63
 
 -- the process that a command names is one of a trace
 pub child_of-le : (c : Command) → IsGood c → child_of c ≤ 8192
 child_of-le (command.Fork child) h = h.1
 child_of-le (command.Wait child) h = h.1
 child_of-le _ h = omega arith
-
-pub record IsGoodLine (line : TraceLine) : Type 0 where
-  pub from : 1 ≤ line.process
-  pub to : line.process ≤ 8192
-  pub command : IsGood line.command
 
 guard_ok : {A B : Type 0} (b : Bool) (x y : A) (e : B) → cond b (Ok x) (Err e) ≡ Ok y → (b ≡ true) × (x ≡ y)
 guard_ok true x y e h = (refl, cc)

@@ -23,11 +23,11 @@ use Rattle.pass_entry.specs.declared.entry.CallName.{CallName}
 use Rattle.pass_entry.specs.declared.entry.CallName.TheVariants as call
 use Rattle.pass_trace.specs.Calls.{forms_of}
 use Rattle.pass_trace.specs.Lines.{is_skipped, words_of}
-use Rattle.pass_trace.specs.Words.{is_word, is_mode, is_hex, is_payload, have_forms, have_these}
+use Rattle.pass_trace.specs.Words.{is_word, is_mode, is_hex, is_payload, have_these}
 use Rattle.pass_trace.specs.Commands.{◌>>=◌, number_in, process_of, fd_of, name_of, mode_of, given, decoded, hex_of, payload_of, args_of, command_of, creat_of, open_of, close_of, read_of, write_of, seek_of, truncate_of, pipe_of, fork_of, exec_of, wait_of, rename_of, unlink_of, mkobj_of, revive_of, freeze_of, disclose_of, tag_of, sync_of}
 use Rattle.pass_trace.specs.Traces.{row_of, call_line_of, line_of, text_line_of}
 use Rattle.pass_trace.specs.Texts.{spaced, payload_word, mode_word, command_words, line_text}
-use Rattle.pass_trace.proofs.Good.{IsGood, IsGoodLine, IsPayload, IsMode, IsArgs}
+use Rattle.pass_trace.specs.Ranges.{IsGood, IsGoodLine, IsPayload, IsMode, IsArgs}
 use Rattle.pass_trace.proofs.Spelled.{are_graphic, words_of-behind, words_of-spaced, join_with_byte-spaced, are_printable, are_graphic-decimal, is_number-decimal, number_in-decimal}
 
 abbrev pub call_named : Command → CallName

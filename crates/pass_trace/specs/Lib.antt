@@ -4,6 +4,7 @@ pub mod Gives
 pub mod Lawful
 pub mod Limits
 pub mod Lines
+pub mod Ranges
 pub mod Reasons
 pub mod Rules
 pub mod Tables

@@ -1,7 +1,8 @@
 -- The rules that look at the earlier lines of a trace. All of them are this project's own.
-use Rattle.std.specs.Prelude.{ℕ, ◌&&◌, ◌||◌, ◌==◌, nat_le, Bool, true, false, not, List, if◌then◌else◌, Option, Some, None, count_by}
+use Rattle.std.specs.Prelude.{◌≡◌, ℕ, ◌&&◌, ◌||◌, ◌==◌, nat_le, Bool, true, false, not, List, [], ◌∷◌, ◌++◌, if◌then◌else◌, Option, Some, None, count_by}
 use Rattle.std.specs.List.{list_any}
 use Rattle.pass_trace.specs.Limits.{most_created}
+use Rattle.pass_trace.specs.Ranges.{IsGoodLine}
 use Rattle.pass_trace.specs.declared.trace.Command.{Command}
 use Rattle.pass_trace.specs.declared.trace.Command.TheVariants.{Creat, Pipe, Fork, Wait, MkObj}
 use Rattle.pass_trace.specs.declared.trace.TraceLine.{TraceLine}
@@ -56,3 +57,8 @@ abbrev pub child_of : Command → ℕ
 child_of (Fork child) = child
 child_of (Wait child) = child
 child_of _ = 0
+
+-- the lines may stand behind the earlier ones, each with its fields in their ranges and no reason against its place
+abbrev pub LinesFollow : List TraceLine → List TraceLine → Type 0
+LinesFollow earlier [] = Unit {0}
+LinesFollow earlier (line ∷ lines) = IsGoodLine line × (rule_of earlier line ≡ None) × LinesFollow (earlier ++ line ∷ []) lines

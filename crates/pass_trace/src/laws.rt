@@ -1,7 +1,10 @@
 //! What holds of texts and traces.
-ghost use Rattle.std.specs.Prelude.{◌≡◌, ◌⊎◌, ℕ, List};
+ghost use Rattle.std.specs.Prelude.{◌≡◌, ◌≤◌, ◌⊎◌, ℕ, List, [], length};
+ghost use Rattle.pass_trace.specs.declared.trace.TraceLine.{TraceLine};
 ghost use Rattle.pass_trace.specs.declared.trace.TraceReason.{TraceReason};
 ghost use Rattle.pass_trace.specs.Lawful.{ObjectsLaw, StaysLaw, TooLongLaw};
+ghost use Rattle.pass_trace.specs.Limits.{most_lines};
+ghost use Rattle.pass_trace.specs.Rules.{LinesFollow};
 ghost use Rattle.pass_trace.specs.Traces.{trace_of, IsTraceText, IsFirstFault};
 ghost use Rattle.pass_trace.specs.Texts.{text_of, renumbered_from};
 
@@ -14,6 +17,17 @@ pub fn text_or_one_fault()
     ensures alone { (bytes : List ℕ) (line other : ℕ) (reason another : TraceReason) →
         IsFirstFault bytes line reason → IsFirstFault bytes other another →
         (line ≡ other) × (reason ≡ another) }
+{}
+
+/// The lines of a trace may follow each other. No more than a text may have, that may follow each other, are the
+/// trace of what is written of them, numbered from 1.
+pub fn lines_that_follow()
+    ensures lines { (bytes : List ℕ) → IsTraceText bytes →
+        LinesFollow [] (trace_of bytes) × (length (trace_of bytes) ≤ most_lines) }
+    ensures text { (lines : List TraceLine) → LinesFollow [] lines → length lines ≤ most_lines →
+        IsTraceText (text_of lines) }
+    ensures trace { (lines : List TraceLine) → LinesFollow [] lines → length lines ≤ most_lines →
+        trace_of (text_of lines) ≡ renumbered_from 1 lines }
 {}
 
 /// What is written of the trace of a text is a text with the same processes and commands, whose

@@ -1,8 +1,9 @@
-use Rattle.pass_trace.proofs.Again.{IsTraceText-text_of, trace_of-text_of}
+use Rattle.pass_trace.specs.Traces.{trace_of}
+use Rattle.pass_trace.proofs.Again.{follows, within, text_of-follows, trace_of-follows}
 use Rattle.pass_trace.proofs.laws.written_is_read_again.Goals as goal
 
 pub returns-clause-text : goal.returns-clause-text
-returns-clause-text c = IsTraceText-text_of
+returns-clause-text c bytes h = text_of-follows (trace_of bytes) (follows bytes h) (within bytes h)
 
 pub returns-clause-trace : goal.returns-clause-trace
-returns-clause-trace c = trace_of-text_of
+returns-clause-trace c bytes h = trace_of-follows (trace_of bytes) (follows bytes h) (within bytes h)

@@ -1,1 +1,3 @@
+mod Follows
 mod Mapped
+mod Numbers

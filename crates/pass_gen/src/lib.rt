@@ -6,6 +6,8 @@ ghost use Rattle.pass_entry.specs.Limits.{transfer_limit};
 ghost use Rattle.pass_trace.specs.Limits.{most_lines};
 ghost use Rattle.pass_gen.specs.Generated.{line, command_of, transfer_of, first_lines, drawn_lines, last_lines, generated};
 
+pub mod laws;
+
 use pass_entry::{Bytes, Text};
 use pass_trace::{Command, Payload, Trace, TraceLine};
 use rand_core::SeedableRng;

@@ -1,0 +1,15 @@
+//! What holds of every trace that is drawn.
+ghost use Rattle.std.specs.Prelude.{◌≡◌, ◌≤◌, ℕ};
+ghost use Rattle.pass_trace.specs.Limits.{most_lines};
+ghost use Rattle.pass_trace.specs.Texts.{text_of};
+ghost use Rattle.pass_trace.specs.Traces.{trace_of, IsTraceText};
+ghost use Rattle.pass_gen.specs.Generated.{generated};
+
+/// What a number draws is the trace of the text that is written of it.
+pub fn generated_is_read()
+    ensures text { (number lines : ℕ) → 15 ≤ lines → lines ≤ most_lines → IsTraceText (text_of (generated number lines)) }
+    ensures trace { (number lines : ℕ) → 15 ≤ lines → lines ≤ most_lines →
+        generated number lines ≡ trace_of (text_of (generated number lines)) }
+{
+    pass_trace::laws::lines_that_follow();
+}

@@ -12,6 +12,7 @@ use Rattle.pass_plain.specs.Histories.{is_fault, pnode_of}
 use Rattle.pass_plain.specs.Registries.{same_kind}
 use Rattle.pass_plain.proofs.TwoPrefixes.{none_later}
 use Rattle.pass_plain.proofs.Appends.{or_none}
+use Rattle.pass_plain.proofs.Lists.{some_is}
 use Rattle.pass_book.proofs.Prefixes.{prefix_self}
 use mathlib.Core.List.{IsPrefix}
 use Rattle.pass_entry.specs.declared.entry.Entry.{Entry}
@@ -52,6 +53,15 @@ durable_grows c k (x ∷ xs) ys r = durable_grows x.calls x.entries xs ys r.2
 -- a beginning of the list has no higher number at its end
 pub durable_begins : (xs ss : List VaultSync) → IsPrefix xs ss → IsRising ss → durable xs ≤ durable ss
 durable_begins xs ss p r = let P : List VaultSync → Type 0 = λ l. durable xs ≤ durable l in subst P p.1 (durable_grows 0 0 xs p.0 (subst IsRising (sym p.1) r))
+
+durable_at_from : (c k : ℕ) (ss : List VaultSync) (i : ℕ) (s : VaultSync) → rising_from c k ss → slice_get ss i ≡ Some s → s.entries ≤ durable_from k ss
+durable_at_from c k [] i s r at = absurd (cc)
+durable_at_from c k (x ∷ xs) zero s r at = let is : x ≡ s = some_is x s at in subst (λ (y : VaultSync). y.entries ≤ durable_from x.entries xs) is (durable_grows x.calls x.entries [] xs r.2)
+durable_at_from c k (x ∷ xs) (suc i) s r at = durable_at_from x.calls x.entries xs i s r.2 at
+
+-- no sync of a list has more entries than its last one
+pub durable_at : (ss : List VaultSync) (i : ℕ) (s : VaultSync) → IsRising ss → slice_get ss i ≡ Some s → s.entries ≤ durable ss
+durable_at ss i s rising at = durable_at_from 0 0 ss i s rising at
 
 rises_before : (c k : ℕ) (xs ys : List VaultSync) → rising_from c k (xs ++ ys) → rising_from c k xs
 rises_before c k [] ys r = tt

@@ -117,3 +117,8 @@ met_seat id old table us ws x vs e is same seat note session =
 pub past_unlisted : (session : Session) (h : List Entry) (ss : List VaultSync) → IsPast session h ss → IsPast session h []
 unfolding IsPast
 past_unlisted session h ss p = (p.0, p.1, tt)
+
+-- the list alone
+pub past_list : (session : Session) (h : List Entry) (ss : List VaultSync) → IsPast session h ss → IsPast session [] ss
+unfolding IsPast
+past_list session h ss p = (p.0, (λ i e at. absurd cc), p.2)

@@ -14,6 +14,7 @@ pub mod Badges
 pub mod Counted
 pub mod Parting
 pub mod Recording
+pub mod Shedding
 pub mod Meetings
 pub mod Opened
 pub mod Living

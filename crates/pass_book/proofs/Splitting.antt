@@ -17,7 +17,7 @@ use Rattle.pass_book.specs.declared.view.Name.{Name}
 use Rattle.pass_book.specs.declared.view.View.{View}
 use Rattle.pass_book.specs.Names.{name, Among, IsOne, touches, Listed}
 use Rattle.pass_book.specs.Syncs.{durable, Backs}
-use Rattle.pass_book.specs.Views.{session_in, Fits, KeptAs, longer, leaving, left, writing, written, noted, claiming, claim_of}
+use Rattle.pass_book.specs.Views.{session_in, Fits, KeptAs, longer, leaving, left, writing, written, plain, noted, list_noted, claiming, claim_of}
 use Rattle.pass_book.proofs.Prefixes.{prefix_self, prefix_none, prefix_more, prefix_whole}
 use Rattle.pass_book.proofs.Affairs.{agrees_more}
 use Rattle.pass_book.proofs.Backed.{backed_more, none_numbered}
@@ -235,18 +235,19 @@ writes opened e id b is apart may kept some_place s h at =
       },
     )
 
--- a note of what a seat has seen
-pub notes : (opened : Opened) (id : ℕ) (v : View) → ¬ (v.name.role ≡ Spent) → Splits (Rule opened) id v v (noted v)
-notes opened id v live s h at =
+-- a note of what a seat has seen, or of less
+notes_of : (opened : Opened) (id : ℕ) (v : View) (xs : List Entry) → ((h : List Entry) → IsPrefix v.seen h → IsPrefix xs h) → ¬ (v.name.role ≡ Spent)
+    → Splits (Rule opened) id v v (plain (name Note 0) v.opened xs v.syncs)
+notes_of opened id v xs less live s h at =
     let k = h.4 in
     let f = k.fits id v at in
     let b = h.1 in
     let all = h.2 in
     let lent = h.3 in
-    let r = noted v in
+    let r = plain (name Note 0) v.opened xs v.syncs in
     let new : Fits b all lent r = record {
       opened = (λ _. f.opened live);
-      begins = f.begins;
+      begins = less b.seen f.begins;
       told = prefix_none b.seen;
       listed = f.listed;
       told_listed = prefix_none all;
@@ -287,6 +288,13 @@ notes opened id v live s h at =
     note_fits b v r all lent views id old mine new j u (came e same) = subst (Fits b all lent) same new
     note_fits b v r all lent views id old mine new j u (changed e same) = subst (Fits b all lent) same mine
     note_fits b v r all lent views id old mine new j u (stood ne there) = old j u there
+
+pub notes : (opened : Opened) (id : ℕ) (v : View) → ¬ (v.name.role ≡ Spent) → Splits (Rule opened) id v v (noted v)
+notes opened id v live = notes_of opened id v v.seen (λ h p. p) live
+
+-- a note of the list alone
+pub notes_list : (opened : Opened) (id : ℕ) (v : View) → ¬ (v.name.role ≡ Spent) → Splits (Rule opened) id v v (list_noted v)
+notes_list opened id v live = notes_of opened id v [] (λ h p. prefix_none h) live
 
 -- places are claimed, or those that came back go on
 pub claims_more : (opened : Opened) (n id : ℕ) (b : View) → b.name ≡ book_name → Splits (Rule opened) id b (claiming n b) (claim_of n b)

@@ -6,6 +6,7 @@ pub mod Nothing
 pub mod Views
 pub mod Slips
 pub mod Records
+pub mod Shedding
 pub mod Tokens
 pub mod Parting
 pub mod Openings

@@ -84,13 +84,15 @@ pub record TallyState : Type 0 where
   pub book : BookId
   pub unused : ℕ
 
--- the book: its history, what it has seen of the vault's list, how many entries it may have, and how many places are claimed
+-- the book: its history, what it has seen of the vault's list, how many entries it may have, how many places are claimed, and before
+-- which place the records of entries were shed
 pub record BookState : Type 0 where
   pub book : BookId
   pub history : List Entry
   pub syncs : List VaultSync
   pub places : ℕ
   pub claimed : ℕ
+  pub kept : ℕ
 
 -- the vault's seat: what it has seen of the history, and the list of syncs
 pub record VaultState : Type 0 where

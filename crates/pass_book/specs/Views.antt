@@ -133,6 +133,10 @@ written e v = plain (name Desk e.what) v.opened (v.seen ++ e ∷ []) v.syncs
 abbrev pub noted : View → View
 noted v = plain (name Note 0) v.opened v.seen v.syncs
 
+-- a note of the list alone
+abbrev pub list_noted : View → View
+list_noted v = plain (name Note 0) v.opened [] v.syncs
+
 -- places are claimed
 abbrev pub claiming : ℕ → View → View
 claiming n v = record { name = v.name; opened = v.opened; seen = v.seen; syncs = v.syncs; told = v.told; told_syncs = v.told_syncs; away = v.away; folded = v.folded; claimed = 0; pool = v.pool + n; looks = v.looks; looked = v.looked }

@@ -1,5 +1,5 @@
 //! The book: the one history of a session, and how an entry is added.
-ghost use Rattle.std.specs.Prelude.{◌≡◌, ◌+◌, ◌-◌, ◌<◌, ◌≤◌, ◌^◌, [], ◌∷◌, ◌++◌, length, if◌then◌else◌, IsSomeAnd, IfOk, IfErr, OnOk, OnErr};
+ghost use Rattle.std.specs.Prelude.{◌≡◌, ◌+◌, ◌-◌, ◌<◌, ◌≤◌, ◌^◌, [], ◌∷◌, ◌++◌, length, max, set, List, vec_capacity, if◌then◌else◌, IsSomeAnd, IfOk, IfErr, OnOk, OnErr};
 ghost use Rattle.std.specs.Option.{ForSome};
 ghost use mathlib.Core.List.{IsPrefix};
 ghost use Rattle.pass_plain.specs.Legal.{IsLegal, ObjectAllows, CallerAllows, MayFollow};
@@ -11,13 +11,15 @@ ghost use Rattle.pass_book.specs.Names.{is_finish, name, Listed};
 ghost use Rattle.pass_book.specs.declared.view.Role.TheVariants as role;
 ghost use Rattle.pass_book.specs.Parting.{lists_of};
 ghost use Rattle.pass_book.specs.Records.{AreParts};
+ghost use Rattle.pass_book.specs.Shedding.{shed};
+ghost use Rattle.pass_entry.specs.declared.record.Record.{Record as AnyRecord};
 ghost use Rattle.pass_book.specs.Syncs.{durable, IsRising, Backs};
 
 use crate::claim::{Claim, Full, Slip, Tally};
 use crate::entering::{enter, fold_last};
 use crate::parts::Parts;
-use crate::sight::{Note, Seats};
-use crate::steps::{Place, claim_places, look, note, refund, seated, show, taken};
+use crate::sight::{Note, Seats, greater};
+use crate::steps::{Place, claim_places, look, note, note_list, refund, seated, show, taken};
 use crate::tokens::{Desk, Line};
 use pass_entry::{Act, Entry, Record};
 use std::alloc::{AllocError, Global};
@@ -25,7 +27,7 @@ use std::marker::Model;
 use std::mem;
 use std::sync::Arc;
 
-/// The history of a session, with the records of each entry. It has room for all entries from the start.
+/// The history of a session, with the records of each entry that were not shed. It has room for all entries from the start.
 #[derive(Drop)]
 pub struct Book {
     pub(crate) seat: Place,
@@ -34,6 +36,7 @@ pub struct Book {
     pub(crate) slips: Vec<Slip>,
     pub(crate) places: u32,
     pub(crate) claimed: u32,
+    pub(crate) kept: u64,
 }
 
 impl Model for Book {
@@ -41,7 +44,7 @@ impl Model for Book {
     ghost use Rattle.std.specs.Coded.{codes};
     ghost use Rattle.pass_entry.specs.contracts.entry.Entry as entry_type;
     ghost use Rattle.pass_plain.specs.contracts.start.Start as start_type;
-    ghost use Rattle.pass_book.specs.Records.{entry_lists};
+    ghost use Rattle.pass_book.specs.Shedding.{AreKept};
     ghost use Rattle.pass_book.specs.Tokens.{BookState, IsOpen, id_of};
     ghost use Rattle.pass_book.specs.Views.{session_in};
 
@@ -49,9 +52,29 @@ impl Model for Book {
 
     ghost coded = { Prim.hlevel (codes, entry_type.the_row.coded, start_type.the_row.coded) };
 
-    ghost view = { λ b. record { book = id_of b.seat.table_id b.seat.me.0; history = b.entries.items; syncs = b.seat.me.0.syncs; places = b.places; claimed = b.claimed } };
+    ghost view = { λ b. record { book = id_of b.seat.table_id b.seat.me.0; history = b.entries.items; syncs = b.seat.me.0.syncs; places = b.places; claimed = b.claimed; kept = b.kept } };
 
-    ghost invariant = { λ b. IsOpen b.table.value.shared.table_id b.seat.table_id b.seat.me b.entries.items b.claimed × (b.slips.items ≡ entry_lists (session_in b.seat.me.0.opened) b.entries.items) × (length b.entries.items + b.claimed ≤ b.places) × (b.places ≤ vec_capacity b.entries) × (b.places ≤ vec_capacity b.slips) };
+    ghost invariant = { λ b. IsOpen b.table.value.shared.table_id b.seat.table_id b.seat.me b.entries.items b.claimed × AreKept (session_in b.seat.me.0.opened) b.entries.items b.seat.me.0.syncs b.kept b.slips.items × (length b.entries.items + b.claimed ≤ b.places) × (b.places ≤ vec_capacity b.entries) × (b.places ≤ vec_capacity b.slips) };
+}
+
+// The records at a place are dropped.
+fn empty_slip(slips: &mut Vec<Slip>, place: u64)
+    requires { place < length slips.old.items }
+    ensures slips { slips.new.items ≡ set slips.old.items place [] }
+    ensures capacity { vec_capacity slips.new ≡ vec_capacity slips.old }
+{
+    slips[place as usize] = Slip::new(*slips.allocator());
+}
+
+// The records between two places are dropped.
+fn shed_slips(slips: &mut Vec<Slip>, from: u64, upto: u64)
+    requires { upto ≤ length slips.old.items }
+    ensures slips { (lists : List (List AnyRecord)) → slips.old.items ≡ shed from lists → slips.new.items ≡ shed (max from upto) lists }
+    ensures capacity { vec_capacity slips.new ≡ vec_capacity slips.old }
+{
+    for place in from..upto {
+        empty_slip(slips, place);
+    }
 }
 
 impl Book {
@@ -188,9 +211,29 @@ impl Book {
         self.entries.len() as u64
     }
 
+    /// Sheds the records of as many of the first entries as are durable by the list that the book has seen: their memory is free again.
+    /// It takes no memory, and goes over no entry twice.
+    pub fn shed(&mut self, upto: u64)
+        requires durable { upto ≤ durable self.old.syncs }
+        requires within { upto ≤ length self.old.history }
+        ensures { self.new ≡ record self.old { kept = max self.old.kept upto } }
+    {
+        shed_slips(&mut self.slips, self.kept, upto);
+        self.kept = greater(self.kept, upto);
+    }
+
+    /// How many of the first entries have no records here any more, since these were shed.
+    pub fn kept_from(&self) -> u64
+        ensures kept { result ≡ self.now.kept }
+        ensures durable { self.now.kept ≤ durable self.now.syncs }
+    {
+        self.kept
+    }
+
     /// The records of the entries from a place on, in parts for the log: each part ends where an entry does, and none is larger
-    /// than a part may be.
+    /// than a part may be. None of them was shed.
     pub fn parts(&self, from: u64) -> Result<Vec<Vec<Record>>, AllocError>
+        requires kept { self.now.kept ≤ from }
         ensures { IfOk result (λ parts. AreParts self.now.book.session self.now.history from (lists_of parts.items)) }
     {
         let mut parts = Parts::new(*self.entries.allocator());
@@ -220,6 +263,7 @@ impl Book {
             slips: _,
             places: _,
             claimed: _,
+            kept: _,
         } = self;
         entries
     }
@@ -234,6 +278,18 @@ impl Book {
             badge,
             len: self.entries.len() as u64,
         }
+    }
+
+    /// What the book has seen of the vault's list, with no entry. By that list the entries are durable whose records were shed. It
+    /// takes no memory.
+    #[tactic(auto, using(crate::proofs::Badges::past_list))]
+    pub fn list(&mut self) -> Note
+        ensures book { self.new ≡ self.old }
+        ensures note { result ≡ record { book = self.old.book; seen = []; syncs = self.old.syncs } }
+        ensures kept { self.old.kept ≤ durable self.old.syncs }
+    {
+        let badge = note_list(&self.table.shared, &mut self.seat).into_badge();
+        Note { badge, len: 0 }
     }
 
     /// A process sees the whole history. It takes no memory.

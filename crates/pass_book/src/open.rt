@@ -211,7 +211,7 @@ impl Book {
     ) -> Result<(Book, Vec<Desk>, VaultSeat), AllocError>
         requires { IsSound (session_of start.now objects) }
         ensures session { IfOk result (λ r. r.0.book.session ≡ session_of start.now objects) }
-        ensures book { IfOk result (λ r. r.0 ≡ record { book = r.0.book; history = []; syncs = []; places = entries; claimed = 0 }) }
+        ensures book { IfOk result (λ r. r.0 ≡ record { book = r.0.book; history = []; syncs = []; places = entries; claimed = 0; kept = 0 }) }
         ensures desks { IfOk result (λ r. r.1.items ≡ opening_desks r.0.book start.now objects) }
         ensures vault { IfOk result (λ r. r.2 ≡ record { book = r.0.book; seen = []; syncs = [] }) }
     {
@@ -236,6 +236,7 @@ impl Book {
             slips,
             places: entries,
             claimed: 0,
+            kept: 0,
         };
         Ok((book, desks, vault))
     }

@@ -148,6 +148,17 @@ impl Split<View> for Notes {
     ghost right = { noted };
 }
 
+/// A note of the list that a seat has seen, with no entry.
+pub struct NotesList;
+
+impl Split<View> for NotesList {
+    ghost use Rattle.pass_book.specs.Views.{list_noted};
+
+    ghost left = { λ v. v };
+
+    ghost right = { list_noted };
+}
+
 /// A name comes back to the book.
 pub struct Folds;
 

@@ -11,8 +11,8 @@ ghost use Rattle.pass_book.specs.Views as views;
 ghost use Rattle.pass_book.specs.Tokens as tokens;
 
 use crate::rule::{
-    Claims, Counting, Folds, Freeing, Hears, Law, Learning, Leaves, Naming, Notes, TableOpening,
-    Takes, Writes, Writing,
+    Claims, Counting, Folds, Freeing, Hears, Law, Learning, Leaves, Naming, Notes, NotesList,
+    TableOpening, Takes, Writes, Writing,
 };
 use crate::view::{Role, View};
 use atomic_table::{Badge, Seat, Shared};
@@ -190,6 +190,15 @@ pub(crate) fn note(table: &Desks, seat: &mut Place) -> Place
     ensures note { (result.table_id ≡ seat.old.table_id) × (result.me ≡ (views.noted seat.old.me.0, [])) }
 {
     table.split_seat::<Notes>(seat)
+}
+
+/// A note of the list that the book has seen.
+pub(crate) fn note_list(table: &Desks, book: &mut Place) -> Place
+    requires at { tokens.At (name Book 0) table.now.table_id book.old.table_id book.old.me.0 }
+    ensures book { (book.new.table_id ≡ book.old.table_id) × (book.new.me ≡ book.old.me) }
+    ensures note { (result.table_id ≡ book.old.table_id) × (result.me ≡ (views.list_noted book.old.me.0, [])) }
+{
+    table.split_seat::<NotesList>(book)
 }
 
 // The desk of the entry's object, the line of its caller and a claim come back to the book, which learns that the entry may come next.

@@ -3,6 +3,7 @@ ghost use Rattle.std.specs.Prelude.{◌≡◌, ◌<◌, ◌≤◌, ◌^◌, IsSo
 ghost use mathlib.Core.List.{IsPrefix};
 ghost use Rattle.pass_plain.specs.Legal.{IsLegal};
 ghost use Rattle.pass_plain.specs.Places.{call_places, freed_places, left_for};
+ghost use Rattle.pass_book.specs.Syncs.{IsRising};
 ghost use Rattle.pass_hold.specs.Callers.{caller_of, moved_on};
 ghost use Rattle.pass_hold.specs.Callings.{HasLooked};
 ghost use Rattle.pass_hold.specs.Places.{HasRoom, IsKept};
@@ -99,6 +100,8 @@ impl<J: Whose> Caller<J> {
         ensures looked { HasLooked J.book.session self.old.who self.old.seen self.new.seen }
         ensures whole { self.new.seen ≡ shelf.old.history }
         ensures grows { IsPrefix self.old.syncs self.new.syncs }
+        ensures list { self.new.syncs ≡ shelf.new.syncs }
+        ensures rising { IsRising self.new.syncs }
         ensures few { length self.new.seen ≤ 2 ^ 32 }
         ensures caller { self.new ≡ moved_on self.old self.new.seen self.new.syncs self.old.held }
         ensures shelf { shelf.new ≡ record shelf.old { syncs = shelf.new.syncs } }

@@ -1,5 +1,5 @@
 //! The book, as it lies under its lock.
-ghost use Rattle.std.specs.Prelude.{◌≡◌, ◌≤◌, IfOk, length};
+ghost use Rattle.std.specs.Prelude.{◌≡◌, ◌≤◌, [], IfOk, length, max};
 ghost use mathlib.Core.List.{IsPrefix};
 ghost use Rattle.pass_plain.specs.Legal.{IsLegal};
 ghost use Rattle.pass_plain.specs.Lawful.{AgreeBy, AgreeOn};
@@ -8,7 +8,7 @@ ghost use Rattle.pass_plain.specs.Sound.{IsSound};
 ghost use Rattle.pass_book.specs.Names.{name, Listed};
 ghost use Rattle.pass_book.specs.Parting.{lists_of};
 ghost use Rattle.pass_book.specs.Records.{AreParts};
-ghost use Rattle.pass_book.specs.Syncs.{IsRising};
+ghost use Rattle.pass_book.specs.Syncs.{durable, IsRising};
 ghost use Rattle.pass_book.specs.declared.view.Role.TheVariants as role;
 
 use crate::whose::Whose;
@@ -97,8 +97,29 @@ impl<J: Whose> Shelf<J> {
         self.book.note()
     }
 
-    /// The records of the entries from a place on, in parts for the log, and what the book has now.
+    /// What the book has seen of the vault's list, with no entry. By that list the entries are durable whose records were shed. It
+    /// takes no memory.
+    pub fn list(&mut self) -> Note
+        ensures shelf { self.new ≡ self.old }
+        ensures note { result ≡ record { book = J.book; seen = []; syncs = self.old.syncs } }
+        ensures kept { self.old.kept ≤ durable self.old.syncs }
+    {
+        self.book.list()
+    }
+
+    /// Sheds the records of as many of the first entries as are durable by the list that the book has seen: their memory is free again.
+    /// It takes no memory.
+    pub fn shed(&mut self, upto: u64)
+        requires durable { upto ≤ durable self.old.syncs }
+        requires within { upto ≤ length self.old.history }
+        ensures { self.new ≡ record self.old { kept = max self.old.kept upto } }
+    {
+        self.book.shed(upto);
+    }
+
+    /// The records of the entries from a place on, in parts for the log, and what the book has now. None of them was shed.
     pub fn parts(&mut self, from: u64) -> Result<(Vec<Vec<Record>>, Note), AllocError>
+        requires kept { self.old.kept ≤ from }
         ensures shelf { self.new ≡ self.old }
         ensures note { IfOk result (λ r. r.1 ≡ record { book = J.book; seen = self.old.history; syncs = self.old.syncs }) }
         ensures parts { IfOk result (λ r. AreParts J.book.session self.old.history from (lists_of r.0.items)) }

@@ -1,19 +1,20 @@
 //! The last entry of a sync, or what stands where it is left.
-ghost use Rattle.std.specs.Prelude.{◌≡◌, ◌<◌, ◌≤◌, ◌^◌, ℕ, List, Some, Ok, Err, false, length};
+ghost use Rattle.std.specs.Prelude.{◌≡◌, ◌<◌, ◌≤◌, ◌^◌, ℕ, List, Some, Ok, Err, false, length, max};
 ghost use Rattle.std.specs.FinMap as finite_map;
 ghost use mathlib.Core.List.{IsPrefix};
 ghost use Rattle.pass_entry.specs.declared.entry.Entry.{Entry as AnyEntry};
 ghost use Rattle.pass_plain.specs.declared.request.Request.TheVariants as requests;
 ghost use Rattle.pass_plain.specs.Processes.{is_file};
 ghost use Rattle.pass_book.specs.Syncs.{Backs};
-ghost use Rattle.pass_hold.specs.Callings.{IsIdle};
+ghost use Rattle.pass_hold.specs.Callings.{HasLooked, IsIdle};
 ghost use Rattle.pass_calls.specs.Answers.{HasMoved};
 ghost use Rattle.pass_calls.specs.declared.answer.Moved.TheVariants as moved;
-ghost use Rattle.pass_safe.specs.Syncings.{HasKept, HasRisen, IsBacking, IsFileSaved, IsKeeping, IsSaved, SyncAnswers, kept_entry};
+ghost use Rattle.pass_safe.specs.Syncings.{HasKept, HasRisen, HasSynced, IsBacking, IsFileSaved, IsKeeping, IsSaved, SyncAnswers, kept_entry};
 
 use crate::fault::SafeFault;
 use crate::keeping::Keeping;
 use crate::saving::Saved;
+use pass_book::Note;
 use pass_calls::{CallEnd, Moved};
 use pass_entry::Descriptor;
 use pass_file::FileDesk;
@@ -45,6 +46,21 @@ fn kept_step<J: Whose>(
     process.kept(alloc, shelf, caller, number, fd);
 }
 
+/// A caller meets what the vault had seen, by which so many entries are durable. Their records are shed.
+fn meet_told<J: Whose>(caller: &mut Caller<J>, shelf: &mut Shelf<J>, told: Note, entries: u64)
+    requires book { told.book ≡ J.book }
+    requires synced { (calls : ℕ) × HasSynced calls entries told.syncs }
+    requires within { entries ≤ length told.seen }
+    ensures who { (caller.new.who ≡ caller.old.who) × (caller.new.own ≡ caller.old.own) }
+    ensures looked { HasLooked J.book.session caller.old.who caller.old.seen caller.new.seen }
+    ensures told { IsPrefix told.seen caller.new.seen × IsPrefix told.syncs caller.new.syncs }
+    ensures shelf { shelf.new ≡ record shelf.old { syncs = shelf.new.syncs; kept = max shelf.old.kept entries } }
+{
+    caller.meet(told);
+    caller.look(shelf);
+    shelf.shed(entries);
+}
+
 /// The last entry of a sync, whose caller meets what the vault had seen.
 fn end_sync<J: Whose>(
     alloc: Global,
@@ -63,7 +79,8 @@ fn end_sync<J: Whose>(
         entries: saved.receipt.entries,
     };
     let number = proc.number;
-    proc.caller.meet(saved.told);
+    let entries = saved.receipt.entries;
+    meet_told(&mut proc.caller, shelf, saved.told, entries);
     kept_step(
         alloc,
         shelf,

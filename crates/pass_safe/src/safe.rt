@@ -102,6 +102,16 @@ impl<J: Whose, D: Disk> Safe<J, D> {
         self.vault.note()
     }
 
+    /// It learns that its durable number is at least that of a list that a note tells of, with no entry. It takes no memory.
+    pub fn meet(&mut self, list: Note)
+        requires book { list.book ≡ J.book }
+        requires none { list.seen ≡ [] }
+        ensures safe { self.new ≡ self.old }
+        ensures durable { durable_in list.syncs ≤ durable_in self.old.vault.syncs }
+    {
+        self.vault.meet(list);
+    }
+
     /// What the last sync came to. It takes no memory.
     pub fn receipt(&self) -> Receipt
         requires { 0 < length self.now.vault.syncs }

@@ -45,6 +45,16 @@ pub fn is_durable<J: Whose, D: Disk>(safe: &Safe<J, D>, keeping: &Keeping<J>) ->
     keeping.place < safe.durable()
 }
 
+/// Vault and book meet: no record of an entry was shed that is not durable.
+fn meet_list<J: Whose, D: Disk>(safe: &mut Safe<J, D>, shelf: &mut Shelf<J>)
+    ensures safe { safe.new ≡ safe.old }
+    ensures shelf { shelf.new ≡ shelf.old }
+    ensures kept { shelf.old.kept ≤ durable safe.old.vault.syncs }
+{
+    let list = shelf.list();
+    safe.meet(list);
+}
+
 /// Copies what is not durable, in one hold of the book. The file sees the whole history.
 pub fn copy<J: Whose, D: Disk>(
     safe: &mut Safe<J, D>,
@@ -61,6 +71,7 @@ pub fn copy<J: Whose, D: Disk>(
     let told = safe.note();
     let from = safe.durable();
     file.see(shelf, told);
+    meet_list(safe, shelf);
     let (parts, note) = shelf.parts(from)?;
     Ok(Copied { parts, note })
 }
@@ -81,6 +92,7 @@ pub fn copy_all<J: Whose, D: Disk>(
     let from = safe.durable();
     registry.meet(told);
     registry.see(shelf);
+    meet_list(safe, shelf);
     let (parts, note) = shelf.parts(from)?;
     Ok(Copied { parts, note })
 }
@@ -117,6 +129,7 @@ pub fn copy_entries<J: Whose, D: Disk>(
     let told = safe.note();
     let from = safe.durable();
     look_told(proc, shelf, told);
+    meet_list(safe, shelf);
     let (parts, note) = shelf.parts(from)?;
     Ok(Copied { parts, note })
 }

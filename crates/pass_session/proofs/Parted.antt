@@ -86,7 +86,7 @@ desks_are book d desks more some are is files apps =
 
 -- a book without an entry
 abbrev pub fresh_with : BookId → ℕ → BookState
-fresh_with book places = record { book = book; history = []; syncs = []; places = places; claimed = 0 }
+fresh_with book places = record { book = book; history = []; syncs = []; places = places; claimed = 0; kept = 0 }
 
 pub fresh_book : (b : BookState) (entries : ℕ) → b ≡ fresh_with b.book entries → b ≡ fresh_with b.book b.places
 fresh_book b entries is = is ∙ ap (fresh_with b.book) (sym (ap (λ (c : BookState). c.places) is))

@@ -107,7 +107,7 @@ pub record AreDesks (book : BookId) (d : Desks) : Type 0 where
 
 -- a session before its first entry, with room for its records
 pub record IsGround (g : Ground) : Type 0 where
-  pub book : g.book ≡ record { book = g.book.book; history = []; syncs = []; places = g.book.places; claimed = 0 }
+  pub book : g.book ≡ record { book = g.book.book; history = []; syncs = []; places = g.book.places; claimed = 0; kept = 0 }
   pub desks : AreDesks g.book.book g.desks
   pub registry : g.registry ≡ registries.opened g.book.book.session.start g.book.book.session.objects
   pub slip : (g.slip.items ≡ []) × (1 ≤ vec_capacity g.slip)

@@ -66,14 +66,14 @@ fn begin<J: Whose>(
     first: Desk,
     slip: Vec<Record>,
 ) -> Begun<J>
-    requires book { book ≡ record { book = J.book; history = []; syncs = []; places = J.places; claimed = 0 } }
+    requires book { book ≡ record { book = J.book; history = []; syncs = []; places = J.places; claimed = 0; kept = 0 } }
     requires few { (66 ≤ J.places) × (J.places ≤ 16777216) }
     requires some { 1 ≤ J.book.session.objects }
     requires registry { registry ≡ opened J.book.session.start J.book.session.objects }
     requires desk { desk ≡ registry_desk J.book }
     requires first { first ≡ new_desk J.book (first_process J.book.session.start) }
     requires slip { (slip.items ≡ []) × (1 ≤ vec_capacity slip) }
-    ensures shelf { result.shelf ≡ record { book = J.book; history = first_entries J.book.session.start; syncs = result.shelf.syncs; places = J.places; claimed = 65 } }
+    ensures shelf { result.shelf ≡ record { book = J.book; history = first_entries J.book.session.start; syncs = result.shelf.syncs; places = J.places; claimed = 65; kept = 0 } }
     ensures registry { result.registry ≡ record { seen = first_entries J.book.session.start; room = 0 } }
     ensures first { (result.first.who ≡ first_process J.book.session.start) × (result.first.number ≡ 0) × (result.first.way ≡ None) }
     ensures seen { result.first.seen ≡ first_entries J.book.session.start }
@@ -108,7 +108,7 @@ pub(crate) fn set_up<J: Whose>(
     ensures files { IfOk result (λ r. r.0.files.items ≡ file_views 0 start.files.items) }
     ensures apps { IfOk result (λ r. r.0.apps.items ≡ map app_view start.apps.items) }
     ensures blanks { IfOk result (λ r. r.0.blanks.items ≡ range_with_len (first_process start + 1) (J.book.session.objects - 1)) }
-    ensures shelf { IfOk result (λ r. r.1.shelf ≡ record { book = J.book; history = first_entries start; syncs = r.1.shelf.syncs; places = J.places; claimed = 65 }) }
+    ensures shelf { IfOk result (λ r. r.1.shelf ≡ record { book = J.book; history = first_entries start; syncs = r.1.shelf.syncs; places = J.places; claimed = 65; kept = 0 }) }
     ensures registry { IfOk result (λ r. r.1.registry ≡ record { seen = first_entries start; room = 0 }) }
     ensures first { IfOk result (λ r. (r.1.first.who ≡ first_process start) × (r.1.first.number ≡ 0) × (r.1.first.way ≡ None)) }
     ensures seen { IfOk result (λ r. r.1.first.seen ≡ first_entries start) }

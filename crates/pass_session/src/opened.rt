@@ -76,7 +76,7 @@ impl<D: Disk> Opened<D> {
     pub fn with<J: Whose>(self, alloc: Global) -> Result<Held<J, D>, D>
         requires book { self.vault.book ≡ J.book }
         requires places { self.places ≡ J.places }
-        ensures shelf { IfOk result (λ h. h.shelf ≡ record { book = J.book; history = first_entries J.book.session.start; syncs = h.shelf.syncs; places = J.places; claimed = 65 }) }
+        ensures shelf { IfOk result (λ h. h.shelf ≡ record { book = J.book; history = first_entries J.book.session.start; syncs = h.shelf.syncs; places = J.places; claimed = 65; kept = 0 }) }
         ensures safe { IfOk result (λ h. h.safe ≡ record { vault = self.vault; lost = None }) }
         ensures registry { IfOk result (λ h. h.registry ≡ record { seen = first_entries J.book.session.start; room = 0 }) }
         ensures files { IfOk result (λ h. h.files.items ≡ file_views 0 J.book.session.start.files.items) }

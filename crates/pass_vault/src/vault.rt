@@ -177,6 +177,8 @@ impl<D: Disk> Vault<D> {
         requires { note.book ≡ self.old.book }
         ensures same { self.new ≡ record self.old { seen = self.new.seen } }
         ensures met { HasMet (name role.Vault 0) self.old.seen self.old.syncs note.seen note.syncs self.new.seen self.new.syncs }
+        // Nobody knows of more durable entries than the vault.
+        ensures durable { durable_in note.syncs ≤ durable_in self.old.syncs }
     {
         self.seat.meet(note);
         let _ = self.seat.seen();

@@ -516,7 +516,7 @@ fn two_threads_make_one_history(rt: HostRuntime) -> Result<(), Fail> {
     };
     let book = history_of_two(&rt, alloc, &start).ok_or("ten entries")?;
     assert_eq!(rt; book.len(), 10);
-    let parts = book.parts(0)?;
+    let parts = book.parts(book.kept_from())?;
     assert_eq!(rt; parts.len(), 1);
     assert_eq!(rt; parts[0].as_slice(), RECORDS.as_slice());
     let mut plain = Plain::new(alloc, &start, OBJECTS)?;

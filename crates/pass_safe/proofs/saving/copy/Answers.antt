@@ -17,7 +17,7 @@ returns-clause-copied g c =
     let e = c.in_ok-parts.ensures in
     let parts = lists_of c.in_ok-parts.parts.items in
     let seen = ap (λ (f : FileDeskView). f.seen) c.see.ensures.state in
-    let shelf = ap (λ (s : BookState). s.history) c.see.ensures.shelf in
+    let shelf = ap (λ (s : BookState). s.history) c.meet_list.ensures.shelf ∙ ap (λ (s : BookState). s.history) c.see.ensures.shelf in
     let from = c.durable-from.ensures.durable ∙ ap (λ (s : SafeView _). durable s.vault.syncs) c.note-told.ensures.safe in
     let few = c.see.ensures.few in
     let same = ap length seen in
@@ -27,5 +27,5 @@ returns-clause-copied g c =
       begins = subst (λ (h : List Entry). IsPrefix v.seen h) (sym seen) (subst (λ (h : List Entry). IsPrefix h c.args.shelf.now.history) (ap (λ (n : NoteState). n.seen) c.note-told.ensures.note) c.see.ensures.told.0);
       legal = subst (λ (h : List Entry). IsLegal S h) (sym seen) c.see.ensures.legal;
       few = omega (arith, few, same);
-      parts = subst (λ (h : List Entry). AreParts S h (durable v.syncs) parts) (shelf ∙ sym seen) (subst (λ (n : ℕ). AreParts S c.see.new.shelf.history n parts) from e.parts);
+      parts = subst (λ (h : List Entry). AreParts S h (durable v.syncs) parts) (shelf ∙ sym seen) (subst (λ (n : ℕ). AreParts S c.meet_list.new.shelf.history n parts) from e.parts);
     }

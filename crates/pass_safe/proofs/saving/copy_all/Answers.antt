@@ -15,7 +15,7 @@ returns-clause-copied g c =
     let v = c.args.safe.now.vault in
     let e = c.in_ok-parts.ensures in
     let parts = lists_of c.in_ok-parts.parts.items in
-    let shelf = ap (λ (s : BookState). s.history) c.see.ensures.shelf in
+    let shelf = ap (λ (s : BookState). s.history) c.meet_list.ensures.shelf ∙ ap (λ (s : BookState). s.history) c.see.ensures.shelf in
     let from = c.durable-from.ensures.durable ∙ ap (λ (s : SafeView _). durable s.vault.syncs) c.note-told.ensures.safe in
     let few = e.few in
     let same = ap length shelf in
@@ -25,5 +25,5 @@ returns-clause-copied g c =
       begins = prefix_trans v.seen c.meet.new.self.seen c.args.shelf.now.history (subst (λ (h : List Entry). IsPrefix h c.meet.new.self.seen) (ap (λ (n : NoteState). n.seen) c.note-told.ensures.note) c.meet.ensures.told) c.see.ensures.begins;
       legal = c.see.ensures.legal;
       few = omega (arith, few, same);
-      parts = subst (λ (h : List Entry). AreParts S h (durable v.syncs) parts) shelf (subst (λ (n : ℕ). AreParts S c.see.new.shelf.history n parts) from e.parts);
+      parts = subst (λ (h : List Entry). AreParts S h (durable v.syncs) parts) shelf (subst (λ (n : ℕ). AreParts S c.meet_list.new.shelf.history n parts) from e.parts);
     }

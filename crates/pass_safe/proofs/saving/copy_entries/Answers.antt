@@ -15,7 +15,7 @@ returns-clause-copied g c =
     let seen = c.look_told.new.proc.seen in
     let e = c.in_ok-parts.ensures in
     let parts = lists_of c.in_ok-parts.parts.items in
-    let shelf : c.look_told.new.shelf.history ≡ c.args.shelf.now.history = ap (λ (s : BookState). s.history) c.look_told.ensures.shelf in
+    let shelf : c.meet_list.new.shelf.history ≡ c.args.shelf.now.history = ap (λ (s : BookState). s.history) c.meet_list.ensures.shelf ∙ ap (λ (s : BookState). s.history) c.look_told.ensures.shelf in
     let here = shelf ∙ sym c.look_told.ensures.whole in
     let from = c.durable-from.ensures.durable ∙ ap (λ (s : SafeView _). durable s.vault.syncs) c.note-told.ensures.safe in
     let few = e.few in
@@ -26,5 +26,5 @@ returns-clause-copied g c =
       begins = subst (λ (h : List Entry). IsPrefix h seen) (ap (λ (n : NoteState). n.seen) c.note-told.ensures.note) c.look_told.ensures.told;
       legal = c.look_told.ensures.looked.legal;
       few = omega (arith, few, same);
-      parts = subst (λ (h : List Entry). AreParts S h (durable v.syncs) parts) here (subst (λ (n : ℕ). AreParts S c.look_told.new.shelf.history n parts) from e.parts);
+      parts = subst (λ (h : List Entry). AreParts S h (durable v.syncs) parts) here (subst (λ (n : ℕ). AreParts S c.meet_list.new.shelf.history n parts) from e.parts);
     }

@@ -12,12 +12,15 @@ use Rattle.pass_book.specs.declared.view.Opened.{Opened}
 use Rattle.pass_book.specs.declared.view.Role.TheVariants as role
 use Rattle.pass_book.specs.declared.view.VaultSync.{VaultSync}
 use Rattle.pass_book.specs.Names.{name}
+use Rattle.pass_entry.specs.declared.record.Record.{Record}
 use Rattle.pass_book.specs.Records.{entry_lists}
+use Rattle.pass_book.specs.Shedding.{AreKept}
 use Rattle.pass_book.specs.Syncs.{Backs}
 use Rattle.pass_book.specs.Tokens.{BookState, DeskState, LineState, At, IsPast, line_of}
 use Rattle.pass_book.specs.Views.{session_in}
 use Rattle.pass_book.proofs.Badges.{past_legal, past_unlisted}
-use Rattle.pass_book.proofs.Recording.{lists_more, lists-length, some_same}
+use Rattle.pass_book.proofs.Recording.{lists-length, some_same}
+use Rattle.pass_book.proofs.Shedding.{length-shed, kept_later, kept_more}
 use Rattle.pass_book.proofs.book.Book.add.Goals as goal
 
 -- Before the entry is written
@@ -73,7 +76,8 @@ push_reserved-requires-2 c =
     let o = c.self.invariant in
     let n = c.enter.ensures in
     let f = c.fold_last.ensures in
-    let all = ap length o.1 ∙ lists-length (session_in c.self.inside.seat.me.0.opened) c.self.inside.entries.items in
+    let s = session_in c.self.inside.seat.me.0.opened in
+    let all = ap length o.1.lists ∙ length-shed c.self.inside.kept (entry_lists s c.self.inside.entries.items) ∙ lists-length s c.self.inside.entries.items in
     omega (arith, all, n.claimed.1, f.claimed.1, o.0.pool, o.2, o.4)
 
 pub returns-clause-object : goal.returns-clause-object
@@ -129,9 +133,16 @@ invariant_of-self c =
     let Q : Session → List Entry → Type 0 = λ s h. c.replace-slip.result ≡ entry_records s h e in
     let mine = subst (λ (s : Session). Q s c.self.inside.entries.items) (sym asked) (subst (Q c.args.self.now.book.session) (sym history) (records c)) in
     let s = session_in c.self.inside.seat.me.0.opened in
-    let lists = c.push_reserved-2.ensures.items ∙ ap (λ ls. ls ++ c.replace-slip.result ∷ []) c.self.invariant.1
-    ∙ ap (λ r. entry_lists s c.self.inside.entries.items ++ r ∷ []) mine ∙ sym (lists_more s c.self.inside.entries.items e) in
-    let kept = lists ∙ ap (entry_lists s) (sym items) ∙ ap (λ (u : Opened). entry_lists (session_in u) c.push_reserved.new.self.items) (sym opened) in (
+    let h = c.self.inside.entries.items in
+    let us = c.enter.new.book.me.0.syncs in
+    let k = c.self.inside.kept in
+    let slips = c.self.inside.slips.items in
+    let later = kept_later s h _ us k slips c.self.invariant.1 (f.listed _ _ n.earlier n.syncs.0) n.syncs.1 in
+    let more = kept_more s h us k slips e later in
+    let records : c.push_reserved-2.new.self.items ≡ slips ++ entry_records s h e ∷ [] = c.push_reserved-2.ensures.items ∙ ap (λ r. slips ++ r ∷ []) mine in
+    let here = subst (λ (ls : List (List Record)). AreKept s (h ++ e ∷ []) us k ls) (sym records) more in
+    let whole = subst (λ (g : List Entry). AreKept s g us k c.push_reserved-2.new.self.items) (sym items) here in
+    let kept = subst (λ (u : Opened). AreKept (session_in u) c.push_reserved.new.self.items us k c.push_reserved-2.new.self.items) (sym opened) whole in (
       record { at = at; seen = seen; claimed = n.claimed.0; pool = pool; empty = n.opened.1 ∙ f.same.2 ∙ o.empty; past = past },
       kept,
       omega (arith, longer, some, c.self.invariant.2),

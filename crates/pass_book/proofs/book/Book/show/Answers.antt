@@ -6,10 +6,11 @@ use Rattle.pass_book.specs.declared.view.Role.TheVariants as role
 use Rattle.pass_book.specs.declared.view.View.{View}
 use Rattle.atomic_table.specs.Seated.{TableId}
 use Rattle.pass_book.specs.Names.{name}
-use Rattle.pass_book.specs.Records.{entry_lists}
+use Rattle.pass_book.specs.Shedding.{AreKept}
 use Rattle.pass_book.specs.Tokens.{At, BookId, BookState, DeskState, IsPast, view_in}
 use Rattle.pass_book.specs.Views.{session_in}
 use Rattle.pass_book.proofs.Badges.{past_legal, past_listed, is_held, unlike_of}
+use Rattle.pass_book.proofs.Shedding.{kept_later}
 use Rattle.pass_book.proofs.book.Book.show.Goals as goal
 
 -- the history, with the list that the book has now
@@ -39,7 +40,8 @@ invariant_of-self c =
     let here : TableId → Type 0 = λ t. At (name role.Book 0) t c.show.new.book.table_id c.show.new.book.me.0 in
     let at = subst here (ap (λ t. t.shared.table_id) c.deref.ensures) l.at in
     let now = subst (λ (o : Opened). IsPast (session_in o) c.self.inside.entries.items c.show.new.book.me.0.syncs) (sym opened) (past c) in
-    let records = c.self.invariant.1 ∙ ap (λ (o : Opened). entry_lists (session_in o) c.self.inside.entries.items) (sym opened) in (
+    let later = kept_later _ _ _ _ _ _ c.self.invariant.1 l.syncs.0 l.syncs.1 in
+    let records = subst (λ (o : Opened). AreKept (session_in o) c.self.inside.entries.items c.show.new.book.me.0.syncs c.self.inside.kept c.self.inside.slips.items) (sym opened) later in (
       record { at = at; seen = l.seen.0 ∙ o.seen; claimed = l.claimed.0; pool = l.claimed.1 ∙ o.pool; empty = l.seen.2 ∙ o.empty; past = now },
       records,
       c.self.invariant.2,

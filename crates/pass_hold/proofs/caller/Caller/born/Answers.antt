@@ -274,9 +274,9 @@ returns-clause-grows g c =
     let grown = (c.add-place.ensures.caller l at).2 in
     subst (λ (ss : List VaultSync). IsPrefix c.args.self.now.syncs ss) (sym (syncs_now g c)) (subst (λ (ss : List VaultSync). IsPrefix ss c.add-place.new.self.syncs) mine grown)
 
-same_book : (b : BookState) (id : BookId) (h : List Entry) (places : ℕ) → b.book ≡ id → b.history ≡ h → b.places ≡ places
-    → b ≡ record { book = id; history = h; syncs = b.syncs; places = places; claimed = b.claimed }
-same_book b id h places book history all = λ i. record { book = book i; history = history i; syncs = b.syncs; places = all i; claimed = b.claimed }
+same_book : (b : BookState) (id : BookId) (h : List Entry) (places kept : ℕ) → b.book ≡ id → b.history ≡ h → b.places ≡ places → b.kept ≡ kept
+    → b ≡ record { book = id; history = h; syncs = b.syncs; places = places; claimed = b.claimed; kept = kept }
+same_book b id h places kept book history all shed = λ i. record { book = book i; history = history i; syncs = b.syncs; places = all i; claimed = b.claimed; kept = shed i }
 
 pub returns-clause-shelf : goal.returns-clause-shelf
 returns-clause-shelf g c =
@@ -288,8 +288,9 @@ returns-clause-shelf g c =
     let now : BookState = c.args.shelf.now in
     let book = ap (λ (b : BookState). b.book) s ∙ ap (λ (b : BookState). b.book) a ∙ ap (λ (b : BookState). b.book) t ∙ ap (λ (b : BookState). b.book) f ∙ ap (λ (b : BookState). b.book) v in
     let places = ap (λ (b : BookState). b.places) s ∙ ap (λ (b : BookState). b.places) a ∙ ap (λ (b : BookState). b.places) t ∙ ap (λ (b : BookState). b.places) f ∙ ap (λ (b : BookState). b.places) v in
+    let kept = ap (λ (b : BookState). b.kept) s ∙ ap (λ (b : BookState). b.kept) a ∙ ap (λ (b : BookState). b.kept) t ∙ ap (λ (b : BookState). b.kept) f ∙ ap (λ (b : BookState). b.kept) v in
     let past : c.claimed-claim.new.book.history ≡ now.history = ap (λ (b : BookState). b.history) t ∙ ap (λ (b : BookState). b.history) f ∙ ap (λ (b : BookState). b.history) v in
     let history = ap (λ (b : BookState). b.history) s ∙ ap (λ (b : BookState). b.history) a ∙ ap (λ h. h ++ c.args.entry ∷ []) past in (
-      same_book c.looked_in.new.book now.book (now.history ++ c.args.entry ∷ []) now.places book history places,
+      same_book c.looked_in.new.book now.book (now.history ++ c.args.entry ∷ []) now.places now.kept book history places kept,
       ap (λ (s : CallerState). s.seen) (caller_now g c) ∙ (last_now g c).seen ∙ sym (ap (λ (b : BookState). b.history) s),
     )

@@ -1,6 +1,6 @@
 -- What calls on a vault under its lock leave, one after another.
 use Rattle.std.proofs.Common.{◌≡◌, ◌∙◌, ℕ, refl, sym, ap, subst, arith}
-use Rattle.std.specs.Prelude.{Option, Some, None, Result, Ok, Err}
+use Rattle.std.specs.Prelude.{OnOk, Option, Some, None, Result, Ok, Err}
 use Rattle.pass_outside.specs.Moments.{Moment}
 use Rattle.pass_keep.specs.Keepers.{GoesOn}
 use Rattle.pass_safe.specs.Safes.{IsLost, IsLostBy, Leaves, SafeView, lost_in}
@@ -84,3 +84,8 @@ module _ {D : Type 0} (view : D → Moment) where
     failed = λ o n err. subst (λ (p : ℕ). IsLost (view new.vault.disk) p (record { opened = o; found = n })) opened (m.failed o n err);
     goes_on = goes_then (view old.vault.disk) (view mid.vault.disk) (view new.vault.disk) l.goes_on m.goes_on;
   }
+
+-- what follows from each Ok
+pub on_each_ok : {A E : Type 0} (r : Result A E) (P : Type 0) → ((x : A) → r ≡ Ok x → P) → OnOk r P
+on_each_ok (Ok x) P follows = follows x refl
+on_each_ok (Err e) P follows = tt {0}

@@ -161,6 +161,7 @@ pub fn finish<J: Whose, D: Disk>(
     ensures clean { OnOk result.settled (All (λ f. IsClean J.book.session shelf.history result.vault.syncs f.what) files.items) }
     // Where these are all files that may have dirty blocks, none is left, as a vault's `images` asks it.
     ensures settled { AreAll J.book.session shelf.history files.items → OnOk result.settled ((file block : ℕ) → block < block_count → is_dirty J.book.session shelf.history result.vault.syncs file block ≡ false) }
+    ensures healthy { OnOk result.settled ((D.view result.vault.disk).faults ≡ safe.vault.opened) }
     ensures lost { (l : AnyLost) → safe.lost ≡ Some l → (result.settled ≡ Err (DiskFault l.opened l.found)) × (result.vault ≡ safe.vault) }
     ensures failed { (opened found : ℕ) → result.settled ≡ Err (DiskFault opened found) → IsLost (D.view result.vault.disk) safe.vault.opened (record { opened = opened; found = found }) }
     ensures goes_on { GoesOn (D.view safe.vault.disk) (D.view result.vault.disk) }

@@ -240,7 +240,8 @@ impl<J: Whose, D: Disk> Safe<J, D> {
 
     /// The vault, at the end of a session.
     pub fn into_vault(self) -> Vault<D>
-        ensures { result ≡ self.vault }
+        ensures vault { result ≡ self.vault }
+        ensures healthy { self.lost ≡ None → (D.view result.disk).faults ≡ result.opened }
     {
         self.vault
     }

@@ -1,4 +1,4 @@
-use Rattle.std.proofs.Common.{◌≡◌, ◌<◌, ℕ, false, List, ap, sym, subst}
+use Rattle.std.proofs.Common.{◌≡◌, ◌∙◌, ◌<◌, ℕ, false, List, ap, sym, subst}
 use Rattle.std.proofs.lemmas.Result.{on_ok_weaker}
 use Rattle.pass_entry.specs.Limits.{block_count}
 use Rattle.pass_entry.specs.declared.entry.Entry.{Entry}
@@ -7,6 +7,7 @@ use Rattle.pass_book.specs.Tokens.{BookState}
 use Rattle.pass_book.specs.declared.view.VaultSync.{VaultSync}
 use Rattle.pass_clean.specs.Cleaned.{is_dirty}
 use Rattle.pass_vault.specs.Vaulted.{Vaulted}
+use Rattle.pass_safe.proofs.Leaving.{healthy_after, on_each_ok}
 use Rattle.pass_safe.proofs.Settles.{settled_all}
 use Rattle.pass_safe.proofs.finishing.finish.Goals as goal
 
@@ -21,6 +22,14 @@ returns-clause-settled g c = λ all.
     let w = c.settle_all-settled.new.safe.vault in
     let e = c.settle_all-settled.ensures in
     let legal = subst (λ (h : List Entry). IsLegal S h) (ap (λ (s : BookState). s.history) e.shelf) c.into_history.ensures.legal in
-    let syncs = ap (λ (v : Vaulted _). v.syncs) c.into_vault.ensures in
+    let syncs = ap (λ (v : Vaulted _). v.syncs) c.into_vault.ensures.vault in
     on_ok_weaker c.settle_all-settled.result
     (λ clean. subst (λ (ss : List VaultSync). (file block : ℕ) → block < block_count → is_dirty S h ss file block ≡ false) (sym syncs) (settled_all S c.into_history.ensures.sound h legal w.syncs c.args.files.items all clean)) e.clean
+
+pub returns-clause-healthy : goal.returns-clause-healthy
+returns-clause-healthy g c =
+    let view = g.D.Disk.view in
+    let s = c.settle_all-settled in
+    on_each_ok s.result ((view c.into_vault.result.disk).faults ≡ c.args.safe.vault.opened)
+    (λ r is. c.into_vault.ensures.healthy (healthy_after view c.args.safe s.new.safe s.result s.ensures.safe r is)
+    ∙ ap (λ (v : Vaulted _). v.opened) c.into_vault.ensures.vault ∙ ap (λ (v : Vaulted _). v.opened) s.ensures.vault)

@@ -71,6 +71,15 @@ impl<D: Disk> Opened<D> {
         }
     }
 
+    /// Gives the disk back, where no store is made of the session. Its ceiling stands there.
+    pub fn into_disk(self) -> D
+        ensures { result ≡ self.vault.disk }
+    {
+        let Opened { vault, .. } = self;
+        let (disk, _syncs) = vault.into_disk();
+        disk
+    }
+
     /// Lays out what is to lie under the locks of a store, which has the book's name, and makes the first entry. It is refused for
     /// want of memory alone, before that entry, and the disk comes back.
     pub fn with<J: Whose>(self, alloc: Global) -> Result<Held<J, D>, D>

@@ -1,2 +1,4 @@
+pub mod Grounding
 pub mod Refusals
+pub mod Savings
 pub mod Ways

@@ -1,11 +1,22 @@
 //! The vault of a store, as it lies under its lock.
-ghost use Rattle.std.specs.Prelude.{◌≡◌, ◌↔◌, ◌+◌, ◌<◌, ◌≤◌, true, None, Some, Ok, Err, IfOk, IfErr, OnOk, length};
+ghost use Rattle.std.specs.Prelude.{◌≡◌, ℕ, ◌+◌, ◌<◌, ◌≤◌, List, IfOk, IfErr, length};
+ghost use Rattle.pass_entry.specs.declared.entry.Entry.{Entry as AnyEntry};
+ghost use Rattle.pass_book.specs.Syncs.{durable};
+ghost use Rattle.pass_safe.specs.Syncings.{HasKept, HasRisen, IsCopy, IsFileSaved, IsSaved, KeepingView};
 ghost use Rattle.pass_store.specs.Grounds.{ground_of};
 
 use crate::ground::Opening;
+use pass_file::FileDesk;
+use pass_hold::Shelf;
 use pass_outside::Disk;
-use pass_safe::Safe;
+use pass_proc::Proc;
+use pass_safe::{
+    Copied, Keeping, Safe, SafeFault, Saved, commit, commit_entries, copy, copy_entries,
+    is_durable, share, share_entries,
+};
+use std::alloc::{AllocError, Global};
 use std::marker::Model;
+use std::sync::{Mutex, Wait};
 
 /// The vault of a store, which was opened as its store says.
 #[derive(Drop)]
@@ -46,5 +57,155 @@ impl<J: Opening, D: Disk> Cellar<J, D> {
         ensures ground { ground_of self.vault ≡ J.ground }
     {
         self.safe
+    }
+}
+
+impl<J: Opening, D: Disk> Cellar<J, D> {
+    /// Copies what is not durable, in one hold of the book. The file sees the whole history.
+    fn copy_file<R: Wait>(
+        &mut self,
+        rt: &R,
+        book: &Mutex<Shelf<J>>,
+        file: &mut FileDesk<J>,
+    ) -> Result<Copied, AllocError>
+        ensures same { self.new ≡ self.old }
+        ensures what { file.new.what ≡ file.old.what }
+        ensures grows { length file.old.seen ≤ length file.new.seen }
+        ensures copied { IfOk result (λ c. IsCopy J.book self.old.vault c file.new.seen) }
+    {
+        let mut shelf = book.lock(rt);
+        copy(&mut self.safe, file, &mut shelf)
+    }
+
+    #[tactic(auto, using(crate::proofs::Grounding::committed, crate::proofs::Grounding::all_above))]
+    /// Makes the entries that were copied durable, and then the data of the file.
+    fn commit_file(
+        &mut self,
+        alloc: Global,
+        file: FileDesk<J>,
+        copied: Copied,
+        keeping: &Keeping<J>,
+    ) -> (FileDesk<J>, Result<Saved, SafeFault>)
+        requires copied { IsCopy J.book self.old.vault copied file.seen }
+        requires place { keeping.now.place < length file.seen }
+        ensures what { result.0.what ≡ file.what }
+        ensures saved { IfOk result.1 (λ s. IsSaved J.book result.0.seen s) }
+        ensures of_file { IfOk result.1 (λ s. IsFileSaved result.0.what result.0.number s) }
+        ensures above { IfOk result.1 (λ s. keeping.now.place < s.receipt.entries) }
+        ensures risen { IfErr result.1 HasRisen }
+    {
+        let _ = keeping;
+        commit(alloc, &mut self.safe, file, copied)
+    }
+
+    #[tactic(auto, using(crate::proofs::Grounding::shared, crate::proofs::Grounding::more_above))]
+    /// Makes the data of a file durable, all of whose entries are so.
+    fn share_file(
+        &mut self,
+        alloc: Global,
+        file: FileDesk<J>,
+        keeping: &Keeping<J>,
+    ) -> (FileDesk<J>, Result<Saved, SafeFault>)
+        requires below { length file.seen ≤ durable self.old.vault.syncs }
+        requires place { keeping.now.place < length file.seen }
+        ensures what { result.0.what ≡ file.what }
+        ensures saved { IfOk result.1 (λ s. IsSaved J.book result.0.seen s) }
+        ensures of_file { IfOk result.1 (λ s. IsFileSaved result.0.what result.0.number s) }
+        ensures above { IfOk result.1 (λ s. keeping.now.place < s.receipt.entries) }
+        ensures risen { IfErr result.1 HasRisen }
+    {
+        let _ = keeping;
+        share(alloc, &mut self.safe, file)
+    }
+
+    /// Makes the entries durable that a sync of a file waits for, and the file's data. The book is locked while they are copied, and
+    /// free while the disk is at work.
+    pub(crate) fn save_file<R: Wait>(
+        &mut self,
+        rt: &R,
+        alloc: Global,
+        book: &Mutex<Shelf<J>>,
+        file: FileDesk<J>,
+        keeping: &Keeping<J>,
+    ) -> (FileDesk<J>, Result<Saved, SafeFault>)
+        requires place { keeping.now.place + 1 ≡ length file.seen }
+        ensures what { result.0.what ≡ file.what }
+        ensures saved { IfOk result.1 (λ s. IsSaved J.book result.0.seen s) }
+        ensures of_file { IfOk result.1 (λ s. IsFileSaved result.0.what result.0.number s) }
+        ensures above { IfOk result.1 (λ s. keeping.now.place < s.receipt.entries) }
+        ensures risen { IfErr result.1 HasRisen }
+    {
+        if is_durable(&self.safe, keeping) {
+            return self.share_file(alloc, file, keeping);
+        }
+        let mut file = file;
+        match self.copy_file(rt, book, &mut file) {
+            Ok(copied) => self.commit_file(alloc, file, copied, keeping),
+            Err(_) => (file, Err(SafeFault::NoMemory)),
+        }
+    }
+}
+
+impl<J: Opening, D: Disk> Cellar<J, D> {
+    /// Copies what is not durable, in one hold of the book. The process sees the whole history.
+    fn copy_history<R: Wait>(
+        &mut self,
+        rt: &R,
+        book: &Mutex<Shelf<J>>,
+        proc: &mut Proc<J>,
+    ) -> Result<Copied, AllocError>
+        ensures same { self.new ≡ self.old }
+        ensures state { proc.new.state ≡ proc.old.state }
+        ensures kept { (k : KeepingView) (what : ℕ) → HasKept J.book.session k proc.old what → HasKept J.book.session k proc.new what }
+        ensures grows { length proc.old.seen ≤ length proc.new.seen }
+        ensures copied { IfOk result (λ c. IsCopy J.book self.old.vault c proc.new.seen) }
+    {
+        let mut shelf = book.lock(rt);
+        copy_entries(&mut self.safe, proc, &mut shelf)
+    }
+
+    #[tactic(auto, using(crate::proofs::Grounding::flushed, crate::proofs::Grounding::all_above))]
+    /// Makes the entries that were copied durable.
+    fn commit_history(
+        &mut self,
+        alloc: Global,
+        proc: &Proc<J>,
+        copied: Copied,
+        keeping: &Keeping<J>,
+    ) -> Result<Saved, SafeFault>
+        requires copied { IsCopy J.book self.old.vault copied proc.now.seen }
+        requires place { keeping.now.place < length proc.now.seen }
+        ensures saved { IfOk result (λ s. (seen : List AnyEntry) × IsSaved J.book seen s) }
+        ensures above { IfOk result (λ s. keeping.now.place < s.receipt.entries) }
+        ensures risen { IfErr result HasRisen }
+    {
+        let _ = keeping;
+        commit_entries(alloc, &mut self.safe, proc, copied)
+    }
+
+    /// Makes the entries durable that a sync of a pipe or an app object waits for. Where something is to be made durable its process sees
+    /// the whole history.
+    pub(crate) fn save_history<R: Wait>(
+        &mut self,
+        rt: &R,
+        alloc: Global,
+        book: &Mutex<Shelf<J>>,
+        proc: &mut Proc<J>,
+        keeping: &Keeping<J>,
+    ) -> Result<Saved, SafeFault>
+        requires place { keeping.now.place + 1 ≡ length proc.old.seen }
+        ensures state { proc.new.state ≡ proc.old.state }
+        ensures kept { (k : KeepingView) (what : ℕ) → HasKept J.book.session k proc.old what → HasKept J.book.session k proc.new what }
+        ensures saved { IfOk result (λ s. (seen : List AnyEntry) × IsSaved J.book seen s) }
+        ensures above { IfOk result (λ s. keeping.now.place < s.receipt.entries) }
+        ensures risen { IfErr result HasRisen }
+    {
+        if is_durable(&self.safe, keeping) {
+            return share_entries(&mut self.safe, keeping);
+        }
+        match self.copy_history(rt, book, proc) {
+            Ok(copied) => self.commit_history(alloc, proc, copied, keeping),
+            Err(_) => Err(SafeFault::NoMemory),
+        }
     }
 }

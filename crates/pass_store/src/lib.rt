@@ -15,6 +15,7 @@ mod naming;
 mod running;
 mod slot;
 mod store;
+mod syncing;
 mod transfers;
 mod waiting;
 

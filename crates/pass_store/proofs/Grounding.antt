@@ -1,0 +1,43 @@
+-- What a vault was opened with stays, whatever a sync does; and what its receipt counts.
+use Rattle.std.proofs.Common.{◌≡◌, ℕ, ◌<◌, ◌≤◌, List, inl, inr, ap, ◌∙◌, ◌++◌, ◌∷◌, [], arith}
+use Rattle.std.specs.Prelude.{Result, Ok, Err, IfOk, OnErr}
+use Rattle.pass_entry.specs.declared.entry.Entry.{Entry}
+use Rattle.pass_file.specs.Desks.{FileDeskView}
+use Rattle.pass_vault.specs.Vaulted.{Vaulted, file_synced}
+use Rattle.pass_vault.specs.declared.vault.Receipt.{Receipt}
+use Rattle.pass_safe.specs.Commits.{HasCommitted, HasNotFlushed, HasStopped, flushed_to}
+use Rattle.pass_safe.specs.declared.fault.SafeFault.{SafeFault}
+use Rattle.pass_safe.specs.declared.saving.Saved.{Saved}
+use Rattle.pass_store.specs.Grounds.{Ground, ground_of}
+
+stopped : {D : Type 0} (seen : List Entry) (old new : Vaulted D) → HasStopped seen old new → ground_of new ≡ ground_of old
+stopped seen old new (inl not) = ap ground_of not.vault
+stopped seen old new (inr (calls, is)) = ap ground_of is
+
+pub committed : {D : Type 0} (ground : Ground) (f : FileDeskView) (old new : Vaulted D) (answer : Result Saved SafeFault) → ground_of old ≡ ground
+    → IfOk answer (λ s. HasCommitted f old new s.receipt) → OnErr answer (HasStopped f.seen old new) → ground_of new ≡ ground
+committed ground f old new (Ok s) was done undone = ap ground_of done.vault ∙ was
+committed ground f old new (Err e) was done undone = stopped f.seen old new undone ∙ was
+
+pub shared : {D : Type 0} (ground : Ground) (f : FileDeskView) (old new : Vaulted D) (answer : Result Saved SafeFault) → ground_of old ≡ ground
+    → IfOk answer (λ s. new ≡ record old { disk = new.disk; syncs = old.syncs ++ file_synced f.what f.number s.receipt.calls s.receipt.entries ∷ [] }) → OnErr answer (new ≡ record old { disk = new.disk })
+    → ground_of new ≡ ground
+shared ground f old new (Ok s) was done undone = ap ground_of done ∙ was
+shared ground f old new (Err e) was done undone = ap ground_of undone ∙ was
+
+pub flushed : {D : Type 0} (ground : Ground) (seen : List Entry) (old new : Vaulted D) (answer : Result Saved SafeFault) → ground_of old ≡ ground
+    → IfOk answer (λ s. new ≡ flushed_to old new seen s.receipt.calls) → OnErr answer (HasNotFlushed seen old new) → ground_of new ≡ ground
+flushed ground seen old new (Ok s) was done undone = ap ground_of done ∙ was
+flushed ground seen old new (Err e) was done undone = ap ground_of undone.vault ∙ was
+
+-- a sync's first entry is among those that its receipt counts
+above_all : (place n calls : ℕ) (s : Saved) → place < n → s.receipt ≡ record { calls = calls; entries = n } → place < s.receipt.entries
+above_all place n calls s low same = let all = ap (λ (r : Receipt). r.entries) same in omega (arith, low, all)
+
+pub all_above : (place n calls : ℕ) (answer : Result Saved SafeFault) → place < n → IfOk answer (λ s. s.receipt ≡ record { calls = calls; entries = n }) → IfOk answer (λ s. place < s.receipt.entries)
+all_above place n calls (Ok s) low same = above_all place n calls s low same
+all_above place n calls (Err e) low same = tt
+
+pub more_above : (place n : ℕ) (answer : Result Saved SafeFault) → place < n → IfOk answer (λ s. n ≤ s.receipt.entries) → IfOk answer (λ s. place < s.receipt.entries)
+more_above place n (Ok s) low more = omega (arith, low, more)
+more_above place n (Err e) low more = tt

@@ -1,0 +1,277 @@
+//! The call `pass_sync`. While the disk is at work the book is free; the object's lock and the vault's are held.
+ghost use Rattle.std.specs.Prelude.{◌≡◌, ◌+◌, ◌<◌, None, Some, Err, IfOk, IfErr, false, length, ℕ, List};
+ghost use Rattle.std.specs.FinMap as finite_map;
+ghost use Rattle.pass_entry.specs.declared.entry.Ask.TheVariants as ask;
+ghost use Rattle.pass_entry.specs.declared.entry.Entry.{Entry as AnyEntry};
+ghost use Rattle.pass_entry.specs.declared.objects.Descriptor.{Descriptor as AnyDescriptor};
+ghost use Rattle.pass_plain.specs.Processes.{is_file, refusal};
+ghost use Rattle.pass_safe.specs.Syncings.{HasKept, HasRisen, IsFileSaved, IsSaved, KeepingView, SyncAnswers};
+ghost use Rattle.pass_store.specs.Slots.{Has, HasObject};
+ghost use Rattle.pass_store.specs.declared.slot.Sought.TheVariants as sought;
+
+use crate::asking::asked;
+use crate::ground::Opening;
+use crate::slot::Slot;
+use crate::store::Store;
+use pass_calls::{CallEnd, Moved};
+use pass_entry::{Ask, Descriptor, Pnode};
+use pass_file::FileDesk;
+use pass_flow::Versioned;
+use pass_hold::Whose;
+use pass_outside::{Disk, Gate};
+use pass_proc::Proc;
+use pass_safe::{Keeping, SafeFault, Saved, keep, kept, kept_entries, left, refused_sync};
+use std::alloc::Global;
+use std::mem;
+use std::sync::Wait;
+
+/// Takes the file out of its slot, which is empty until it comes back.
+fn taken<J: Whose>(slot: &mut Slot<J>, what: Pnode) -> FileDesk<J>
+    requires { Has slot.old sought.File what }
+    ensures { result.what ≡ what }
+{
+    let _ = what;
+    match mem::replace(slot, Slot::Empty) {
+        Slot::File(file) => file,
+        _ => unreachable!(),
+    }
+}
+
+impl<'g, J: Opening, D: Disk, G: Gate> Store<'g, J, D, G> {
+    /// Makes the first entry of a sync, in one hold of the book.
+    fn begin_sync<R: Wait, V: Versioned<J>>(
+        &self,
+        rt: &R,
+        alloc: Global,
+        object: &mut V,
+        proc: &mut Proc<J>,
+        fd: u8,
+    ) -> Result<Keeping<J>, CallEnd>
+        requires fd { fd < 64 }
+        requires free { refusal proc.old.state (ask.Held fd) ≡ None }
+        requires object { (d : AnyDescriptor) → finite_map.get proc.old.state.descriptors fd ≡ Some d → (V.object object.old).what ≡ d.pnode }
+        ensures kept { IfOk result (λ k. HasKept J.book.session k proc.new (V.object object.old).what) }
+        ensures call { IfOk result (λ k. (k.before ≡ proc.old) × (k.fd ≡ fd) × (k.place + 1 ≡ length proc.new.seen)) }
+        ensures object { IfOk result (λ k. V.object object.new ≡ record (V.object object.old) { seen = proc.new.seen; syncs = proc.new.syncs }) }
+        ensures full { IfErr result (λ e. SyncAnswers J.book.session J.places proc.old proc.new fd (Err e)) }
+    {
+        let mut shelf = self.locks.book.lock(rt);
+        keep(alloc, object, &mut shelf, proc, fd)
+    }
+
+    /// Makes durable what a sync of a file waits for, under the vault's lock.
+    fn save_file<R: Wait>(
+        &self,
+        rt: &R,
+        alloc: Global,
+        file: FileDesk<J>,
+        keeping: &Keeping<J>,
+    ) -> (FileDesk<J>, Result<Saved, SafeFault>)
+        requires place { keeping.now.place + 1 ≡ length file.seen }
+        ensures what { result.0.what ≡ file.what }
+        ensures saved { IfOk result.1 (λ s. IsSaved J.book result.0.seen s) }
+        ensures of_file { IfOk result.1 (λ s. IsFileSaved result.0.what result.0.number s) }
+        ensures above { IfOk result.1 (λ s. keeping.now.place < s.receipt.entries) }
+        ensures risen { IfErr result.1 HasRisen }
+    {
+        let mut vault = self.vault.lock(rt);
+        vault.save_file(rt, alloc, &self.locks.book, file, keeping)
+    }
+
+    /// Makes the last entry of a sync of a file, in one hold of the book, where the vault gave an answer.
+    fn end_file<R: Wait>(
+        &self,
+        rt: &R,
+        alloc: Global,
+        file: &FileDesk<J>,
+        proc: &mut Proc<J>,
+        keeping: &Keeping<J>,
+        saved: Result<Saved, SafeFault>,
+    ) -> Result<Moved, CallEnd>
+        requires kept { HasKept J.book.session keeping.now proc.old file.now.what }
+        requires saved { IfOk saved (λ s. IsSaved J.book file.now.seen s) }
+        requires of_file { IfOk saved (λ s. IsFileSaved file.now.what file.now.number s) }
+        requires above { IfOk saved (λ s. keeping.now.place < s.receipt.entries) }
+        requires risen { IfErr saved HasRisen }
+        ensures { SyncAnswers J.book.session J.places keeping.now.before proc.new keeping.now.fd result }
+    {
+        match saved {
+            Ok(saved) => {
+                let mut shelf = self.locks.book.lock(rt);
+                Ok(kept(alloc, file, &mut shelf, proc, keeping, saved))
+            }
+            Err(fault) => Err(left(proc, keeping, fault)),
+        }
+    }
+
+    #[tactic(auto, using(crate::proofs::Savings::same_sync, crate::proofs::Savings::kept_of))]
+    /// A sync of a file.
+    fn sync_file<R: Wait>(
+        &self,
+        rt: &R,
+        alloc: Global,
+        proc: &mut Proc<J>,
+        fd: u8,
+        d: &Descriptor,
+        file: FileDesk<J>,
+    ) -> (FileDesk<J>, Result<Moved, CallEnd>)
+        requires fd { fd < 64 }
+        requires free { refusal proc.old.state (ask.Held fd) ≡ None }
+        requires held { finite_map.get proc.old.state.descriptors fd ≡ Some d.now }
+        requires object { file.what ≡ d.now.pnode }
+        ensures call { SyncAnswers J.book.session J.places proc.old proc.new fd result.1 }
+    {
+        let _ = d;
+        let mut file = file;
+        let keeping = match self.begin_sync(rt, alloc, &mut file, proc, fd) {
+            Ok(keeping) => keeping,
+            Err(end) => return (file, Err(end)),
+        };
+        let (file, saved) = self.save_file(rt, alloc, file, &keeping);
+        let answer = self.end_file(rt, alloc, &file, proc, &keeping, saved);
+        (file, answer)
+    }
+
+    /// Makes durable what a sync of a pipe or an app object waits for, under the vault's lock.
+    fn save_history<R: Wait>(
+        &self,
+        rt: &R,
+        alloc: Global,
+        proc: &mut Proc<J>,
+        keeping: &Keeping<J>,
+    ) -> Result<Saved, SafeFault>
+        requires place { keeping.now.place + 1 ≡ length proc.old.seen }
+        ensures state { proc.new.state ≡ proc.old.state }
+        ensures kept { (k : KeepingView) (what : ℕ) → HasKept J.book.session k proc.old what → HasKept J.book.session k proc.new what }
+        ensures saved { IfOk result (λ s. (seen : List AnyEntry) × IsSaved J.book seen s) }
+        ensures above { IfOk result (λ s. keeping.now.place < s.receipt.entries) }
+        ensures risen { IfErr result HasRisen }
+    {
+        let mut vault = self.vault.lock(rt);
+        vault.save_history(rt, alloc, &self.locks.book, proc, keeping)
+    }
+
+    /// Makes the last entry of a sync of a pipe or an app object, in one hold of the book, where the vault gave an answer.
+    fn end_other<R: Wait>(
+        &self,
+        rt: &R,
+        alloc: Global,
+        d: &Descriptor,
+        proc: &mut Proc<J>,
+        keeping: &Keeping<J>,
+        saved: Result<Saved, SafeFault>,
+    ) -> Result<Moved, CallEnd>
+        requires kept { HasKept J.book.session keeping.now proc.old d.now.pnode }
+        requires held { finite_map.get proc.old.state.descriptors keeping.now.fd ≡ Some d.now }
+        requires no_file { is_file d.now ≡ false }
+        requires saved { IfOk saved (λ s. (seen : List AnyEntry) × IsSaved J.book seen s) }
+        requires above { IfOk saved (λ s. keeping.now.place < s.receipt.entries) }
+        requires risen { IfErr saved HasRisen }
+        ensures { SyncAnswers J.book.session J.places keeping.now.before proc.new keeping.now.fd result }
+    {
+        match saved {
+            Ok(saved) => {
+                let mut shelf = self.locks.book.lock(rt);
+                Ok(kept_entries(alloc, d, &mut shelf, proc, keeping, saved))
+            }
+            Err(fault) => Err(left(proc, keeping, fault)),
+        }
+    }
+
+    #[tactic(auto, using(crate::proofs::Savings::same_sync, crate::proofs::Savings::kept_of, crate::proofs::Savings::still_held))]
+    /// A sync of a pipe or an app object, which have no data.
+    fn sync_other<R: Wait, V: Versioned<J>>(
+        &self,
+        rt: &R,
+        alloc: Global,
+        proc: &mut Proc<J>,
+        fd: u8,
+        d: &Descriptor,
+        object: &mut V,
+    ) -> Result<Moved, CallEnd>
+        requires fd { fd < 64 }
+        requires free { refusal proc.old.state (ask.Held fd) ≡ None }
+        requires held { finite_map.get proc.old.state.descriptors fd ≡ Some d.now }
+        requires no_file { is_file d.now ≡ false }
+        requires object { (V.object object.old).what ≡ d.now.pnode }
+        ensures call { SyncAnswers J.book.session J.places proc.old proc.new fd result }
+    {
+        let keeping = match self.begin_sync(rt, alloc, object, proc, fd) {
+            Ok(keeping) => keeping,
+            Err(end) => return Err(end),
+        };
+        let saved = self.save_history(rt, alloc, proc, &keeping);
+        self.end_other(rt, alloc, d, proc, &keeping, saved)
+    }
+
+    /// A sync of the file that lies in a slot.
+    fn sync_taken<R: Wait>(
+        &self,
+        rt: &R,
+        alloc: Global,
+        proc: &mut Proc<J>,
+        fd: u8,
+        d: &Descriptor,
+        slot: &mut Slot<J>,
+    ) -> Result<Moved, CallEnd>
+        requires fd { fd < 64 }
+        requires free { refusal proc.old.state (ask.Held fd) ≡ None }
+        requires held { finite_map.get proc.old.state.descriptors fd ≡ Some d.now }
+        requires file { Has slot.old sought.File d.now.pnode }
+        ensures call { SyncAnswers J.book.session J.places proc.old proc.new fd result }
+    {
+        let file = taken(slot, d.pnode);
+        let (file, answer) = self.sync_file(rt, alloc, proc, fd, d, file);
+        *slot = Slot::File(file);
+        answer
+    }
+
+    #[tactic(auto, using(crate::proofs::Refusals::pipe_alone, crate::proofs::Refusals::app_alone))]
+    /// A sync of the object that lies in a slot.
+    fn sync_in<R: Wait>(
+        &self,
+        rt: &R,
+        alloc: Global,
+        proc: &mut Proc<J>,
+        fd: u8,
+        d: &Descriptor,
+        slot: &mut Slot<J>,
+    ) -> Result<Moved, CallEnd>
+        requires fd { fd < 64 }
+        requires free { refusal proc.old.state (ask.Held fd) ≡ None }
+        requires held { finite_map.get proc.old.state.descriptors fd ≡ Some d.now }
+        requires object { HasObject slot.old d.now }
+        ensures call { SyncAnswers J.book.session J.places proc.old proc.new fd result }
+    {
+        match slot {
+            Slot::File(_) => self.sync_taken(rt, alloc, proc, fd, d, slot),
+            Slot::Pipe(pipe) => self.sync_other(rt, alloc, proc, fd, d, pipe),
+            Slot::App(app) => self.sync_other(rt, alloc, proc, fd, d, app),
+            _ => unreachable!(),
+        }
+    }
+
+    /// Makes what was entered so far durable, and for a file its data. It answers how many entries are durable then, and how many calls the
+    /// disk had had.
+    pub fn pass_sync<R: Wait>(
+        &self,
+        rt: &R,
+        alloc: Global,
+        proc: &mut Proc<J>,
+        fd: u8,
+    ) -> Result<Moved, CallEnd>
+        requires fd { fd < 64 }
+        ensures call { SyncAnswers J.book.session J.places proc.old proc.new fd result }
+    {
+        let d = match asked(proc, fd, &Ask::Held { fd }) {
+            Ok(d) => d,
+            Err(fault) => {
+                let mut shelf = self.locks.book.lock(rt);
+                return Err(refused_sync(alloc, &mut shelf, proc, fd, fault));
+            }
+        };
+        let mut slot = self.locks.object(rt, alloc, &d);
+        self.gate.inside(d.pnode);
+        self.sync_in(rt, alloc, proc, fd, &d, &mut slot)
+    }
+}

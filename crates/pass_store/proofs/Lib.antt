@@ -1,3 +1,5 @@
+pub mod Closing
+pub mod Filing
 pub mod Grounding
 pub mod Refusals
 pub mod Savings

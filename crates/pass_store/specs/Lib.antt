@@ -1,4 +1,5 @@
 pub mod Children
+pub mod Closings
 pub mod Grounds
 pub mod Meetings
 pub mod Slots

@@ -2,9 +2,10 @@
 #![tactic(auto)]
 
 mod asking;
-mod blank;
+mod beginning;
 mod cellar;
 mod disclosing;
+mod ending;
 mod exiting;
 mod flows;
 mod forking;
@@ -13,14 +14,15 @@ mod locks;
 mod meeting;
 mod naming;
 mod running;
+mod settling;
 mod slot;
 mod store;
 mod syncing;
 mod transfers;
 mod waiting;
 
-pub use blank::Blank;
 pub use cellar::Cellar;
+pub use ending::{Closed, Finished};
 pub use ground::Opening;
 pub use locks::Locks;
 pub use slot::{Slot, Sought};

@@ -8,7 +8,6 @@ ghost use Rattle.pass_plain.specs.Registries.{registry_after};
 ghost use Rattle.pass_store.specs.declared.slot.Sought.TheVariants as sought;
 ghost use Rattle.pass_store.specs.Slots.{Has, HasObject};
 
-use crate::blank::Blank;
 use crate::slot::{Slot, Sought};
 use pass_entry::{Descriptor, Kind, Pnode, Text};
 use pass_file::FileDesk;
@@ -16,6 +15,7 @@ use pass_flow::AppDesk;
 use pass_hold::{Shelf, Whose};
 use pass_pipe::{PipeDesk, PipeState};
 use pass_registry::RegistryDesk;
+use pass_session::Blank;
 use std::alloc::Global;
 use std::collections::HashMap;
 use std::mem;
@@ -38,12 +38,15 @@ pub struct Locks<J: Whose> {
 }
 
 /// A file that the session has made, at its first use; the desk of anything else stays as it is. It takes no memory.
-fn made_file<J: Whose>(
+pub(crate) fn made_file<J: Whose>(
     alloc: Global,
     registry: &mut RegistryDesk<J>,
     shelf: &mut Shelf<J>,
     blank: Blank<J>,
-) -> Slot<J> {
+) -> Slot<J>
+    ensures registry { registry.new.seen ≡ shelf.old.history }
+    ensures shelf { shelf.new ≡ record shelf.old { syncs = shelf.new.syncs } }
+{
     registry.see(shelf);
     let pnode = blank.pnode();
     match registry.number(pnode) {

@@ -2,13 +2,13 @@
 ghost use Rattle.std.specs.Prelude.{◌≡◌, true};
 ghost use Rattle.pass_store.specs.Slots.{Has, HasObject};
 
-use crate::blank::Blank;
 use pass_entry::{Descriptor, Kind, Pnode};
 use pass_file::FileDesk;
 use pass_flow::{AppDesk, Versioned};
 use pass_hold::Whose;
 use pass_pipe::PipeDesk;
 use pass_proc::{Ended, Living};
+use pass_session::Blank;
 
 /// What lies in the lock of an object: its desk until its first use, then the object itself.
 #[derive(Drop)]

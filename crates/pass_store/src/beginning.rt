@@ -1,0 +1,139 @@
+//! A store begins, over what a session lays out.
+ghost use Rattle.std.specs.Prelude.{◌≡◌, IfOk, IfErr, None};
+ghost use Rattle.pass_plain.specs.Processes.{new_process};
+ghost use Rattle.pass_report.specs.Reports.{SameButBytes};
+ghost use Rattle.pass_session.specs.Layouts.{first_process, first_entries};
+ghost use Rattle.pass_session.specs.Openings.{IsBare};
+ghost use Rattle.pass_store.specs.Grounds.{ground_of};
+
+use crate::cellar::Cellar;
+use crate::ground::Opening;
+use crate::locks::Locks;
+use crate::slot::Slot;
+use crate::store::Store;
+use pass_entry::Pnode;
+use pass_file::FileDesk;
+use pass_flow::{AppDesk, Versioned};
+use pass_hold::Whose;
+use pass_outside::{Disk, Gate};
+use pass_proc::{Living, Proc};
+use pass_session::{Blank, Held, Opened};
+use std::alloc::{AllocError, Global};
+use std::collections::HashMap;
+use std::sync::Mutex;
+
+/// Where the objects of a session lie, each in a lock of its own.
+#[derive(Drop)]
+struct Layout<J: Whose> {
+    slots: Vec<Mutex<Slot<J>>>,
+    opened: HashMap<Pnode, usize>,
+}
+
+impl<J: Whose> Layout<J> {
+    /// Lays the files of the opening into locks.
+    fn files(&mut self, files: Vec<FileDesk<J>>) -> Result<(), AllocError> {
+        for file in files {
+            self.opened.insert(file.what(), self.slots.len())?;
+            self.slots.push(Mutex::new(Slot::File(file)))?;
+        }
+        Ok(())
+    }
+
+    /// Lays its app objects into locks.
+    fn apps(&mut self, apps: Vec<AppDesk<J>>) -> Result<(), AllocError> {
+        for app in apps {
+            self.opened.insert(app.what(), self.slots.len())?;
+            self.slots.push(Mutex::new(Slot::App(app)))?;
+        }
+        Ok(())
+    }
+
+    /// Lays the first process and the objects that may be made into locks.
+    fn others(&mut self, first: Living<J>, blanks: Vec<Blank<J>>) -> Result<(), AllocError> {
+        self.slots.push(Mutex::new(Slot::Living(first)))?;
+        for blank in blanks {
+            self.slots.push(Mutex::new(Slot::Blank(blank)))?;
+        }
+        Ok(())
+    }
+}
+
+/// A lock for each object of a session.
+fn laid<J: Whose>(
+    alloc: Global,
+    files: Vec<FileDesk<J>>,
+    apps: Vec<AppDesk<J>>,
+    first: Living<J>,
+    blanks: Vec<Blank<J>>,
+) -> Result<Layout<J>, AllocError> {
+    let mut layout = Layout {
+        slots: Vec::new(alloc),
+        opened: HashMap::new(alloc),
+    };
+    layout.files(files)?;
+    layout.apps(apps)?;
+    layout.others(first, blanks)?;
+    Ok(layout)
+}
+
+impl<'g, J: Opening, D: Disk, G: Gate> Store<'g, J, D, G> {
+    /// Lays an opened session under locks, and gives its first process. Where memory is refused it gives the disk back, and no entry
+    /// was made.
+    pub fn begin(
+        alloc: Global,
+        opened: Opened<D>,
+        gate: &'g G,
+    ) -> Result<(Store<'g, J, D, G>, Proc<J>), D>
+        requires book { opened.vault.book ≡ J.book }
+        requires places { opened.places ≡ J.places }
+        requires ground { ground_of opened.vault ≡ J.ground }
+        ensures first { IfOk result (λ r. (r.1.who ≡ first_process J.book.session.start) × (r.1.number ≡ 0) × (r.1.way ≡ None)) }
+        ensures seen { IfOk result (λ r. r.1.seen ≡ first_entries J.book.session.start) }
+        ensures state { IfOk result (λ r. r.1.state ≡ new_process) }
+        ensures list { IfOk result (λ r. r.0.list.items ≡ J.ground.before) }
+        ensures start { IfOk result (λ r. SameButBytes r.0.start J.book.session.start × IsBare r.0.start) }
+        ensures opened { IfOk result (λ r. r.0.opened ≡ J.ground.opened) }
+        ensures disk { IfErr result (λ disk. disk ≡ opened.vault.disk) }
+    {
+        let Held {
+            shelf,
+            safe,
+            registry,
+            files,
+            apps,
+            blanks,
+            first,
+            living,
+            list,
+            start,
+            opened,
+        } = match opened.with::<J>(alloc) {
+            Ok(held) => held,
+            Err(disk) => return Err(disk),
+        };
+        let Ok(layout) = laid(alloc, files, apps, living, blanks) else {
+            return Err(safe.into_vault().into_disk().0);
+        };
+        let Layout {
+            slots,
+            opened: places,
+        } = layout;
+        let ceiling = Pnode(start.ceiling);
+        let locks = Locks {
+            slots,
+            opened: places,
+            ceiling,
+            registry: Mutex::new(registry),
+            book: Mutex::new(shelf),
+        };
+        let store = Store {
+            start,
+            list,
+            opened,
+            locks,
+            vault: Mutex::new(Cellar::new(safe)),
+            gate,
+        };
+        Ok((store, first))
+    }
+}

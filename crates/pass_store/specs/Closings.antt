@@ -28,7 +28,7 @@ use Rattle.pass_store.specs.Grounds.{Ground}
 
 -- the session as its disk keeps it
 abbrev pub story_at : BookId → Ground → List Entry → Story
-story_at book ground history = record { before = ground.before; ceiling = ground.ceiling; session = book.session; history = history; start = ground.since; store = ground.store }
+story_at book laid history = record { before = laid.before; ceiling = laid.ceiling; session = book.session; history = history; start = laid.since; store = laid.store }
 
 -- Since the opening's two syncs each crash leaves what was there before the session, or its records with those of some of its
 -- entries; since the store was opened the latter; and since each sync at least as many as were durable then. A sync of a file leaves each

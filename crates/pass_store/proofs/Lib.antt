@@ -3,4 +3,5 @@ pub mod Filing
 pub mod Grounding
 pub mod Refusals
 pub mod Savings
+pub mod Standing
 pub mod Ways

@@ -80,3 +80,14 @@ pub record IsTold (history : List Entry) (t : TrailView) : Type 0 where
 -- the place of each of these files is its number
 abbrev pub AreByNumber : Session → List Entry → List FileDeskView → Type 0
 AreByNumber session history files = (number : ℕ) (f : FileDeskView) → slice_get files number ≡ Some f → IsFileNumber session history f.what number
+
+-- a fault by which settling stopped: the count of faults as the store was opened, and a later one, or want of memory
+abbrev pub IsFaultSince : ℕ → SafeFault → Type 0
+IsFaultSince opened (DiskFault first now) = (first ≡ opened) × (first ≤ now)
+IsFaultSince opened NoMemory = Unit {0}
+
+-- the same of a call's answer, which has no other end
+abbrev pub IsStopped : ℕ → CallEnd → Type 0
+IsStopped opened (ends.DiskFault first now) = (first ≡ opened) × (first ≤ now)
+IsStopped opened ends.NoMemory = Unit {0}
+IsStopped opened _ = ⊥

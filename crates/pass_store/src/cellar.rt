@@ -3,6 +3,7 @@ ghost use Rattle.std.specs.Prelude.{◌≡◌, ℕ, ◌+◌, ◌<◌, ◌≤◌,
 ghost use Rattle.pass_entry.specs.declared.entry.Entry.{Entry as AnyEntry};
 ghost use Rattle.pass_book.specs.Syncs.{durable};
 ghost use Rattle.pass_safe.specs.Syncings.{HasKept, HasRisen, IsCopy, IsFileSaved, IsSaved, KeepingView};
+ghost use Rattle.pass_store.specs.Closings.{IsFaultSince};
 ghost use Rattle.pass_store.specs.Grounds.{ground_of};
 
 use crate::ground::Opening;
@@ -10,10 +11,12 @@ use pass_file::FileDesk;
 use pass_hold::Shelf;
 use pass_outside::Disk;
 use pass_proc::Proc;
+use pass_registry::RegistryDesk;
 use pass_safe::{
-    Copied, Keeping, Safe, SafeFault, Saved, commit, commit_entries, copy, copy_entries,
-    is_durable, share, share_entries,
+    Copied, Keeping, Safe, SafeFault, Saved, commit, commit_entries, copy, copy_all, copy_entries,
+    flush_copied, is_durable, is_seen, settle_copied, settle_shared, share, share_entries,
 };
+use pass_vault::Receipt;
 use std::alloc::{AllocError, Global};
 use std::marker::Model;
 use std::sync::{Mutex, Wait};
@@ -206,6 +209,81 @@ impl<J: Opening, D: Disk> Cellar<J, D> {
         match self.copy_history(rt, book, proc) {
             Ok(copied) => self.commit_history(alloc, proc, copied, keeping),
             Err(_) => Err(SafeFault::NoMemory),
+        }
+    }
+}
+
+impl<J: Opening, D: Disk> Cellar<J, D> {
+    /// Copies what is not durable, in one hold of the book. The registry sees the whole history.
+    pub(crate) fn copy_all(
+        &mut self,
+        registry: &mut RegistryDesk<J>,
+        shelf: &mut Shelf<J>,
+    ) -> Result<Copied, AllocError>
+        ensures { IfOk result (λ c. (seen : List AnyEntry) × IsCopy J.book self.new.vault c seen) }
+    {
+        copy_all(&mut self.safe, registry, shelf)
+    }
+
+    #[tactic(auto, using(crate::proofs::Standing::entries_stand, crate::proofs::Standing::fault_since))]
+    /// Makes the entries that were copied durable.
+    pub(crate) fn settle_entries(
+        &mut self,
+        alloc: Global,
+        copied: Copied,
+    ) -> Result<Receipt, SafeFault>
+        requires { (seen : List AnyEntry) × IsCopy J.book self.old.vault copied seen }
+        ensures { IfErr result (IsFaultSince J.ground.opened) }
+    {
+        flush_copied(alloc, &mut self.safe, copied)
+    }
+
+    #[tactic(auto, using(crate::proofs::Standing::shared_stand, crate::proofs::Standing::fault_since))]
+    /// Writes the changed blocks of a file, all of whose entries are durable.
+    fn settle_seen(
+        &mut self,
+        alloc: Global,
+        file: FileDesk<J>,
+    ) -> (FileDesk<J>, Result<Option<Receipt>, SafeFault>)
+        requires { length file.seen ≤ durable self.old.vault.syncs }
+        ensures { IfErr result.1 (IsFaultSince J.ground.opened) }
+    {
+        settle_shared(alloc, &mut self.safe, file)
+    }
+
+    #[tactic(auto, using(crate::proofs::Standing::copied_stand, crate::proofs::Standing::fault_since))]
+    /// Makes the entries that were copied durable, and then writes the changed blocks of the file.
+    fn settle_unseen(
+        &mut self,
+        alloc: Global,
+        file: FileDesk<J>,
+        copied: Copied,
+    ) -> (FileDesk<J>, Result<Option<Receipt>, SafeFault>)
+        requires { IsCopy J.book self.old.vault copied file.seen }
+        ensures { IfErr result.1 (IsFaultSince J.ground.opened) }
+    {
+        settle_copied(alloc, &mut self.safe, file, copied)
+    }
+
+    /// Writes the changed blocks of a file, once its entries are durable. The book is locked while they are copied, and free while
+    /// the disk is at work.
+    pub(crate) fn settle_file<R: Wait>(
+        &mut self,
+        rt: &R,
+        alloc: Global,
+        book: &Mutex<Shelf<J>>,
+        file: FileDesk<J>,
+    ) -> (FileDesk<J>, Result<Option<Receipt>, SafeFault>)
+        ensures { IfErr result.1 (IsFaultSince J.ground.opened) }
+    {
+        let (file, seen) = is_seen(&self.safe, file);
+        if seen {
+            return self.settle_seen(alloc, file);
+        }
+        let mut file = file;
+        match self.copy_file(rt, book, &mut file) {
+            Ok(copied) => self.settle_unseen(alloc, file, copied),
+            Err(_) => (file, Err(SafeFault::NoMemory)),
         }
     }
 }

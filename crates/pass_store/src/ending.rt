@@ -95,7 +95,7 @@ fn tell_all<J: Whose>(shelf: &mut Shelf<J>, trails: Vec<Trail<J>>)
 }
 
 /// How settling went, as a call answers it.
-fn answered(settled: Result<Receipt, SafeFault>) -> Result<Receipt, CallEnd>
+pub(crate) fn answered(settled: Result<Receipt, SafeFault>) -> Result<Receipt, CallEnd>
     ensures { result ≡ answer_of settled }
 {
     match settled {

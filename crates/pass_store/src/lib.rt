@@ -8,6 +8,7 @@ mod disclosing;
 mod ending;
 mod exiting;
 mod flows;
+mod flushing;
 mod forking;
 mod ground;
 mod locks;

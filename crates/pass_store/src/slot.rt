@@ -52,6 +52,14 @@ impl<J: Whose> Slot<J> {
         }
     }
 
+    /// The number of the file that lies here.
+    pub(crate) fn file(&self) -> Option<Pnode> {
+        match self {
+            Slot::File(file) => Some(file.what()),
+            _ => None,
+        }
+    }
+
     /// The object of a descriptor lies here.
     pub(crate) fn has_object(&self, d: &Descriptor) -> bool
         ensures { result ≡ true → HasObject self.now d.now }

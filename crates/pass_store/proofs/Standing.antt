@@ -1,0 +1,46 @@
+-- What a vault was opened with stays while a store is settled; and the counts of a fault.
+use Rattle.std.proofs.Common.{◌≡◌, ◌≤◌, ◌∙◌, ℕ, List, ap, inl, inr, refl, subst}
+use Rattle.std.specs.Prelude.{IfErr, IfOk, OnErr, Option, Result, Ok, Err}
+use Rattle.pass_entry.specs.declared.entry.Entry.{Entry}
+use Rattle.pass_file.specs.Desks.{FileDeskView}
+use Rattle.pass_outside.specs.Moments.{Moment}
+use Rattle.pass_vault.specs.Vaulted.{Vaulted}
+use Rattle.pass_vault.specs.declared.vault.Receipt.{Receipt}
+use Rattle.pass_safe.specs.Commits.{HasNotFlushed, HasStopped, flushed_to}
+use Rattle.pass_safe.specs.Safes.{Leaves, SafeView}
+use Rattle.pass_safe.specs.Settled.{HasSettled, settled_by}
+use Rattle.pass_safe.specs.declared.fault.SafeFault.{SafeFault}
+use Rattle.pass_safe.specs.declared.fault.SafeFault.TheVariants.{DiskFault, NoMemory}
+use Rattle.pass_store.specs.Closings.{IsFaultSince}
+use Rattle.pass_store.specs.Grounds.{Ground, ground_of}
+
+pub entries_stand : {D : Type 0} (ground : Ground) (seen : List Entry) (old new : Vaulted D) (answer : Result Receipt SafeFault) → ground_of old ≡ ground
+    → IfOk answer (λ r. new ≡ flushed_to old new seen r.calls) → OnErr answer (HasNotFlushed seen old new) → ground_of new ≡ ground
+entries_stand ground seen old new (Ok r) was done undone = ap ground_of done ∙ was
+entries_stand ground seen old new (Err e) was done undone = ap ground_of undone.vault ∙ was
+
+pub shared_stand : {D : Type 0} (ground : Ground) (f : FileDeskView) (old new : Vaulted D) (answer : Result (Option Receipt) SafeFault) → ground_of old ≡ ground
+    → IfOk answer (λ r. new ≡ record old { disk = new.disk; syncs = settled_by f.what f.number old.syncs r }) → OnErr answer (new ≡ record old { disk = new.disk }) → ground_of new ≡ ground
+shared_stand ground f old new (Ok r) was done undone = ap ground_of done ∙ was
+shared_stand ground f old new (Err e) was done undone = ap ground_of undone ∙ was
+
+stopped : {D : Type 0} (seen : List Entry) (old new : Vaulted D) → HasStopped seen old new → ground_of new ≡ ground_of old
+stopped seen old new (inl not) = ap ground_of not.vault
+stopped seen old new (inr (calls, is)) = ap ground_of is
+
+pub copied_stand : {D : Type 0} (ground : Ground) (f : FileDeskView) (old new : Vaulted D) (answer : Result (Option Receipt) SafeFault) → ground_of old ≡ ground
+    → IfOk answer (λ r. HasSettled f old new r) → OnErr answer (HasStopped f.seen old new) → ground_of new ≡ ground
+copied_stand ground f old new (Ok r) was done undone = ap ground_of done.vault ∙ was
+copied_stand ground f old new (Err e) was done undone = stopped f.seen old new undone ∙ was
+
+-- a fault that is answered has the count of the opening
+pub fault_since : {D T : Type 0} (view : D → Moment) (ground : Ground) (old new : SafeView D) (answer : Result T SafeFault) → ground_of old.vault ≡ ground → Leaves view old new answer
+    → IfErr answer (IsFaultSince ground.opened)
+fault_since {D} {T} view ground old new answer was leaves = by_case answer refl
+  where
+    by_case : (r : Result T SafeFault) → answer ≡ r → IfErr r (IsFaultSince ground.opened)
+    by_case (Ok x) is = tt {0}
+    by_case (Err NoMemory) is = tt {0}
+    by_case (Err (DiskFault first now)) is =
+        let lost = leaves.failed first now is in
+        (lost.first ∙ ap (λ (g : Ground). g.opened) was, lost.rises)

@@ -13,13 +13,13 @@ ghost use Rattle.pass_book.specs.Parting.{lists_of};
 ghost use Rattle.pass_book.specs.Records.{AreParts};
 ghost use Rattle.pass_book.specs.Shedding.{shed};
 ghost use Rattle.pass_entry.specs.declared.record.Record.{Record as AnyRecord};
-ghost use Rattle.pass_book.specs.Syncs.{durable, IsRising, Backs};
+ghost use Rattle.pass_book.specs.Syncs.{durable, IsRising, Backs, IsBacked};
 
 use crate::claim::{Claim, Full, Slip, Tally};
 use crate::entering::{enter, fold_last};
 use crate::parts::Parts;
 use crate::sight::{Note, Seats, greater};
-use crate::steps::{Place, claim_places, look, note, note_list, refund, seated, show, taken};
+use crate::steps::{Place, back, claim_places, look, note, note_list, refund, seated, show, taken};
 use crate::tokens::{Desk, Line};
 use pass_entry::{Act, Entry, Record};
 use std::alloc::{AllocError, Global};
@@ -250,21 +250,23 @@ impl Book {
         self.entries.as_slice()
     }
 
-    /// The history, which is legal.
+    /// The history, which is legal. What it says was kept was synced: the list that the book has seen tells when.
     pub fn into_history(self) -> Vec<Entry>
         ensures entries { result.items ≡ self.history }
         ensures sound { IsSound self.book.session }
         ensures legal { IsLegal self.book.session self.history }
+        ensures backed { IsBacked self.book.session self.history self.syncs }
     {
         let Book {
-            seat: _,
-            table: _,
+            mut seat,
+            table,
             entries,
             slips: _,
             places: _,
             claimed: _,
             kept: _,
         } = self;
+        back(&table.shared, &mut seat);
         entries
     }
 

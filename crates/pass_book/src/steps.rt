@@ -5,7 +5,7 @@ ghost use Rattle.pass_book.specs.declared.view.VaultSync.{VaultSync};
 ghost use Rattle.pass_plain.specs.Legal.{IsLegal, ObjectAllows, CallerAllows, MayFollow};
 ghost use Rattle.pass_book.specs.Names.{name, Among, touches, Agrees, Listed};
 ghost use Rattle.pass_book.specs.Numbers.{IsFileNumber};
-ghost use Rattle.pass_book.specs.Syncs.{durable, called, IsRising, Backs};
+ghost use Rattle.pass_book.specs.Syncs.{durable, called, IsRising, Backs, IsBacked};
 ghost use mathlib.Core.List.{IsPrefix};
 ghost use Rattle.pass_book.specs.Views as views;
 ghost use Rattle.pass_book.specs.Tokens as tokens;
@@ -154,6 +154,14 @@ fn learn(table: &Desks, book: &mut Place)
     ensures desks { views.all_listed book.old.me.0.syncs book.old.me.0.away book.old.me.0.folded }
     ensures within { durable book.old.me.0.syncs ≤ length book.old.me.0.seen }
     ensures claimed { book.old.me.0.claimed ≤ book.old.me.0.pool }
+{
+    table.load::<Learning>(book, 0);
+}
+
+/// Each entry of the book that says that something was kept has its syncs in the list that the book has seen.
+pub(crate) fn back(table: &Desks, book: &mut Place)
+    requires at { tokens.At (name Book 0) table.now.table_id book.old.table_id book.old.me.0 }
+    ensures backed { IsBacked (views.session_in book.old.me.0.opened) book.old.me.0.seen book.old.me.0.syncs }
 {
     table.load::<Learning>(book, 0);
 }

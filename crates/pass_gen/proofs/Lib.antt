@@ -1,3 +1,3 @@
 mod Follows
 mod Mapped
-mod Numbers
+pub mod Numbers

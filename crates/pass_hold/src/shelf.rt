@@ -8,7 +8,7 @@ ghost use Rattle.pass_plain.specs.Sound.{IsSound};
 ghost use Rattle.pass_book.specs.Names.{name, Listed};
 ghost use Rattle.pass_book.specs.Parting.{lists_of};
 ghost use Rattle.pass_book.specs.Records.{AreParts};
-ghost use Rattle.pass_book.specs.Syncs.{durable, IsRising};
+ghost use Rattle.pass_book.specs.Syncs.{durable, IsBacked, IsRising};
 ghost use Rattle.pass_book.specs.declared.view.Role.TheVariants as role;
 
 use crate::whose::Whose;
@@ -138,6 +138,7 @@ impl<J: Whose> Shelf<J> {
         ensures entries { result.items ≡ self.history }
         ensures sound { IsSound J.book.session }
         ensures legal { IsLegal J.book.session self.history }
+        ensures backed { IsBacked J.book.session self.history self.syncs }
     {
         self.book.into_history()
     }

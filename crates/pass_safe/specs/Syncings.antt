@@ -100,6 +100,16 @@ SyncAnswers session places old new fd (Err (ends.DiskFault opened now)) = HasLef
 SyncAnswers session places old new fd (Err (ends.Full left need)) = IsFull session places old new (requests.Sync fd) left need
 SyncAnswers session places old new fd (Err ends.NoMemory) = HasLeft session old new (requests.Sync fd)
 
+-- a call ended otherwise than by a fault of the device
+abbrev pub IsNoDiskFault : CallEnd → Type 0
+IsNoDiskFault (ends.DiskFault opened now) = ⊥
+IsNoDiskFault _ = Unit {0}
+
+-- a fault of the vault, as a call answers it
+abbrev pub end_of : SafeFault → CallEnd
+end_of (DiskFault opened now) = ends.DiskFault opened now
+end_of NoMemory = ends.NoMemory
+
 -- the counts of a fault of the device
 abbrev pub HasRisen : SafeFault → Type 0
 HasRisen (DiskFault opened now) = opened ≤ now

@@ -9,7 +9,7 @@ ghost use Rattle.pass_book.specs.Syncs.{Backs};
 ghost use Rattle.pass_hold.specs.Callings.{HasLooked, IsIdle};
 ghost use Rattle.pass_calls.specs.Answers.{HasMoved};
 ghost use Rattle.pass_calls.specs.declared.answer.Moved.TheVariants as moved;
-ghost use Rattle.pass_safe.specs.Syncings.{HasKept, HasRisen, HasSynced, IsBacking, IsFileSaved, IsKeeping, IsSaved, SyncAnswers, kept_entry};
+ghost use Rattle.pass_safe.specs.Syncings.{HasKept, HasRisen, HasSynced, IsBacking, IsFileSaved, IsKeeping, IsSaved, SyncAnswers, end_of, kept_entry};
 
 use crate::fault::SafeFault;
 use crate::keeping::Keeping;
@@ -136,7 +136,8 @@ pub fn kept_entries<J: Whose>(
 pub fn left<J: Whose>(proc: &Proc<J>, keeping: &Keeping<J>, fault: SafeFault) -> CallEnd
     requires kept { (what : ℕ) × HasKept J.book.session keeping.now proc.now what }
     requires risen { HasRisen fault }
-    ensures { SyncAnswers J.book.session J.places keeping.now.before proc.now keeping.now.fd (Err result) }
+    ensures call { SyncAnswers J.book.session J.places keeping.now.before proc.now keeping.now.fd (Err result) }
+    ensures cause { result ≡ end_of fault }
 {
     let _ = proc;
     let _ = keeping;

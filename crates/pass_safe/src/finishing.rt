@@ -5,6 +5,7 @@ ghost use mathlib.Core.List.{IsPrefix};
 ghost use Rattle.pass_entry.specs.Limits.{block_count};
 ghost use Rattle.pass_plain.specs.Legal.{IsLegal};
 ghost use Rattle.pass_plain.specs.Sound.{IsSound};
+ghost use Rattle.pass_book.specs.Syncs.{IsBacked};
 ghost use Rattle.pass_clean.specs.Cleaned.{is_dirty};
 ghost use Rattle.pass_keep.specs.Keepers.{GoesOn};
 ghost use Rattle.pass_safe.specs.Commits.{HasNotFlushed, flushed_to};
@@ -16,6 +17,7 @@ ghost use Rattle.pass_safe.specs.declared.fault.SafeFault.TheVariants.{DiskFault
 use crate::fault::SafeFault;
 use crate::safe::Safe;
 use crate::saving::{copy_all, flush_copied};
+use pass_book::Note;
 use pass_entry::Entry;
 use pass_file::FileDesk;
 use pass_hold::{Shelf, Whose};
@@ -30,6 +32,8 @@ pub struct Finished<D: Disk> {
     pub settled: Result<Receipt, SafeFault>,
     pub vault: Vault<D>,
     pub history: Vec<Entry>,
+    /// What the book had at its end, for the vault.
+    pub told: Note,
 }
 
 /// Writes the dirty blocks of a file that has some, at the end of a session.
@@ -154,6 +158,9 @@ pub fn finish<J: Whose, D: Disk>(
     ensures history { result.history.items ≡ shelf.history }
     ensures sound { IsSound J.book.session }
     ensures legal { IsLegal J.book.session shelf.history }
+    ensures note { result.told ≡ record { book = J.book; seen = shelf.history; syncs = result.told.syncs } }
+    // What is said to be kept is durable, by the list that the book had seen.
+    ensures backed { IsBacked J.book.session shelf.history result.told.syncs }
     ensures vault { result.vault ≡ record safe.vault { seen = result.vault.seen; disk = result.vault.disk; place = result.vault.place; syncs = result.vault.syncs } }
     ensures told { IsPrefix result.vault.seen shelf.history }
     ensures grows { IsPrefix safe.vault.syncs result.vault.syncs }
@@ -170,9 +177,11 @@ pub fn finish<J: Whose, D: Disk>(
     let mut registry = registry;
     let mut shelf = shelf;
     let settled = settle_all(alloc, &mut safe, &mut registry, &mut shelf, files);
+    let told = shelf.note();
     Finished {
         settled,
         vault: safe.into_vault(),
         history: shelf.into_history(),
+        told,
     }
 }

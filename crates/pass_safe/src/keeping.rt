@@ -6,7 +6,7 @@ ghost use Rattle.pass_entry.specs.declared.objects.Descriptor.{Descriptor as Any
 ghost use Rattle.pass_plain.specs.Processes.{refusal};
 ghost use Rattle.pass_hold.specs.Callings.{IsIdle};
 ghost use Rattle.pass_hold.specs.Places.{HasRoom};
-ghost use Rattle.pass_safe.specs.Syncings.{HasKept, IsKeeping, SyncAnswers};
+ghost use Rattle.pass_safe.specs.Syncings.{HasKept, IsKeeping, IsNoDiskFault, SyncAnswers};
 
 use pass_calls::CallEnd;
 use pass_entry::{Ask, CallFault, CallName};
@@ -86,6 +86,7 @@ pub fn keep<J: Whose, V: Versioned<J>>(
     ensures object { IfOk result (λ k. V.object object.new ≡ record (V.object object.old) { seen = proc.new.seen; syncs = proc.new.syncs }) }
     ensures full { IfErr result (λ e. SyncAnswers J.book.session J.places proc.old proc.new fd (Err e)) }
     ensures untouched { IfErr result (λ e. object.new ≡ object.old) }
+    ensures no_disk { IfErr result IsNoDiskFault }
 {
     let before = Snapshot::of(&*proc);
     if let Err(full) = proc.caller.room(shelf, 3) {
@@ -116,7 +117,8 @@ pub fn refused_sync<J: Whose>(
 ) -> CallEnd
     requires fd { fd < 64 }
     requires refused { refusal proc.old.state (ask.Held fd) ≡ Some fault }
-    ensures { SyncAnswers J.book.session J.places proc.old proc.new fd (Err result) }
+    ensures call { SyncAnswers J.book.session J.places proc.old proc.new fd (Err result) }
+    ensures no_disk { IsNoDiskFault result }
 {
     match refuse(alloc, shelf, proc, CallName::Sync, Ask::Held { fd }, fault) {
         Ok(()) => CallEnd::from(fault),

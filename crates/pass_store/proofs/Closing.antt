@@ -1,18 +1,23 @@
 -- What is left of a store that was closed.
 use Rattle.std.proofs.Common.{◌≡◌, ◌<◌, ◌≤◌, ℕ, List, [], ◌∷◌, ◌++◌, false, length, map, refl, ap, sym, ◌∙◌, subst, arith}
 use Rattle.std.specs.Prelude.{IsTrue, Some, slice_get}
+use Rattle.std.specs.Option.{option_map}
 use Rattle.std.proofs.lemmas.List.{map-append}
+use Rattle.std.proofs.lemmas.Option.{slice_get-map}
 use Rattle.std.proofs.lemmas.List.Elements.{All-append, All-cons, All-nil}
 use Rattle.std.specs.List.{All}
 use mathlib.Core.List.{IsPrefix}
 use Rattle.pass_entry.specs.Limits.{block_count}
 use Rattle.pass_entry.specs.declared.entry.Entry.{Entry}
 use Rattle.pass_entry.specs.declared.entry.Synced.{Synced}
+use Rattle.pass_entry.proofs.Lists.{in_take}
 use Rattle.pass_outside.specs.Areas.{Image}
 use Rattle.pass_outside.specs.Moments.{Moment}
 use Rattle.pass_plain.proofs.Appends.{slice_get-last}
 use Rattle.pass_range.specs.Places.{place, Holds}
 use Rattle.pass_range.specs.Rows.{IsUnmatched}
+use Rattle.pass_plain.specs.Sessions.{Session}
+use Rattle.pass_book.specs.Syncs.{IsBacked}
 use Rattle.pass_book.specs.Tokens.{BookId}
 use Rattle.pass_book.specs.Views.{longer}
 use Rattle.pass_book.proofs.Rules.{longer_both}
@@ -25,8 +30,20 @@ use Rattle.pass_vault.specs.Vaults.{handed_of}
 use Rattle.pass_vault.specs.declared.vault.Receipt.{Receipt}
 use Rattle.pass_safe.specs.Settled.{EndsWith}
 use Rattle.pass_proc.specs.Ends.{TrailView}
-use Rattle.pass_store.specs.Closings.{IsClosed, IsSettled, IsTold, story_at, synced_as}
+use Rattle.pass_store.specs.Closings.{IsBackedBy, IsClosed, IsSettled, IsTold, story_at, synced_as}
 use Rattle.pass_store.specs.Grounds.{Ground, ground_of}
+
+-- the syncs that a vault hands out back what its list does
+handed_backs : (session : Session) (history : List Entry) (ss : List VaultSync) → IsBacked session history ss → IsBackedBy history (map handed_of ss)
+handed_backs session history ss backed = λ q p fd e k at kept there before who number keeps.
+    let has = (backed q e at fd p k kept (in_take p q history k before there) who number keeps).0 in
+    record {
+      i = has.0;
+      x = handed_of has.1;
+      is = slice_get-map handed_of ss has.0 ∙ ap (option_map handed_of) has.2;
+      above = has.3.1;
+      within = has.3.2;
+    }
 
 -- a vault that has seen the whole history is of the store's session
 module _ {D : Type 0} (v : Vaulted D) (book : BookId) (ground : Ground) (history : List Entry) (of_book : v.book ≡ book) (of_ground : ground_of v ≡ ground) (whole : v.seen ≡ history) where
@@ -40,9 +57,9 @@ module _ {D : Type 0} (v : Vaulted D) (book : BookId) (ground : Ground) (history
       → (IsTrue m.tells → (i : ℕ) (x : VaultSync) (f : FileMark) → slice_get v.syncs i ≡ Some x → x.file ≡ Some f → (c : Image) → m.left_since x.calls c
       → (n : ℕ) → n ≤ length v.seen → HasRecords (list_to (story_of v) n) c.log → (block at : ℕ) → source_to (story_of v) n f.pnode block ≡ Some at → at < x.entries
       → Holds (place f.number block) (range_to (story_of v) n f.pnode block) c.store × (IsUnmatched (list_to (story_of v) n) c.store f.pnode block → ⊥))
-      → AreTimed m (length v.seen) (map handed_of v.syncs)
+      → AreTimed m (length v.seen) (map handed_of v.syncs) → IsBacked book.session history v.syncs
       → (syncs : List Synced) → syncs ≡ map handed_of v.syncs → IsClosed (story_at book ground history) ground.ready m syncs
-  closes m begun opened since matched timed syncs handed =
+  closes m begun opened since matched timed backed syncs handed =
       let ready : v.ready ≡ ground.ready = ap (λ (g : Ground). g.ready) of_ground in
       subst (λ (s : Story). IsClosed s ground.ready m syncs) story_is
       (record {
@@ -53,6 +70,7 @@ module _ {D : Type 0} (v : Vaulted D) (book : BookId) (ground : Ground) (history
         since = since;
         matched = matched;
         timed = subst (AreTimed m (length v.seen)) (sym handed) timed;
+        backed = subst (λ (h : List Entry). IsBackedBy h syncs) (sym whole) (subst (IsBackedBy history) (sym handed) (handed_backs book.session history v.syncs backed));
       })
 
   -- where its last sync has all entries, and no block is dirty

@@ -1,6 +1,7 @@
 -- What is left of a store that was closed, and what crashes leave of its disk. This project's own rule.
 use Rattle.std.specs.Prelude.{◌≡◌, ℕ, ◌<◌, ◌≤◌, ◌++◌, ◌∷◌, List, [], IsTrue, Some, Result, Ok, Err, length, map, slice_get}
 use mathlib.Core.List.{IsPrefix}
+use Rattle.pass_entry.specs.declared.entry.Act.TheVariants as act
 use Rattle.pass_entry.specs.declared.entry.Entry.{Entry}
 use Rattle.pass_entry.specs.declared.entry.Synced.{Synced}
 use Rattle.pass_outside.specs.Areas.{Image}
@@ -19,6 +20,7 @@ use Rattle.pass_vault.specs.Vaults.{handed_of}
 use Rattle.pass_vault.specs.declared.vault.Receipt.{Receipt}
 use Rattle.pass_file.specs.Desks.{FileDeskView}
 use Rattle.pass_safe.specs.Safes.{IsLost}
+use Rattle.pass_safe.specs.Syncings.{end_of}
 use Rattle.pass_safe.specs.declared.fault.SafeFault.{SafeFault}
 use Rattle.pass_safe.specs.declared.fault.SafeFault.TheVariants.{DiskFault, NoMemory}
 use Rattle.pass_calls.specs.declared.answer.CallEnd.{CallEnd}
@@ -30,10 +32,23 @@ use Rattle.pass_store.specs.Grounds.{Ground}
 abbrev pub story_at : BookId → Ground → List Entry → Story
 story_at book laid history = record { before = laid.before; ceiling = laid.ceiling; session = book.session; history = history; start = laid.since; store = laid.store }
 
+-- a sync of more than p entries and of at most q
+pub record HasSyncBetween (p q : ℕ) (syncs : List Synced) : Type 0 where
+  pub i : ℕ
+  pub x : Synced
+  pub is : slice_get syncs i ≡ Some x
+  pub above : p < x.entries
+  pub within : x.entries ≤ q
+
+-- Each entry that tells of a sync has it in the list: one that has the entry by which its call began, and none from its own place on.
+abbrev pub IsBackedBy : List Entry → List Synced → Type 0
+IsBackedBy history syncs = (q p fd : ℕ) (e k : Entry) → slice_get history q ≡ Some e → e.act ≡ act.Kept fd → slice_get history p ≡ Some k → p < q → k.who ≡ e.who → k.number ≡ e.number → k.act ≡ act.Keep
+    → HasSyncBetween p q syncs
+
 -- Since the opening's two syncs each crash leaves what was there before the session, or its records with those of some of its
 -- entries; since the store was opened the latter; and since each sync at least as many as were durable then. A sync of a file leaves each
 -- range of it whose row comes from an entry below the sync matched, with the bytes of the image's entries. The syncs that are
--- handed out are these, and of their moment.
+-- handed out are these, and of their moment; each of which an entry tells is among them.
 pub record IsClosed (s : Story) (ready : ℕ) (m : Moment) (syncs : List Synced) : Type 0 where
   pub begun : IsBegun s m
   pub opened : IsTrue m.tells → (c : Image) → m.left_since ready c → IsLeft s 0 (λ number. 0) c
@@ -44,6 +59,7 @@ pub record IsClosed (s : Story) (ready : ℕ) (m : Moment) (syncs : List Synced)
       → (n : ℕ) → n ≤ length s.history → HasRecords (list_to s n) c.log → (block at : ℕ) → source_to s n f.pnode block ≡ Some at → at < x.entries
       → Holds (place f.number block) (range_to s n f.pnode block) c.store × (IsUnmatched (list_to s n) c.store f.pnode block → ⊥)
   pub timed : AreTimed m (length s.history) syncs
+  pub backed : IsBackedBy s.history syncs
 
 -- the sync of a receipt, as it is handed out
 abbrev pub synced_as : Receipt → Synced
@@ -63,14 +79,17 @@ pub record IsSettled (s : Story) (m : Moment) (syncs : List Synced) (r : Receipt
 -- how settling went, as a call answers it
 abbrev pub answer_of : Result Receipt SafeFault → Result Receipt CallEnd
 answer_of (Ok r) = Ok r
-answer_of (Err (DiskFault opened now)) = Err (ends.DiskFault opened now)
-answer_of (Err NoMemory) = Err ends.NoMemory
+answer_of (Err fault) = Err (end_of fault)
+
+-- a call ended by want of memory, or by a fault of the disk with such counts
+abbrev pub IsFaultWith : (ℕ → ℕ → Type 0) → CallEnd → Type 0
+IsFaultWith counts (ends.DiskFault first now) = counts first now
+IsFaultWith counts ends.NoMemory = Unit {0}
+IsFaultWith counts _ = ⊥
 
 -- Why not everything was settled: a device call failed since the store was opened, or memory was refused.
 abbrev pub IsUnsettled : ℕ → Moment → CallEnd → Type 0
-IsUnsettled opened m (ends.DiskFault first now) = IsLost m opened (record { opened = first; found = now })
-IsUnsettled opened m ends.NoMemory = Unit {0}
-IsUnsettled opened m _ = ⊥
+IsUnsettled opened m answer = IsFaultWith (λ first now. IsLost m opened (record { opened = first; found = now })) answer
 
 -- the history begins with what the process had seen, and has no other entries by it
 pub record IsTold (history : List Entry) (t : TrailView) : Type 0 where
@@ -81,13 +100,22 @@ pub record IsTold (history : List Entry) (t : TrailView) : Type 0 where
 abbrev pub AreByNumber : Session → List Entry → List FileDeskView → Type 0
 AreByNumber session history files = (number : ℕ) (f : FileDeskView) → slice_get files number ≡ Some f → IsFileNumber session history f.what number
 
--- a fault by which settling stopped: the count of faults as the store was opened, and a later one, or want of memory
-abbrev pub IsFaultSince : ℕ → SafeFault → Type 0
-IsFaultSince opened (DiskFault first now) = (first ≡ opened) × (first ≤ now)
-IsFaultSince opened NoMemory = Unit {0}
+-- A device call has failed since the store was opened, as the disk was at some moment: the count of faults as the store was opened, and a later
+-- one, which is above it unless a count of the disk stands at its end.
+pub record HasFailed {D : Type 0} (view : D → Moment) (opened first now : ℕ) : Type 0 where
+  pub disk : D
+  pub lost : IsLost (view disk) opened (record { opened = first; found = now })
+
+-- why the vault gave no answer: such a fault, or want of memory
+abbrev pub IsFaultSince : {D : Type 0} → (D → Moment) → ℕ → SafeFault → Type 0
+IsFaultSince view opened (DiskFault first now) = HasFailed view opened first now
+IsFaultSince view opened NoMemory = Unit {0}
 
 -- the same of a call's answer, which has no other end
-abbrev pub IsStopped : ℕ → CallEnd → Type 0
-IsStopped opened (ends.DiskFault first now) = (first ≡ opened) × (first ≤ now)
-IsStopped opened ends.NoMemory = Unit {0}
-IsStopped opened _ = ⊥
+abbrev pub IsStopped : {D : Type 0} → (D → Moment) → ℕ → CallEnd → Type 0
+IsStopped view opened answer = IsFaultWith (HasFailed view opened) answer
+
+-- where a call ends by a fault of the disk, there was one
+abbrev pub HasCause : {D : Type 0} → (D → Moment) → ℕ → CallEnd → Type 0
+HasCause view opened (ends.DiskFault first now) = HasFailed view opened first now
+HasCause view opened _ = Unit {0}

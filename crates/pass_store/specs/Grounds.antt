@@ -1,6 +1,7 @@
 -- What the vault of a store was opened with.
-use Rattle.std.specs.Prelude.{ℕ, List, []}
+use Rattle.std.specs.Prelude.{ℕ, ◌≡◌, ◌≤◌, Bool, List, []}
 use Rattle.pass_entry.specs.declared.record.Record.{Record}
+use Rattle.pass_outside.specs.Moments.{Moment}
 use Rattle.pass_vault.specs.Vaulted.{Vaulted}
 
 -- The records that the log had and the bytes of the store area then, the session's ceiling, the count of device calls since which nothing
@@ -18,3 +19,8 @@ ground_of v = record { before = v.before; store = v.store; ceiling = v.ceiling; 
 
 abbrev pub no_ground : Ground
 no_ground = record { before = []; store = []; ceiling = 0; since = 0; ready = 0; opened = 0 }
+
+-- a later moment of the disk that a store was opened over: it tells what it told then, and has no fewer faults
+pub record HasGoneOn (tells : Bool) (opened : ℕ) (m : Moment) : Type 0 where
+  pub told : m.tells ≡ tells
+  pub faults : opened ≤ m.faults

@@ -4,7 +4,7 @@ ghost use Rattle.pass_plain.specs.Processes.{new_process};
 ghost use Rattle.pass_report.specs.Reports.{SameButBytes};
 ghost use Rattle.pass_session.specs.Layouts.{first_process, first_entries};
 ghost use Rattle.pass_session.specs.Openings.{IsBare};
-ghost use Rattle.pass_store.specs.Grounds.{ground_of};
+ghost use Rattle.pass_store.specs.Grounds.{HasGoneOn, ground_of};
 
 use crate::cellar::Cellar;
 use crate::ground::Opening;
@@ -87,6 +87,7 @@ impl<'g, J: Opening, D: Disk, G: Gate> Store<'g, J, D, G> {
         requires book { opened.vault.book ≡ J.book }
         requires places { opened.places ≡ J.places }
         requires ground { ground_of opened.vault ≡ J.ground }
+        requires gone_on { HasGoneOn J.tells J.ground.opened (D.view opened.vault.disk) }
         ensures first { IfOk result (λ r. (r.1.who ≡ first_process J.book.session.start) × (r.1.number ≡ 0) × (r.1.way ≡ None)) }
         ensures seen { IfOk result (λ r. r.1.seen ≡ first_entries J.book.session.start) }
         ensures state { IfOk result (λ r. r.1.state ≡ new_process) }

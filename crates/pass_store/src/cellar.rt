@@ -2,9 +2,9 @@
 ghost use Rattle.std.specs.Prelude.{◌≡◌, ℕ, ◌+◌, ◌<◌, ◌≤◌, List, IfOk, IfErr, length};
 ghost use Rattle.pass_entry.specs.declared.entry.Entry.{Entry as AnyEntry};
 ghost use Rattle.pass_book.specs.Syncs.{durable};
-ghost use Rattle.pass_safe.specs.Syncings.{HasKept, HasRisen, IsCopy, IsFileSaved, IsSaved, KeepingView};
+ghost use Rattle.pass_safe.specs.Syncings.{HasKept, IsCopy, IsFileSaved, IsSaved, KeepingView};
 ghost use Rattle.pass_store.specs.Closings.{IsFaultSince};
-ghost use Rattle.pass_store.specs.Grounds.{ground_of};
+ghost use Rattle.pass_store.specs.Grounds.{HasGoneOn, ground_of};
 
 use crate::ground::Opening;
 use pass_file::FileDesk;
@@ -34,7 +34,7 @@ impl<J: Opening, D: Disk> Model for Cellar<J, D> {
     ghost use Rattle.pass_entry.specs.contracts.record.Record as record_type;
     ghost use Rattle.pass_plain.specs.contracts.start.Start as start_type;
     ghost use Rattle.pass_safe.specs.Safes.{SafeView};
-    ghost use Rattle.pass_store.specs.Grounds.{ground_of};
+    ghost use Rattle.pass_store.specs.Grounds.{HasGoneOn, ground_of};
 
     ghost Value = { SafeView D };
 
@@ -42,13 +42,14 @@ impl<J: Opening, D: Disk> Model for Cellar<J, D> {
 
     ghost view = { λ c. c.safe };
 
-    ghost invariant = { λ c. ground_of c.safe.vault ≡ J.ground };
+    ghost invariant = { λ c. (ground_of c.safe.vault ≡ J.ground) × HasGoneOn J.tells J.ground.opened (D.view c.safe.vault.disk) };
 }
 
 impl<J: Opening, D: Disk> Cellar<J, D> {
     /// Lays a vault into its lock.
     pub fn new(safe: Safe<J, D>) -> Cellar<J, D>
-        requires { ground_of safe.vault ≡ J.ground }
+        requires ground { ground_of safe.vault ≡ J.ground }
+        requires gone_on { HasGoneOn J.tells J.ground.opened (D.view safe.vault.disk) }
         ensures { result ≡ safe }
     {
         Cellar { safe }
@@ -58,6 +59,7 @@ impl<J: Opening, D: Disk> Cellar<J, D> {
     pub fn into_safe(self) -> Safe<J, D>
         ensures safe { result ≡ self }
         ensures ground { ground_of self.vault ≡ J.ground }
+        ensures gone_on { HasGoneOn J.tells J.ground.opened (D.view self.vault.disk) }
     {
         self.safe
     }
@@ -80,7 +82,7 @@ impl<J: Opening, D: Disk> Cellar<J, D> {
         copy(&mut self.safe, file, &mut shelf)
     }
 
-    #[tactic(auto, using(crate::proofs::Grounding::committed, crate::proofs::Grounding::all_above))]
+    #[tactic(auto, using(crate::proofs::Grounding::left_on, crate::proofs::Grounding::committed, crate::proofs::Grounding::all_above, crate::proofs::Standing::fault_since))]
     /// Makes the entries that were copied durable, and then the data of the file.
     fn commit_file(
         &mut self,
@@ -95,13 +97,13 @@ impl<J: Opening, D: Disk> Cellar<J, D> {
         ensures saved { IfOk result.1 (λ s. IsSaved J.book result.0.seen s) }
         ensures of_file { IfOk result.1 (λ s. IsFileSaved result.0.what result.0.number s) }
         ensures above { IfOk result.1 (λ s. keeping.now.place < s.receipt.entries) }
-        ensures risen { IfErr result.1 HasRisen }
+        ensures fault { IfErr result.1 (IsFaultSince D.view J.ground.opened) }
     {
         let _ = keeping;
         commit(alloc, &mut self.safe, file, copied)
     }
 
-    #[tactic(auto, using(crate::proofs::Grounding::shared, crate::proofs::Grounding::more_above))]
+    #[tactic(auto, using(crate::proofs::Grounding::left_on, crate::proofs::Grounding::shared, crate::proofs::Grounding::more_above, crate::proofs::Standing::fault_since))]
     /// Makes the data of a file durable, all of whose entries are so.
     fn share_file(
         &mut self,
@@ -115,7 +117,7 @@ impl<J: Opening, D: Disk> Cellar<J, D> {
         ensures saved { IfOk result.1 (λ s. IsSaved J.book result.0.seen s) }
         ensures of_file { IfOk result.1 (λ s. IsFileSaved result.0.what result.0.number s) }
         ensures above { IfOk result.1 (λ s. keeping.now.place < s.receipt.entries) }
-        ensures risen { IfErr result.1 HasRisen }
+        ensures fault { IfErr result.1 (IsFaultSince D.view J.ground.opened) }
     {
         let _ = keeping;
         share(alloc, &mut self.safe, file)
@@ -136,7 +138,7 @@ impl<J: Opening, D: Disk> Cellar<J, D> {
         ensures saved { IfOk result.1 (λ s. IsSaved J.book result.0.seen s) }
         ensures of_file { IfOk result.1 (λ s. IsFileSaved result.0.what result.0.number s) }
         ensures above { IfOk result.1 (λ s. keeping.now.place < s.receipt.entries) }
-        ensures risen { IfErr result.1 HasRisen }
+        ensures fault { IfErr result.1 (IsFaultSince D.view J.ground.opened) }
     {
         if is_durable(&self.safe, keeping) {
             return self.share_file(alloc, file, keeping);
@@ -167,7 +169,7 @@ impl<J: Opening, D: Disk> Cellar<J, D> {
         copy_entries(&mut self.safe, proc, &mut shelf)
     }
 
-    #[tactic(auto, using(crate::proofs::Grounding::flushed, crate::proofs::Grounding::all_above))]
+    #[tactic(auto, using(crate::proofs::Grounding::left_on, crate::proofs::Grounding::flushed, crate::proofs::Grounding::all_above, crate::proofs::Standing::fault_since))]
     /// Makes the entries that were copied durable.
     fn commit_history(
         &mut self,
@@ -180,12 +182,13 @@ impl<J: Opening, D: Disk> Cellar<J, D> {
         requires place { keeping.now.place < length proc.now.seen }
         ensures saved { IfOk result (λ s. (seen : List AnyEntry) × IsSaved J.book seen s) }
         ensures above { IfOk result (λ s. keeping.now.place < s.receipt.entries) }
-        ensures risen { IfErr result HasRisen }
+        ensures fault { IfErr result (IsFaultSince D.view J.ground.opened) }
     {
         let _ = keeping;
         commit_entries(alloc, &mut self.safe, proc, copied)
     }
 
+    #[tactic(auto, using(crate::proofs::Standing::lost_since))]
     /// Makes the entries durable that a sync of a pipe or an app object waits for. Where something is to be made durable its process sees
     /// the whole history.
     pub(crate) fn save_history<R: Wait>(
@@ -201,7 +204,7 @@ impl<J: Opening, D: Disk> Cellar<J, D> {
         ensures kept { (k : KeepingView) (what : ℕ) → HasKept J.book.session k proc.old what → HasKept J.book.session k proc.new what }
         ensures saved { IfOk result (λ s. (seen : List AnyEntry) × IsSaved J.book seen s) }
         ensures above { IfOk result (λ s. keeping.now.place < s.receipt.entries) }
-        ensures risen { IfErr result HasRisen }
+        ensures fault { IfErr result (IsFaultSince D.view J.ground.opened) }
     {
         if is_durable(&self.safe, keeping) {
             return share_entries(&mut self.safe, keeping);
@@ -225,7 +228,7 @@ impl<J: Opening, D: Disk> Cellar<J, D> {
         copy_all(&mut self.safe, registry, shelf)
     }
 
-    #[tactic(auto, using(crate::proofs::Standing::entries_stand, crate::proofs::Standing::fault_since))]
+    #[tactic(auto, using(crate::proofs::Grounding::left_on, crate::proofs::Standing::entries_stand, crate::proofs::Standing::fault_since))]
     /// Makes the entries that were copied durable.
     pub(crate) fn settle_entries(
         &mut self,
@@ -233,12 +236,12 @@ impl<J: Opening, D: Disk> Cellar<J, D> {
         copied: Copied,
     ) -> Result<Receipt, SafeFault>
         requires { (seen : List AnyEntry) × IsCopy J.book self.old.vault copied seen }
-        ensures { IfErr result (IsFaultSince J.ground.opened) }
+        ensures { IfErr result (IsFaultSince D.view J.ground.opened) }
     {
         flush_copied(alloc, &mut self.safe, copied)
     }
 
-    #[tactic(auto, using(crate::proofs::Standing::shared_stand, crate::proofs::Standing::fault_since))]
+    #[tactic(auto, using(crate::proofs::Grounding::left_on, crate::proofs::Standing::shared_stand, crate::proofs::Standing::fault_since))]
     /// Writes the changed blocks of a file, all of whose entries are durable.
     fn settle_seen(
         &mut self,
@@ -246,12 +249,12 @@ impl<J: Opening, D: Disk> Cellar<J, D> {
         file: FileDesk<J>,
     ) -> (FileDesk<J>, Result<Option<Receipt>, SafeFault>)
         requires { length file.seen ≤ durable self.old.vault.syncs }
-        ensures { IfErr result.1 (IsFaultSince J.ground.opened) }
+        ensures { IfErr result.1 (IsFaultSince D.view J.ground.opened) }
     {
         settle_shared(alloc, &mut self.safe, file)
     }
 
-    #[tactic(auto, using(crate::proofs::Standing::copied_stand, crate::proofs::Standing::fault_since))]
+    #[tactic(auto, using(crate::proofs::Grounding::left_on, crate::proofs::Standing::copied_stand, crate::proofs::Standing::fault_since))]
     /// Makes the entries that were copied durable, and then writes the changed blocks of the file.
     fn settle_unseen(
         &mut self,
@@ -260,7 +263,7 @@ impl<J: Opening, D: Disk> Cellar<J, D> {
         copied: Copied,
     ) -> (FileDesk<J>, Result<Option<Receipt>, SafeFault>)
         requires { IsCopy J.book self.old.vault copied file.seen }
-        ensures { IfErr result.1 (IsFaultSince J.ground.opened) }
+        ensures { IfErr result.1 (IsFaultSince D.view J.ground.opened) }
     {
         settle_copied(alloc, &mut self.safe, file, copied)
     }
@@ -274,7 +277,7 @@ impl<J: Opening, D: Disk> Cellar<J, D> {
         book: &Mutex<Shelf<J>>,
         file: FileDesk<J>,
     ) -> (FileDesk<J>, Result<Option<Receipt>, SafeFault>)
-        ensures { IfErr result.1 (IsFaultSince J.ground.opened) }
+        ensures { IfErr result.1 (IsFaultSince D.view J.ground.opened) }
     {
         let (file, seen) = is_seen(&self.safe, file);
         if seen {

@@ -4,11 +4,12 @@ ghost use Rattle.std.specs.List.{All};
 ghost use Rattle.pass_entry.specs.Limits.{block_count};
 ghost use Rattle.pass_plain.specs.Legal.{IsLegal};
 ghost use Rattle.pass_plain.specs.Sound.{IsSound};
+ghost use Rattle.pass_book.specs.Syncs.{IsBacked};
 ghost use Rattle.pass_clean.specs.Cleaned.{is_dirty};
 ghost use Rattle.pass_vault.specs.declared.vault.Receipt.{Receipt as AnyReceipt};
 ghost use Rattle.pass_safe.specs.Settled.{EndsWith};
 ghost use Rattle.pass_store.specs.Closings.{IsClosed, IsSettled, IsTold, IsUnsettled, answer_of, story_at};
-ghost use Rattle.pass_store.specs.Grounds.{ground_of};
+ghost use Rattle.pass_store.specs.Grounds.{HasGoneOn, ground_of};
 
 use crate::ground::Opening;
 use crate::settling::{Rest, settle_all, unsettled};
@@ -55,6 +56,7 @@ fn close<J: Opening, D: Disk>(
     requires whole { vault.seen ≡ history.items }
     requires book { vault.book ≡ J.book }
     requires ground { ground_of vault ≡ J.ground }
+    requires backed { IsBacked J.book.session history.items vault.syncs }
     ensures history { result.history.items ≡ history.items }
     ensures list { result.list ≡ list }
     ensures start { result.start ≡ start }
@@ -113,6 +115,7 @@ impl<'g, J: Opening, D: Disk, G: Gate> Store<'g, J, D, G> {
         ensures list { result.list ≡ self.entry.list }
         ensures start { result.start ≡ self.entry.start }
         ensures closed { IsClosed (story_at J.book J.ground result.history.items) J.ground.ready (D.view result.disk) result.syncs.items }
+        ensures gone_on { HasGoneOn J.tells J.ground.opened (D.view result.disk) }
     {
         let Store {
             start,
@@ -142,6 +145,7 @@ impl<'g, J: Opening, D: Disk, G: Gate> Store<'g, J, D, G> {
         // But for want of memory, any fault of the disk is told.
         ensures healthy { OnOk result.settled ((D.view result.closed.disk).faults ≡ J.ground.opened) }
         ensures refused { IfErr result.settled (IsUnsettled J.ground.opened (D.view result.closed.disk)) }
+        ensures gone_on { HasGoneOn J.tells J.ground.opened (D.view result.closed.disk) }
     {
         let Store {
             start,

@@ -27,7 +27,7 @@ fn settle_in<R: Wait, J: Opening, D: Disk>(
     vault: &Mutex<Cellar<J, D>>,
     book: &Mutex<Shelf<J>>,
 ) -> Result<Option<Receipt>, SafeFault>
-    ensures { IfErr result (IsFaultSince J.ground.opened) }
+    ensures { IfErr result (IsFaultSince D.view J.ground.opened) }
 {
     match mem::replace(slot, Slot::Empty) {
         Slot::File(file) => {
@@ -59,7 +59,7 @@ impl<'g, J: Opening, D: Disk, G: Gate> Store<'g, J, D, G> {
 
     /// Makes the entries durable that were made before. Registry and book are free while the disk is at work.
     fn settle_entries<R: Wait>(&self, rt: &R, alloc: Global) -> Result<Receipt, SafeFault>
-        ensures { IfErr result (IsFaultSince J.ground.opened) }
+        ensures { IfErr result (IsFaultSince D.view J.ground.opened) }
     {
         let (mut vault, copied) = self.copied(rt);
         match copied {
@@ -75,7 +75,7 @@ impl<'g, J: Opening, D: Disk, G: Gate> Store<'g, J, D, G> {
         alloc: Global,
         lock: &Mutex<Slot<J>>,
     ) -> Result<Option<Receipt>, SafeFault>
-        ensures { IfErr result (IsFaultSince J.ground.opened) }
+        ensures { IfErr result (IsFaultSince D.view J.ground.opened) }
     {
         let mut slot = lock.lock(rt);
         if let Some(file) = slot.file() {
@@ -86,7 +86,7 @@ impl<'g, J: Opening, D: Disk, G: Gate> Store<'g, J, D, G> {
 
     /// Makes the entries durable, and then the changed blocks of each file.
     fn settle_each<R: Wait>(&self, rt: &R, alloc: Global) -> Result<Receipt, SafeFault>
-        ensures { IfErr result (IsFaultSince J.ground.opened) }
+        ensures { IfErr result (IsFaultSince D.view J.ground.opened) }
     {
         let mut receipt = self.settle_entries(rt, alloc)?;
         for lock in self.locks.slots.iter() {
@@ -97,10 +97,11 @@ impl<'g, J: Opening, D: Disk, G: Gate> Store<'g, J, D, G> {
         Ok(receipt)
     }
 
+    #[tactic(auto, using(crate::proofs::Causes::stopped_as))]
     /// Makes every entry durable that was made before, and writes each changed block, by ascending numbers of the files. Other calls
     /// go on meanwhile. The answer has the numbers of the last sync that it made.
     pub fn settle<R: Wait>(&self, rt: &R, alloc: Global) -> Result<Receipt, CallEnd>
-        ensures { IfErr result (IsStopped J.ground.opened) }
+        ensures { IfErr result (IsStopped D.view J.ground.opened) }
     {
         answered(self.settle_each(rt, alloc))
     }

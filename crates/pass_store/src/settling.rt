@@ -3,11 +3,13 @@ ghost use Rattle.std.specs.Prelude.{◌≡◌, ◌<◌, ℕ, Err, false, IfOk, O
 ghost use Rattle.pass_entry.specs.Limits.{block_count};
 ghost use Rattle.pass_plain.specs.Legal.{IsLegal};
 ghost use Rattle.pass_plain.specs.Sound.{IsSound};
+ghost use Rattle.pass_book.specs.Syncs.{IsBacked};
 ghost use Rattle.pass_clean.specs.Cleaned.{is_dirty};
 ghost use Rattle.pass_safe.specs.Safes.{IsLost};
 ghost use Rattle.pass_safe.specs.Settled.{AreAll, EndsWith};
 ghost use Rattle.pass_safe.specs.declared.fault.SafeFault.TheVariants.{DiskFault};
 ghost use Rattle.pass_store.specs.Closings.{AreByNumber};
+ghost use Rattle.pass_keep.specs.Keepers.{GoesOn};
 ghost use Rattle.pass_store.specs.Grounds.{ground_of};
 
 use crate::locks::made_file;
@@ -118,7 +120,9 @@ pub(crate) fn unsettled<J: Whose, D: Disk>(
     ensures history { result.0.items ≡ shelf.history }
     ensures whole { result.1.seen ≡ result.0.items }
     ensures book { result.1.book ≡ J.book }
+    ensures backed { IsBacked J.book.session result.0.items result.1.syncs }
     ensures ground { ground_of result.1 ≡ ground_of safe.vault }
+    ensures disk { result.1.disk ≡ safe.vault.disk }
 {
     let mut registry = registry;
     let mut shelf = shelf;
@@ -146,19 +150,20 @@ fn settle_files<J: Whose, D: Disk>(
     ensures history { result.history.items ≡ shelf.history }
     ensures whole { result.vault.seen ≡ result.history.items }
     ensures book { result.vault.book ≡ J.book }
+    ensures backed { IsBacked J.book.session result.history.items result.vault.syncs }
     ensures ground { ground_of result.vault ≡ ground_of safe.vault }
+    ensures goes_on { GoesOn (D.view safe.vault.disk) (D.view result.vault.disk) }
     ensures done { IfOk result.settled (λ r. EndsWith r.calls r.entries result.vault.syncs × (r.entries ≡ length result.history.items)) }
     ensures clean { OnOk result.settled ((file block : ℕ) → block < block_count → is_dirty J.book.session result.history.items result.vault.syncs file block ≡ false) }
     ensures healthy { OnOk result.settled ((D.view result.vault.disk).faults ≡ safe.vault.opened) }
     ensures failed { (opened found : ℕ) → result.settled ≡ Err (DiskFault opened found) → IsLost (D.view result.vault.disk) safe.vault.opened (record { opened = opened; found = found }) }
 {
-    let mut shelf = shelf;
-    let told = shelf.note();
     let _durable = safe.durable();
     let Finished {
         settled,
         vault,
         history,
+        told,
     } = finish(alloc, safe, registry, shelf, files);
     let mut vault = vault;
     vault.meet(told);
@@ -169,6 +174,7 @@ fn settle_files<J: Whose, D: Disk>(
     }
 }
 
+#[tactic(auto, using(crate::proofs::Grounding::stays_on))]
 /// Makes every entry of a session durable, and then writes the changed blocks of its files, which lie in these locks.
 pub(crate) fn settle_all<J: Whose, D: Disk>(
     alloc: Global,
@@ -182,7 +188,9 @@ pub(crate) fn settle_all<J: Whose, D: Disk>(
     ensures history { result.history.items ≡ shelf.history }
     ensures whole { result.vault.seen ≡ result.history.items }
     ensures book { result.vault.book ≡ J.book }
+    ensures backed { IsBacked J.book.session result.history.items result.vault.syncs }
     ensures ground { ground_of result.vault ≡ ground_of safe.vault }
+    ensures goes_on { GoesOn (D.view safe.vault.disk) (D.view result.vault.disk) }
     ensures done { IfOk result.settled (λ r. EndsWith r.calls r.entries result.vault.syncs × (r.entries ≡ length result.history.items)) }
     ensures clean { OnOk result.settled ((file block : ℕ) → block < block_count → is_dirty J.book.session result.history.items result.vault.syncs file block ≡ false) }
     ensures healthy { OnOk result.settled ((D.view result.vault.disk).faults ≡ safe.vault.opened) }

@@ -5,7 +5,8 @@ ghost use Rattle.pass_entry.specs.declared.entry.Ask.TheVariants as ask;
 ghost use Rattle.pass_entry.specs.declared.entry.Entry.{Entry as AnyEntry};
 ghost use Rattle.pass_entry.specs.declared.objects.Descriptor.{Descriptor as AnyDescriptor};
 ghost use Rattle.pass_plain.specs.Processes.{is_file, refusal};
-ghost use Rattle.pass_safe.specs.Syncings.{HasKept, HasRisen, IsFileSaved, IsSaved, KeepingView, SyncAnswers};
+ghost use Rattle.pass_safe.specs.Syncings.{HasKept, IsFileSaved, IsNoDiskFault, IsSaved, KeepingView, SyncAnswers};
+ghost use Rattle.pass_store.specs.Closings.{HasCause, IsFaultSince};
 ghost use Rattle.pass_store.specs.Slots.{Has, HasObject};
 ghost use Rattle.pass_store.specs.declared.slot.Sought.TheVariants as sought;
 
@@ -54,6 +55,7 @@ impl<'g, J: Opening, D: Disk, G: Gate> Store<'g, J, D, G> {
         ensures call { IfOk result (λ k. (k.before ≡ proc.old) × (k.fd ≡ fd) × (k.place + 1 ≡ length proc.new.seen)) }
         ensures object { IfOk result (λ k. V.object object.new ≡ record (V.object object.old) { seen = proc.new.seen; syncs = proc.new.syncs }) }
         ensures full { IfErr result (λ e. SyncAnswers J.book.session J.places proc.old proc.new fd (Err e)) }
+        ensures no_disk { IfErr result IsNoDiskFault }
     {
         let mut shelf = self.locks.book.lock(rt);
         keep(alloc, object, &mut shelf, proc, fd)
@@ -72,12 +74,13 @@ impl<'g, J: Opening, D: Disk, G: Gate> Store<'g, J, D, G> {
         ensures saved { IfOk result.1 (λ s. IsSaved J.book result.0.seen s) }
         ensures of_file { IfOk result.1 (λ s. IsFileSaved result.0.what result.0.number s) }
         ensures above { IfOk result.1 (λ s. keeping.now.place < s.receipt.entries) }
-        ensures risen { IfErr result.1 HasRisen }
+        ensures fault { IfErr result.1 (IsFaultSince D.view J.ground.opened) }
     {
         let mut vault = self.vault.lock(rt);
         vault.save_file(rt, alloc, &self.locks.book, file, keeping)
     }
 
+    #[tactic(auto, using(crate::proofs::Causes::risen_of, crate::proofs::Causes::caused))]
     /// Makes the last entry of a sync of a file, in one hold of the book, where the vault gave an answer.
     fn end_file<R: Wait>(
         &self,
@@ -92,8 +95,9 @@ impl<'g, J: Opening, D: Disk, G: Gate> Store<'g, J, D, G> {
         requires saved { IfOk saved (λ s. IsSaved J.book file.now.seen s) }
         requires of_file { IfOk saved (λ s. IsFileSaved file.now.what file.now.number s) }
         requires above { IfOk saved (λ s. keeping.now.place < s.receipt.entries) }
-        requires risen { IfErr saved HasRisen }
-        ensures { SyncAnswers J.book.session J.places keeping.now.before proc.new keeping.now.fd result }
+        requires fault { IfErr saved (IsFaultSince D.view J.ground.opened) }
+        ensures call { SyncAnswers J.book.session J.places keeping.now.before proc.new keeping.now.fd result }
+        ensures fault { IfErr result (HasCause D.view J.ground.opened) }
     {
         match saved {
             Ok(saved) => {
@@ -104,7 +108,7 @@ impl<'g, J: Opening, D: Disk, G: Gate> Store<'g, J, D, G> {
         }
     }
 
-    #[tactic(auto, using(crate::proofs::Savings::same_sync, crate::proofs::Savings::kept_of))]
+    #[tactic(auto, using(crate::proofs::Savings::same_sync, crate::proofs::Savings::kept_of, crate::proofs::Causes::uncaused))]
     /// A sync of a file.
     fn sync_file<R: Wait>(
         &self,
@@ -120,6 +124,7 @@ impl<'g, J: Opening, D: Disk, G: Gate> Store<'g, J, D, G> {
         requires held { finite_map.get proc.old.state.descriptors fd ≡ Some d.now }
         requires object { file.what ≡ d.now.pnode }
         ensures call { SyncAnswers J.book.session J.places proc.old proc.new fd result.1 }
+        ensures fault { IfErr result.1 (HasCause D.view J.ground.opened) }
     {
         let _ = d;
         let mut file = file;
@@ -145,12 +150,13 @@ impl<'g, J: Opening, D: Disk, G: Gate> Store<'g, J, D, G> {
         ensures kept { (k : KeepingView) (what : ℕ) → HasKept J.book.session k proc.old what → HasKept J.book.session k proc.new what }
         ensures saved { IfOk result (λ s. (seen : List AnyEntry) × IsSaved J.book seen s) }
         ensures above { IfOk result (λ s. keeping.now.place < s.receipt.entries) }
-        ensures risen { IfErr result HasRisen }
+        ensures fault { IfErr result (IsFaultSince D.view J.ground.opened) }
     {
         let mut vault = self.vault.lock(rt);
         vault.save_history(rt, alloc, &self.locks.book, proc, keeping)
     }
 
+    #[tactic(auto, using(crate::proofs::Causes::risen_of, crate::proofs::Causes::caused))]
     /// Makes the last entry of a sync of a pipe or an app object, in one hold of the book, where the vault gave an answer.
     fn end_other<R: Wait>(
         &self,
@@ -166,8 +172,9 @@ impl<'g, J: Opening, D: Disk, G: Gate> Store<'g, J, D, G> {
         requires no_file { is_file d.now ≡ false }
         requires saved { IfOk saved (λ s. (seen : List AnyEntry) × IsSaved J.book seen s) }
         requires above { IfOk saved (λ s. keeping.now.place < s.receipt.entries) }
-        requires risen { IfErr saved HasRisen }
-        ensures { SyncAnswers J.book.session J.places keeping.now.before proc.new keeping.now.fd result }
+        requires fault { IfErr saved (IsFaultSince D.view J.ground.opened) }
+        ensures call { SyncAnswers J.book.session J.places keeping.now.before proc.new keeping.now.fd result }
+        ensures fault { IfErr result (HasCause D.view J.ground.opened) }
     {
         match saved {
             Ok(saved) => {
@@ -178,7 +185,7 @@ impl<'g, J: Opening, D: Disk, G: Gate> Store<'g, J, D, G> {
         }
     }
 
-    #[tactic(auto, using(crate::proofs::Savings::same_sync, crate::proofs::Savings::kept_of, crate::proofs::Savings::still_held))]
+    #[tactic(auto, using(crate::proofs::Savings::same_sync, crate::proofs::Savings::kept_of, crate::proofs::Savings::still_held, crate::proofs::Causes::uncaused))]
     /// A sync of a pipe or an app object, which have no data.
     fn sync_other<R: Wait, V: Versioned<J>>(
         &self,
@@ -195,6 +202,7 @@ impl<'g, J: Opening, D: Disk, G: Gate> Store<'g, J, D, G> {
         requires no_file { is_file d.now ≡ false }
         requires object { (V.object object.old).what ≡ d.now.pnode }
         ensures call { SyncAnswers J.book.session J.places proc.old proc.new fd result }
+        ensures fault { IfErr result (HasCause D.view J.ground.opened) }
     {
         let keeping = match self.begin_sync(rt, alloc, object, proc, fd) {
             Ok(keeping) => keeping,
@@ -219,6 +227,7 @@ impl<'g, J: Opening, D: Disk, G: Gate> Store<'g, J, D, G> {
         requires held { finite_map.get proc.old.state.descriptors fd ≡ Some d.now }
         requires file { Has slot.old sought.File d.now.pnode }
         ensures call { SyncAnswers J.book.session J.places proc.old proc.new fd result }
+        ensures fault { IfErr result (HasCause D.view J.ground.opened) }
     {
         let file = taken(slot, d.pnode);
         let (file, answer) = self.sync_file(rt, alloc, proc, fd, d, file);
@@ -242,6 +251,7 @@ impl<'g, J: Opening, D: Disk, G: Gate> Store<'g, J, D, G> {
         requires held { finite_map.get proc.old.state.descriptors fd ≡ Some d.now }
         requires object { HasObject slot.old d.now }
         ensures call { SyncAnswers J.book.session J.places proc.old proc.new fd result }
+        ensures fault { IfErr result (HasCause D.view J.ground.opened) }
     {
         match slot {
             Slot::File(_) => self.sync_taken(rt, alloc, proc, fd, d, slot),
@@ -251,6 +261,7 @@ impl<'g, J: Opening, D: Disk, G: Gate> Store<'g, J, D, G> {
         }
     }
 
+    #[tactic(auto, using(crate::proofs::Causes::uncaused))]
     /// Makes what was entered so far durable, and for a file its data. It answers how many entries are durable then, and how many calls the
     /// disk had had.
     pub fn pass_sync<R: Wait>(
@@ -262,6 +273,7 @@ impl<'g, J: Opening, D: Disk, G: Gate> Store<'g, J, D, G> {
     ) -> Result<Moved, CallEnd>
         requires fd { fd < 64 }
         ensures call { SyncAnswers J.book.session J.places proc.old proc.new fd result }
+        ensures fault { IfErr result (HasCause D.view J.ground.opened) }
     {
         let d = match asked(proc, fd, &Ask::Held { fd }) {
             Ok(d) => d,

@@ -3,7 +3,8 @@ use Rattle.std.proofs.lemmas.Result.{on_ok_weaker}
 use Rattle.pass_entry.specs.Limits.{block_count}
 use Rattle.pass_entry.specs.declared.entry.Entry.{Entry}
 use Rattle.pass_plain.specs.Legal.{IsLegal}
-use Rattle.pass_book.specs.Tokens.{BookState}
+use Rattle.pass_book.specs.Syncs.{IsBacked}
+use Rattle.pass_book.specs.Tokens.{BookState, NoteState}
 use Rattle.pass_book.specs.declared.view.VaultSync.{VaultSync}
 use Rattle.pass_clean.specs.Cleaned.{is_dirty}
 use Rattle.pass_vault.specs.Vaulted.{Vaulted}
@@ -13,7 +14,20 @@ use Rattle.pass_safe.proofs.finishing.finish.Goals as goal
 
 pub returns-clause-legal : goal.returns-clause-legal
 returns-clause-legal g c =
-    subst (λ (h : List Entry). IsLegal g.J.Whose.book.session h) (ap (λ (s : BookState). s.history) c.settle_all-settled.ensures.shelf) c.into_history.ensures.legal
+    subst (λ (h : List Entry). IsLegal g.J.Whose.book.session h) (ap (λ (s : BookState). s.history) (c.note-told.ensures.shelf ∙ c.settle_all-settled.ensures.shelf)) c.into_history.ensures.legal
+
+pub returns-clause-note : goal.returns-clause-note
+returns-clause-note g c =
+    let noted = c.note-told.ensures.note in
+    noted ∙ (λ i. record { book = g.J.Whose.book; seen = (c.settle_all-settled.ensures.shelf i).history; syncs = (sym noted i).syncs })
+
+pub returns-clause-backed : goal.returns-clause-backed
+returns-clause-backed g c =
+    let S = g.J.Whose.book.session in
+    let told = c.note-told in
+    let history = ap (λ (s : BookState). s.history) (told.ensures.shelf ∙ c.settle_all-settled.ensures.shelf) in
+    let syncs = ap (λ (s : BookState). s.syncs) told.ensures.shelf ∙ sym (ap (λ (n : NoteState). n.syncs) told.ensures.note) in
+    subst (λ (ss : List VaultSync). IsBacked S c.args.shelf.history ss) syncs (subst (λ (h : List Entry). IsBacked S h told.new.self.syncs) history c.into_history.ensures.backed)
 
 pub returns-clause-settled : goal.returns-clause-settled
 returns-clause-settled g c = λ all.
@@ -21,7 +35,7 @@ returns-clause-settled g c = λ all.
     let h = c.args.shelf.history in
     let w = c.settle_all-settled.new.safe.vault in
     let e = c.settle_all-settled.ensures in
-    let legal = subst (λ (h : List Entry). IsLegal S h) (ap (λ (s : BookState). s.history) e.shelf) c.into_history.ensures.legal in
+    let legal = subst (λ (h : List Entry). IsLegal S h) (ap (λ (s : BookState). s.history) (c.note-told.ensures.shelf ∙ e.shelf)) c.into_history.ensures.legal in
     let syncs = ap (λ (v : Vaulted _). v.syncs) c.into_vault.ensures.vault in
     on_ok_weaker c.settle_all-settled.result
     (λ clean. subst (λ (ss : List VaultSync). (file block : ℕ) → block < block_count → is_dirty S h ss file block ≡ false) (sym syncs) (settled_all S c.into_history.ensures.sound h legal w.syncs c.args.files.items all clean)) e.clean

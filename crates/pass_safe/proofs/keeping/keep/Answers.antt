@@ -1,6 +1,7 @@
-use Rattle.std.proofs.Common.{subst}
+use Rattle.std.proofs.Common.{subst, sym}
 use Rattle.pass_hold.specs.Callings.{HasLooked}
 use Rattle.pass_proc.proofs.Steps.{number_fits, frees, still, way_looked}
+use Rattle.pass_safe.specs.Syncings.{IsNoDiskFault}
 use Rattle.pass_safe.proofs.Ends.{too_few_sync}
 use Rattle.pass_safe.proofs.keeping.keep.Goals as goal
 
@@ -25,3 +26,6 @@ returns-in-Err-clause-full g c =
     let i = c.proc.inside in
     let e = c.in-Err.ensures in
     too_few_sync g.J.Whose.book.session g.J.Whose.places c.args.proc.now i.process i.number i.caller c.room.new.self i.way c.args.fd c.in-Err.full c.proc.invariant.0 c.proc.view_is e.caller e.looked e.full c.from.result c.from.ensures
+
+pub returns-in-Err-clause-no_disk : goal.returns-in-Err-clause-no_disk
+returns-in-Err-clause-no_disk g c = subst IsNoDiskFault (sym c.from.ensures) tt

@@ -10,7 +10,7 @@ returns-clause-closed g c =
     let e = c.images.ensures in
     let syncs = c.into_disk-disk.result.1.items in
     subst (λ d. IsClosed (story_at J.book g.J.Opening.ground c.args.history.items) g.J.Opening.ground.ready (g.D.Disk.view d) syncs) (sym c.into_disk-disk.ensures.disk)
-    (closes v J.book g.J.Opening.ground c.args.history.items c.requires.book c.requires.ground c.requires.whole (g.D.Disk.view v.disk) e.begun e.opened e.since e.matched e.timed syncs c.into_disk-disk.ensures.syncs)
+    (closes v J.book g.J.Opening.ground c.args.history.items c.requires.book c.requires.ground c.requires.whole (g.D.Disk.view v.disk) e.begun e.opened e.since e.matched e.timed c.requires.backed syncs c.into_disk-disk.ensures.syncs)
 
 pub returns-clause-settled : goal.returns-clause-settled
 returns-clause-settled g c = λ r ends all clean.

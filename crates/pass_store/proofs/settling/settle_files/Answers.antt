@@ -1,7 +1,9 @@
 use Rattle.std.proofs.Common.{◌≡◌, ◌∙◌, List, ap, subst, sym}
 use Rattle.pass_entry.specs.declared.entry.Entry.{Entry}
 use Rattle.pass_plain.specs.Legal.{IsLegal}
-use Rattle.pass_book.specs.Tokens.{BookState, NoteState}
+use Rattle.pass_book.proofs.Backed.{still_backed}
+use Rattle.pass_book.specs.Syncs.{IsBacked}
+use Rattle.pass_book.specs.Tokens.{NoteState}
 use Rattle.pass_store.proofs.Closing.{meets_whole}
 use Rattle.pass_store.proofs.settling.settle_files.Goals as goal
 
@@ -11,6 +13,14 @@ returns-clause-legal g c = subst (λ (h : List Entry). IsLegal g.J.Whose.book.se
 pub returns-clause-whole : goal.returns-clause-whole
 returns-clause-whole g c =
     let e = c.finish-settled.ensures in
-    let h = c.note-told.new.self.history in
-    let told : c.note-told.result.seen ≡ h = ap (λ (n : NoteState). n.seen) c.note-told.ensures.note ∙ sym (ap (λ (s : BookState). s.history) c.note-told.ensures.shelf) in
-    meets_whole c.finish-settled.result.vault.seen c.meet.new.self.seen c.note-told.result.seen h c.meet.ensures.met.history told e.told ∙ sym e.history
+    let r = c.finish-settled.result in
+    let h = c.args.shelf.history in
+    let told : r.told.seen ≡ h = ap (λ (n : NoteState). n.seen) e.note in
+    meets_whole r.vault.seen c.meet.new.self.seen r.told.seen h c.meet.ensures.met.history told e.told ∙ sym e.history
+
+pub returns-clause-backed : goal.returns-clause-backed
+returns-clause-backed g c =
+    let S = g.J.Whose.book.session in
+    let e = c.finish-settled.ensures in
+    let syncs = c.meet.new.self.syncs in
+    subst (λ (h : List Entry). IsBacked S h syncs) (sym e.history) (still_backed S c.args.shelf.history c.finish-settled.result.told.syncs syncs c.meet.ensures.met.told_listed e.backed)

@@ -12,10 +12,9 @@ use Rattle.pass_trace.specs.Traces.{trace_of, IsTraceText, IsFirstFault}
 use Rattle.pass_trace.proofs.Faults.{not_text-from_fault, same_fault}
 use Rattle.pass_run.specs.declared.status.Status.{Status}
 use Rattle.pass_run.specs.declared.status.Status.TheVariants as status
-use Rattle.pass_run.specs.Ends.{unbuilt_line}
 use Rattle.pass_trace.specs.Lines.{is_too_long}
-use Rattle.pass_run.specs.Stored.{session_fault, IsStoreJudged, IsEnd, IsOfDisk, IsOverStore, HasEnded}
-use Rattle.pass_cli.specs.Answers.{OfBytes, IsTraced, IsRunnable, IsRefusal, IsTraceRead, HasFailed, IsRunJudged, Outcome, IsNothing, IsRefused, HasRun, comes_before, ends_run}
+use Rattle.pass_run.specs.Stored.{session_fault, IsStoreJudged, IsEnd, IsOfDisk, IsHeldBack, IsOverStore, HasEnded}
+use Rattle.pass_cli.specs.Answers.{OfBytes, IsTraced, IsRefusal, IsTraceRead, HasFailed, IsRunJudged, Outcome, IsNothing, IsRefused, HasRun, comes_before, ends_run}
 use Rattle.pass_run.proofs.Moved.{refused_untouched}
 use Rattle.pass_trace.proofs.TooLong.{too_long_is_none, too_long_stays}
 
@@ -54,9 +53,6 @@ not_failed v e same = cc
 pub same_error : {A E : Type 0} (a b : E) → ◌≡◌ {A = Result A E} (Err a) (Err b) → a ≡ b
 same_error a b same = cc
 
-some_number : (a b : ℕ) → ◌≡◌ {A = Option ℕ} (Some a) (Some b) → a ≡ b
-some_number a b same = cc
-
 none_is_none : {A : Type 0} (a : A) → ◌≡◌ {A = Option A} None (Some a) → ⊥
 none_is_none a same = cc
 
@@ -82,21 +78,19 @@ module _ (bytes : List ℕ) (before after : ℕ) (log : List ℕ) (m : Moment) w
   refusal_judged status.ReadFault known rose = record {
     read_fault = (λ is. rose, λ is. refl);
     bad_trace = λ line why. (λ is. absurd (cc), λ is. absurd (is.0 rose));
-    not_built = λ line. (λ is. absurd (cc), λ is. absurd (is.0.unfailed rose));
     disk_fault = λ opened now is. absurd (cc);
-    unhidden = λ runs risen. absurd (runs.traced.unfailed rose);
-    bad_store = λ fault. (λ is. absurd (cc), λ is. absurd (is.0.traced.unfailed rose));
-    ended = (λ is. absurd is, λ is. absurd (is.0.traced.unfailed rose));
+    unhidden = λ runs risen. absurd (runs.unfailed rose);
+    bad_store = λ fault. (λ is. absurd (cc), λ is. absurd (is.0.unfailed rose));
+    ended = (λ is. absurd is, λ is. absurd (is.0.unfailed rose));
     no_other = refl;
   }
   refusal_judged (status.BadTrace line why) known (unfailed, first) = record {
     read_fault = (λ is. absurd (cc), λ is. absurd (unfailed is));
     bad_trace = λ other another. (λ is. (unfailed, moved other another is), λ is. same other another is.1);
-    not_built = λ other. (λ is. absurd (cc), λ is. absurd (not_text-from_fault bytes line why first is.0.text));
     disk_fault = λ opened now is. absurd (cc);
-    unhidden = λ runs risen. absurd (not_text-from_fault bytes line why first runs.traced.text);
-    bad_store = λ fault. (λ is. absurd (cc), λ is. absurd (not_text-from_fault bytes line why first is.0.traced.text));
-    ended = (λ is. absurd is, λ is. absurd (not_text-from_fault bytes line why first is.0.traced.text));
+    unhidden = λ runs risen. absurd (not_text-from_fault bytes line why first runs.text);
+    bad_store = λ fault. (λ is. absurd (cc), λ is. absurd (not_text-from_fault bytes line why first is.0.text));
+    ended = (λ is. absurd is, λ is. absurd (not_text-from_fault bytes line why first is.0.text));
     no_other = refl;
   }
     where
@@ -143,91 +137,61 @@ module _ (bytes : List ℕ) (before after : ℕ) (old new : Moment) (traced : Is
   no_fault : (line : ℕ) (why : TraceReason) → IsFirstFault bytes line why → ⊥
   no_fault line why first = not_text-from_fault bytes line why first traced.text
 
-  unbuilt_judged : (log : List ℕ) (line : ℕ) → unbuilt_line (trace_of bytes) ≡ Some line → Judged log (status.NotBuilt line)
-  unbuilt_judged log line at = record {
+  disk_judged : (log : List ℕ) (a b : ℕ) → HasFailed old new a b → Judged log (status.DiskFault a b)
+  disk_judged log a b failed = record {
     read_fault = (λ is. absurd (cc), λ is. absurd (traced.unfailed is));
-    bad_trace = λ other why. (λ is. absurd (cc), λ is. absurd (no_fault other why is.1));
-    not_built = λ other. (λ is. (traced, at ∙ ap (λ n. Some n) (number_is other is)), λ is. ap (λ n. status.NotBuilt n) (some_number line other (sym at ∙ is.1)));
-    disk_fault = λ opened now is. absurd (cc);
-    unhidden = λ runs risen. absurd (not_run runs);
-    bad_store = λ fault. (λ is. absurd (cc), λ is. absurd (not_run is.0));
-    ended = (λ is. absurd is, λ is. absurd (not_run is.0));
+    bad_trace = λ line why. (λ is. absurd (cc), λ is. absurd (no_fault line why is.1));
+    disk_fault = λ opened now is. (traced, moved opened now (opened_is a b opened now is) (now_is a b opened now is));
+    unhidden = λ runs risen. ap (λ n. status.DiskFault n b) failed.before ∙ ap (λ n. status.DiskFault old.faults n) failed.after;
+    bad_store = λ fault. (λ is. absurd (cc), λ is. absurd (is.1 a b refl));
+    ended = (λ is. absurd is, λ is. absurd (is.1 a b refl));
     no_other = refl;
   }
     where
-      number_is : (other : ℕ) → status.NotBuilt line ≡ status.NotBuilt other → line ≡ other
-      number_is other same = cc
+      moved : (opened now : ℕ) → a ≡ opened → b ≡ now → HasFailed old new opened now
+      moved opened now same also = subst (λ n. HasFailed old new opened n) also (subst (λ n. HasFailed old new n b) same failed)
 
-      not_run : IsRunnable bytes before after → ⊥
-      not_run runs = none_is_none line (sym runs.built ∙ at)
+  store_judged : (log : List ℕ) (fault : OpenFault) → new.faults ≡ old.faults → session_fault log ≡ Some fault → Judged log (status.BadStore fault)
+  store_judged log fault still has = record {
+    read_fault = (λ is. absurd (cc), λ is. absurd (traced.unfailed is));
+    bad_trace = λ line why. (λ is. absurd (cc), λ is. absurd (no_fault line why is.1));
+    disk_fault = λ opened now is. absurd (cc);
+    unhidden = λ runs risen. absurd (omega (arith, still, risen));
+    bad_store = λ other. (λ is. (traced, λ opened now fails. absurd (cc), has ∙ ap Some (store_is fault other is)), λ is. ap status.BadStore (same_fault_of fault other (sym has ∙ is.2)));
+    ended = (λ is. absurd is, λ is. absurd (none_is_none fault (sym is.2 ∙ has)));
+    no_other = refl;
+  }
 
-  module _ (built : unbuilt_line (trace_of bytes) ≡ None) where
-    runnable : IsRunnable bytes before after
-    runnable = record { traced = traced; built = built }
-
-    not_unbuilt : (line : ℕ) → unbuilt_line (trace_of bytes) ≡ Some line → ⊥
-    not_unbuilt line at = none_is_none line (sym built ∙ at)
-
-    disk_judged : (log : List ℕ) (a b : ℕ) → HasFailed old new a b → Judged log (status.DiskFault a b)
-    disk_judged log a b failed = record {
-      read_fault = (λ is. absurd (cc), λ is. absurd (traced.unfailed is));
-      bad_trace = λ line why. (λ is. absurd (cc), λ is. absurd (no_fault line why is.1));
-      not_built = λ line. (λ is. absurd (cc), λ is. absurd (not_unbuilt line is.1));
-      disk_fault = λ opened now is. (runnable, moved opened now (opened_is a b opened now is) (now_is a b opened now is));
-      unhidden = λ runs risen. ap (λ n. status.DiskFault n b) failed.before ∙ ap (λ n. status.DiskFault old.faults n) failed.after;
-      bad_store = λ fault. (λ is. absurd (cc), λ is. absurd (is.1 a b refl));
-      ended = (λ is. absurd is, λ is. absurd (is.1 a b refl));
-      no_other = refl;
-    }
-      where
-        moved : (opened now : ℕ) → a ≡ opened → b ≡ now → HasFailed old new opened now
-        moved opened now same also = subst (λ n. HasFailed old new opened n) also (subst (λ n. HasFailed old new n b) same failed)
-
-    store_judged : (log : List ℕ) (fault : OpenFault) → new.faults ≡ old.faults → session_fault log ≡ Some fault → Judged log (status.BadStore fault)
-    store_judged log fault still has = record {
-      read_fault = (λ is. absurd (cc), λ is. absurd (traced.unfailed is));
-      bad_trace = λ line why. (λ is. absurd (cc), λ is. absurd (no_fault line why is.1));
-      not_built = λ line. (λ is. absurd (cc), λ is. absurd (not_unbuilt line is.1));
-      disk_fault = λ opened now is. absurd (cc);
-      unhidden = λ runs risen. absurd (omega (arith, still, risen));
-      bad_store = λ other. (λ is. (runnable, λ opened now fails. absurd (cc), has ∙ ap Some (store_is fault other is)), λ is. ap status.BadStore (same_fault_of fault other (sym has ∙ is.2)));
-      ended = (λ is. absurd is, λ is. absurd (none_is_none fault (sym is.2 ∙ has)));
-      no_other = refl;
-    }
-
-    end_judged : (log : List ℕ) (judged : Status) → IsEnd judged → new.faults ≡ old.faults → session_fault log ≡ None → Judged log judged
-    end_judged log status.Done is still none = record {
-      read_fault = (λ is. absurd (cc), λ is. absurd (traced.unfailed is));
-      bad_trace = λ line why. (λ is. absurd (cc), λ is. absurd (no_fault line why is.1));
-      not_built = λ line. (λ is. absurd (cc), λ is. absurd (not_unbuilt line is.1));
-      disk_fault = λ opened now is. absurd (cc);
-      unhidden = λ runs risen. absurd (omega (arith, still, risen));
-      bad_store = λ other. (λ is. absurd (cc), λ is. absurd (none_is_none other (sym none ∙ is.2)));
-      ended = (λ is. (runnable, λ opened now fails. absurd (cc), none), λ is. tt);
-      no_other = refl;
-    }
-    end_judged log status.Stuck is still none = record {
-      read_fault = (λ is. absurd (cc), λ is. absurd (traced.unfailed is));
-      bad_trace = λ line why. (λ is. absurd (cc), λ is. absurd (no_fault line why is.1));
-      not_built = λ line. (λ is. absurd (cc), λ is. absurd (not_unbuilt line is.1));
-      disk_fault = λ opened now is. absurd (cc);
-      unhidden = λ runs risen. absurd (omega (arith, still, risen));
-      bad_store = λ other. (λ is. absurd (cc), λ is. absurd (none_is_none other (sym none ∙ is.2)));
-      ended = (λ is. (runnable, λ opened now fails. absurd (cc), none), λ is. tt);
-      no_other = refl;
-    }
-    end_judged log _ is still none = absurd is
+  end_judged : (log : List ℕ) (judged : Status) → IsEnd judged → new.faults ≡ old.faults → session_fault log ≡ None → Judged log judged
+  end_judged log status.Done is still none = record {
+    read_fault = (λ is. absurd (cc), λ is. absurd (traced.unfailed is));
+    bad_trace = λ line why. (λ is. absurd (cc), λ is. absurd (no_fault line why is.1));
+    disk_fault = λ opened now is. absurd (cc);
+    unhidden = λ runs risen. absurd (omega (arith, still, risen));
+    bad_store = λ other. (λ is. absurd (cc), λ is. absurd (none_is_none other (sym none ∙ is.2)));
+    ended = (λ is. (traced, λ opened now fails. absurd (cc), none), λ is. tt);
+    no_other = refl;
+  }
+  end_judged log status.Stuck is still none = record {
+    read_fault = (λ is. absurd (cc), λ is. absurd (traced.unfailed is));
+    bad_trace = λ line why. (λ is. absurd (cc), λ is. absurd (no_fault line why is.1));
+    disk_fault = λ opened now is. absurd (cc);
+    unhidden = λ runs risen. absurd (omega (arith, still, risen));
+    bad_store = λ other. (λ is. absurd (cc), λ is. absurd (none_is_none other (sym none ∙ is.2)));
+    ended = (λ is. (traced, λ opened now fails. absurd (cc), none), λ is. tt);
+    no_other = refl;
+  }
+  end_judged log _ is still none = absurd is
 
 -- what the run of a trace has answered
 
 pub record Ran {D : Type 0} (view : D → Moment) (old new : D) (lines : List TraceLine) (out : Outcome) (judged : Status) (report : List ℕ) : Type 0 where
-  pub not_built : (line : ℕ) → judged ≡ status.NotBuilt line ↔ (unbuilt_line lines ≡ Some line)
   pub disk_fault : (opened now : ℕ) → judged ≡ status.DiskFault opened now → HasFailed (view old) (view new) opened now
   pub no_fault : (IsOfDisk judged → ⊥) → (view new).faults ≡ (view old).faults
-  pub by_log : unbuilt_line lines ≡ None → (IsOfDisk judged → ⊥) → LogHas (view old) (λ log. IsStoreJudged (session_fault log) judged)
-  pub not_begun : IsSome (unbuilt_line lines) → (new ≡ old) × IsNothing out
+  pub by_log : (IsOfDisk judged → ⊥) → LogHas (view old) (λ log. IsStoreJudged (session_fault log) judged)
   pub bad_store : (fault : OpenFault) → judged ≡ status.BadStore fault → IsRefused (view old) (view new) judged out
-  pub recorded : IsRefused (view old) (view new) judged out ⊎ IsOverStore (view old).calls (view old) (view new) lines out.list out.start out.history out.syncs
+  pub recorded : IsRefused (view old) (view new) judged out
+      ⊎ (IsHeldBack (view old) (view new) lines judged out.list out.start out.history out.syncs ⊎ IsOverStore (view old).calls (view old) (view new) lines out.list out.start out.history out.syncs)
   pub ended : IsEnd judged → HasEnded (view old).calls (view old) (view new) lines out.list out.start out.history out.syncs judged report
 
 -- and what is judged by it
@@ -236,61 +200,39 @@ module _ {D : Type 0} (view : D → Moment) (bytes : List ℕ) (before after : �
   abbrev Goal : Type 0
   Goal = HasRun view bytes before after old new out judged report
 
-  unbuilt_run : (line : ℕ) → unbuilt_line (trace_of bytes) ≡ Some line → Goal
-  unbuilt_run line at =
-      let is : judged ≡ status.NotBuilt line = (r.not_built line).1 at in
-      let stays = r.not_begun (subst IsSome (sym at) refl) in
-      let refused : IsRefused (view old) (view new) judged out = subst (λ (d : D). IsRefused (view old) (view d) judged out) (sym stays.0)
-      (refused_untouched (view old) judged out.list out.start out.history out.syncs (λ ends. subst IsEnd is ends) stays.1) in
-      record {
-        log = (view old).seen.log;
-        logged = λ tells. refl;
-        by = subst (λ (s : Status). IsRunJudged bytes before after (view old).seen.log (view old) (view new) s) (sym is)
-            (unbuilt_judged bytes before after (view old) (view new) traced (view old).seen.log line at);
-        untouched = λ stops. stays.0;
-        refused = λ comes. refused;
-        recorded = inl refused;
-        whole = λ ends. absurd (subst IsEnd is ends);
-      }
+  with_log : (log : List ℕ) → (IsTrue (view old).tells → log ≡ (view old).seen.log) → (s : Status) → judged ≡ s → IsRunJudged bytes before after log (view old) (view new) s
+      → (comes_before s ≡ true → IsRefused (view old) (view new) judged out) → Goal
+  with_log log logged s is by refused = record {
+    log = log;
+    logged = logged;
+    by = subst (λ (t : Status). IsRunJudged bytes before after log (view old) (view new) t) (sym is) by;
+    untouched = λ stops. absurd (stops traced);
+    refused = λ comes. refused (sym (ap comes_before is) ∙ comes);
+    recorded = r.recorded;
+    whole = r.ended;
+  }
 
-  module _ (built : unbuilt_line (trace_of bytes) ≡ None) where
-    with_log : (log : List ℕ) → (IsTrue (view old).tells → log ≡ (view old).seen.log) → (s : Status) → judged ≡ s → IsRunJudged bytes before after log (view old) (view new) s
-        → (comes_before s ≡ true → IsRefused (view old) (view new) judged out) → Goal
-    with_log log logged s is by refused = record {
-      log = log;
-      logged = logged;
-      by = subst (λ (t : Status). IsRunJudged bytes before after log (view old) (view new) t) (sym is) by;
-      untouched = λ stops. absurd (stops (record { traced = traced; built = built }));
-      refused = λ comes. refused (sym (ap comes_before is) ∙ comes);
-      recorded = r.recorded;
-      whole = r.ended;
-    }
+  of_store : (log : List ℕ) → (IsTrue (view old).tells → log ≡ (view old).seen.log) → (view new).faults ≡ (view old).faults → (found : Option OpenFault) → session_fault log ≡ found
+      → IsStoreJudged found judged → Goal
+  of_store log logged still (Some fault) has is =
+      with_log log logged (status.BadStore fault) is (store_judged bytes before after (view old) (view new) traced log fault still has) (λ comes. r.bad_store fault is)
+  of_store log logged still None has (inl is) =
+      with_log log logged status.Done is (end_judged bytes before after (view old) (view new) traced log status.Done tt still has) (λ comes. absurd (cc))
+  of_store log logged still None has (inr is) =
+      with_log log logged status.Stuck is (end_judged bytes before after (view old) (view new) traced log status.Stuck tt still has) (λ comes. absurd (cc))
 
-    of_store : (log : List ℕ) → (IsTrue (view old).tells → log ≡ (view old).seen.log) → (view new).faults ≡ (view old).faults → (found : Option OpenFault) → session_fault log ≡ found
-        → IsStoreJudged found judged → Goal
-    of_store log logged still (Some fault) has is =
-        with_log log logged (status.BadStore fault) is (store_judged bytes before after (view old) (view new) traced built log fault still has) (λ comes. r.bad_store fault is)
-    of_store log logged still None has (inl is) =
-        with_log log logged status.Done is (end_judged bytes before after (view old) (view new) traced built log status.Done tt still has) (λ comes. absurd (cc))
-    of_store log logged still None has (inr is) =
-        with_log log logged status.Stuck is (end_judged bytes before after (view old) (view new) traced built log status.Stuck tt still has) (λ comes. absurd (cc))
+  of_log : (IsOfDisk judged → ⊥) → Goal
+  of_log not_disk = let (log, logged, is) = r.by_log not_disk in of_store log logged (r.no_fault not_disk) (session_fault log) refl is
 
-    of_log : (IsOfDisk judged → ⊥) → Goal
-    of_log not_disk = let (log, logged, is) = r.by_log built not_disk in of_store log logged (r.no_fault not_disk) (session_fault log) refl is
-
-    by_status : (s : Status) → judged ≡ s → Goal
-    by_status (status.DiskFault a b) is =
-        with_log (view old).seen.log (λ tells. refl) (status.DiskFault a b) is (disk_judged bytes before after (view old) (view new) traced built (view old).seen.log a b (r.disk_fault a b is)) (λ comes. absurd (cc))
-    by_status _ is = of_log (λ disk. subst IsOfDisk is disk)
-
-  by_line : (found : Option ℕ) → unbuilt_line (trace_of bytes) ≡ found → Goal
-  by_line (Some line) at = unbuilt_run line at
-  by_line None built = by_status built judged refl
+  by_status : (s : Status) → judged ≡ s → Goal
+  by_status (status.DiskFault a b) is =
+      with_log (view old).seen.log (λ tells. refl) (status.DiskFault a b) is (disk_judged bytes before after (view old) (view new) traced (view old).seen.log a b (r.disk_fault a b is)) (λ comes. absurd (cc))
+  by_status _ is = of_log (λ disk. subst IsOfDisk is disk)
 
 pub ran_run : {D : Type 0} (view : D → Moment) (bytes : List ℕ) (before after : ℕ) (old new : D) (lines : List TraceLine) (out : Outcome) (judged : Status) (report : List ℕ)
     → IsTraced bytes before after → lines ≡ trace_of bytes → Ran view old new lines out judged report → HasRun view bytes before after old new out judged report
 ran_run view bytes before after old new lines out judged report traced same ran =
-    by_line view bytes before after old new out judged report traced (subst (λ (ls : List TraceLine). Ran view old new ls out judged report) same ran) (unbuilt_line (trace_of bytes)) refl
+    by_status view bytes before after old new out judged report traced (subst (λ (ls : List TraceLine). Ran view old new ls out judged report) same ran) judged refl
 
 -- a status that a run may end with isn't one of the sink
 pub no_write : (s : Status) → ends_run s ≡ true → s ≢ status.WriteFault

@@ -2,9 +2,9 @@ pub mod Answering
 pub mod Commands
 pub mod Counted
 pub mod Judging
-pub mod Lacking
 pub mod Listed
 pub mod Patterns
+pub mod Shown
 pub mod Streams
 pub mod TakenWords
 pub mod Written

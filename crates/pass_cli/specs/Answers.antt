@@ -9,15 +9,15 @@ use Rattle.pass_plain.specs.declared.start.Start.{Start}
 use Rattle.pass_recover.specs.declared.fault.OpenFault.{OpenFault}
 use Rattle.pass_trace.specs.declared.trace.Trace.{Trace}
 use Rattle.pass_trace.specs.declared.trace.TraceReason.{TraceReason}
+use Rattle.pass_trace.specs.TraceLines.{objects_of}
 use Rattle.pass_trace.specs.Traces.{trace_of, IsTraceText, IsFirstFault}
 use Rattle.pass_run.specs.declared.ending.RunEnd.{RunEnd}
 use Rattle.pass_run.specs.declared.status.Status.{Status}
 use Rattle.pass_run.specs.declared.status.Status.TheVariants as status
 use Rattle.pass_run.specs.Statuses.{status_text}
-use Rattle.pass_run.specs.Ends.{unbuilt_line}
 use Rattle.pass_run.specs.Reading.{StopsInTime}
 use Rattle.pass_trace.specs.Lines.{is_too_long}
-use Rattle.pass_run.specs.Stored.{session_fault, IsEnd, IsUnopened, IsRefusedOpening, IsOverStore, HasEnded}
+use Rattle.pass_run.specs.Stored.{session_fault, IsEnd, IsUnopened, IsLeftAlone, HasBegun, IsRefusedOpening, IsHeldBack, IsOverStore, HasEnded}
 use Rattle.pass_run.specs.Writing.{IsPartOfText}
 use Rattle.pass_cli.specs.declared.main_call.Ended.{Ended}
 
@@ -38,11 +38,6 @@ pub record IsTraced (bytes : List ℕ) (before after : ℕ) : Type 0 where
   pub unfailed : ¬ HasRisen before after
   pub text : IsTraceText bytes
 
--- and the program makes each call of the trace
-pub record IsRunnable (bytes : List ℕ) (before after : ℕ) : Type 0 where
-  pub traced : IsTraced bytes before after
-  pub built : unbuilt_line (trace_of bytes) ≡ None
-
 -- by which status the source and its bytes are refused before a trace is run
 abbrev pub IsRefusal : List ℕ → ℕ → ℕ → Status → Type 0
 IsRefusal bytes before after status.ReadFault = HasRisen before after
@@ -59,7 +54,6 @@ IsTraceRead bytes before after (Err refusal) = IsRefusal bytes before after refu
 abbrev pub ends_run : Status → Bool
 ends_run status.ReadFault = true
 ends_run (status.BadTrace line reason) = true
-ends_run (status.NotBuilt line) = true
 ends_run (status.DiskFault opened now) = true
 ends_run (status.BadStore fault) = true
 ends_run status.Stuck = true
@@ -77,18 +71,17 @@ pub record HasFailed (old new : Moment) (opened now : ℕ) : Type 0 where
   pub risen : (opened < now) ⊎ IsAtEnd new
 
 -- What a run is judged by: the bytes of the source, its count of faults before and after, the bytes of the log area, and the
--- disk before and after. The source's faults come first, then the trace's, then its calls, the device's faults, and what the
--- log has; and then the trace is run.
+-- disk before and after. The source's faults come first, then the trace's, the device's faults, and what the log has; and then the
+-- trace is run.
 pub record IsRunJudged (bytes : List ℕ) (before after : ℕ) (log : List ℕ) (old new : Moment) (judged : Status) : Type 0 where
   pub read_fault : judged ≡ status.ReadFault ↔ HasRisen before after
   pub bad_trace : (line : ℕ) (reason : TraceReason) → judged ≡ status.BadTrace line reason ↔ ((¬ HasRisen before after) × IsFirstFault bytes line reason)
-  pub not_built : (line : ℕ) → judged ≡ status.NotBuilt line ↔ (IsTraced bytes before after × (unbuilt_line (trace_of bytes) ≡ Some line))
-  pub disk_fault : (opened now : ℕ) → judged ≡ status.DiskFault opened now → IsRunnable bytes before after × HasFailed old new opened now
+  pub disk_fault : (opened now : ℕ) → judged ≡ status.DiskFault opened now → IsTraced bytes before after × HasFailed old new opened now
   -- and wherever the count rose
-  pub unhidden : IsRunnable bytes before after → old.faults < new.faults → judged ≡ status.DiskFault old.faults new.faults
-  pub bad_store : (fault : OpenFault) → judged ≡ status.BadStore fault ↔ (IsRunnable bytes before after × IsNoDiskFault judged × (session_fault log ≡ Some fault))
+  pub unhidden : IsTraced bytes before after → old.faults < new.faults → judged ≡ status.DiskFault old.faults new.faults
+  pub bad_store : (fault : OpenFault) → judged ≡ status.BadStore fault ↔ (IsTraced bytes before after × IsNoDiskFault judged × (session_fault log ≡ Some fault))
   -- Done and Stuck; which of them is told by what was recorded
-  pub ended : IsEnd judged ↔ (IsRunnable bytes before after × IsNoDiskFault judged × (session_fault log ≡ None))
+  pub ended : IsEnd judged ↔ (IsTraced bytes before after × IsNoDiskFault judged × (session_fault log ≡ None))
   pub no_other : ends_run judged ≡ true
 
 -- what a run hands out: the records and the start of the store that it opened, its history, and the syncs of the store
@@ -112,7 +105,15 @@ IsNothing out = IsUnopened out.list out.start out.history out.syncs
 abbrev pub IsRefused : Moment → Moment → Status → Outcome → Type 0
 IsRefused old new judged out = IsRefusedOpening old new judged out.list out.start out.history out.syncs
 
--- the store was opened, and the history, if any, is a run of the trace of the bytes, of which a crash leaves a beginning
+-- no entry was made, and the session's ceiling was to be raised
+abbrev pub IsHeld : Moment → Moment → List ℕ → Status → Outcome → Type 0
+IsHeld old new bytes judged out = IsHeldBack old new (trace_of bytes) judged out.list out.start out.history out.syncs
+
+-- nothing is handed out, and nothing was written but the session's ceiling, if that
+abbrev pub IsUnrecorded : Moment → Moment → List ℕ → Outcome → Type 0
+IsUnrecorded old new bytes out = IsNothing out × (IsLeftAlone old new ⊎ HasBegun old new (objects_of (trace_of bytes)))
+
+-- the store was opened, and the history is a run of the trace of the bytes, of which a crash leaves a beginning
 abbrev pub IsRecorded : Moment → Moment → List ℕ → Outcome → Type 0
 IsRecorded old new bytes out = IsOverStore old.calls old new (trace_of bytes) out.list out.start out.history out.syncs
 
@@ -134,9 +135,9 @@ pub record HasRun {D : Type 0} (view : D → Moment) (bytes : List ℕ) (before 
   pub log : List ℕ
   pub logged : IsTrue (view old).tells → log ≡ (view old).seen.log
   pub by : IsRunJudged bytes before after log (view old) (view new) judged
-  pub untouched : ¬ IsRunnable bytes before after → new ≡ old
+  pub untouched : ¬ IsTraced bytes before after → new ≡ old
   pub refused : comes_before judged ≡ true → IsRefused (view old) (view new) judged out
-  pub recorded : IsRefused (view old) (view new) judged out ⊎ IsRecorded (view old) (view new) bytes out
+  pub recorded : IsRefused (view old) (view new) judged out ⊎ (IsHeld (view old) (view new) bytes judged out ⊎ IsRecorded (view old) (view new) bytes out)
   pub whole : IsEnd judged → IsWhole (view old) (view new) bytes out judged report
 
 -- the trace was run, so that there is a report

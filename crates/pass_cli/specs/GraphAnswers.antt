@@ -1,5 +1,5 @@
 -- What the graph of a log answers to a question. This project's own rule.
-use Rattle.std.specs.Prelude.{ℕ, ◌≡◌, List}
+use Rattle.std.specs.Prelude.{ℕ, ◌≡◌, List, Some}
 use Rattle.std.specs.List.{All}
 use Rattle.pass_entry.specs.declared.objects.Node.{Node}
 use Rattle.pass_entry.specs.declared.record.Record.{Record}
@@ -10,10 +10,11 @@ use Rattle.pass_recipe.specs.Orders.{IsLeast, IsOrder, nodes_of}
 use Rattle.pass_recipe.specs.Programs.{HasProgram}
 use Rattle.pass_recipe.specs.Texts.{recipe_text}
 use Rattle.pass_recipe.specs.declared.entries.Made.{Made}
+use Rattle.pass_view.specs.Texts.{IsViewText}
 use Rattle.pass_waldo.specs.Lookups.{AreAll}
 use Rattle.pass_waldo.specs.Orders.{node_cmp}
 use Rattle.pass_cli.specs.declared.words.GraphQuestion.{GraphQuestion}
-use Rattle.pass_cli.specs.declared.words.GraphQuestion.TheVariants.{Lineage, Recipe}
+use Rattle.pass_cli.specs.declared.words.GraphQuestion.TheVariants.{Lineage, Recipe, View}
 
 -- the recipe of a node: it and all its ancestors, each after what it came from, in the least of these orders; each with its sources
 -- and its program
@@ -27,8 +28,10 @@ pub record IsRecipe (list : List Record) (node : Node) (entries : List Made) : T
 abbrev pub IsGraphText : List Record → GraphQuestion → List ℕ → Type 0
 IsGraphText list (Lineage query form) text = IsAnswerText list query form text
 IsGraphText list (Recipe node) text = (entries : List Made) × IsRecipe list node entries × (text ≡ recipe_text entries)
+IsGraphText list (View form node) text = IsViewText list node form text
 
 -- the node is the first given one that the graph hasn't
 abbrev pub IsMissing : List Record → GraphQuestion → Node → Type 0
 IsMissing list (Lineage query form) n = IsAbsent list query n
 IsMissing list (Recipe node) n = (n ≡ node) × ¬ (HasNode list node)
+IsMissing list (View form node) n = (node ≡ Some n) × ¬ (HasNode list n)

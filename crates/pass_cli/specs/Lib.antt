@@ -6,4 +6,5 @@ pub mod GraphAnswers
 pub mod Line
 pub mod Matches
 pub mod Numbers
+pub mod Shown
 pub mod Words

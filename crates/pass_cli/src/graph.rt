@@ -9,6 +9,7 @@ use crate::words::GraphQuestion;
 use pass_entry::Node;
 use pass_query::{QueryFault, Steps, answer};
 use pass_recipe::{recipe, to_text};
+use pass_view::view_text;
 use pass_waldo::Index;
 use std::alloc::Global;
 use std::marker::Brand;
@@ -28,6 +29,7 @@ pub fn graph_answer(
         GraphQuestion::Recipe(node) => {
             recipe_answer::<Brand>(alloc, Blank::new(1), index, *node)
         }
+        GraphQuestion::View { form, node } => view_text(alloc, index, *node, *form),
     }
 }
 

@@ -1,8 +1,8 @@
 //! The call that the program makes.
 ghost use Rattle.std.specs.Prelude.{◌≡◌, ◌≢◌, ◌↔◌, ◌⊎◌, ◌≤◌, Err, IsTrue, map, string_bytes};
 ghost use Rattle.pass_outside.specs.Faults.{HasRisen};
-ghost use Rattle.pass_run.specs.Stored.{IsLater, IsLeftAlone};
-ghost use Rattle.pass_cli.specs.Answers.{OfBytes, IsReadInTime, IsAnswer, IsNothing, IsRecorded, outcome_of};
+ghost use Rattle.pass_run.specs.Stored.{IsBackedBy, IsLater, IsLeftAlone};
+ghost use Rattle.pass_cli.specs.Answers.{OfBytes, IsReadInTime, IsAnswer, IsNothing, IsUnrecorded, IsRecorded, outcome_of};
 ghost use Rattle.pass_cli.specs.Asked.{IsAsked, IsPut, IsQuestionRead, asked_in};
 ghost use Rattle.pass_cli.specs.Follows.{IsFollowAnswer, IsFollowedOn, OfRead};
 ghost use Rattle.pass_cli.specs.Words.{is_follow, is_run, question_of};
@@ -49,7 +49,9 @@ pub fn pass_main<R: Threads + Wait + Sync, S: Source, K: Sink, D: Disk + Send, G
         (record { tells = K.tells; before = K.taken sink.old; after = K.taken sink.new }) disk result.disk (outcome_of result) result.status }
     // What a run hands out, also where memory was refused.
     ensures recorded { IsTrue (is_run (map string_bytes words.now)) → OfBytes S.tells (S.left source.old)
-        (λ bytes. (IsNothing (outcome_of result) × IsLeftAlone (D.view disk) (D.view result.disk)) ⊎ IsRecorded (D.view disk) (D.view result.disk) bytes (outcome_of result)) }
+        (λ bytes. IsUnrecorded (D.view disk) (D.view result.disk) bytes (outcome_of result) ⊎ IsRecorded (D.view disk) (D.view result.disk) bytes (outcome_of result)) }
+    // Each sync of which the history tells is among the syncs: it has the entry by which its call began, and none from its own place on.
+    ensures backed { IsBackedBy result.history.items result.syncs.items }
     // A standby ends as what came of the stream, and leaves on the disk whole frames of it.
     ensures follow { IsTrue (is_follow (map string_bytes words.now)) → result.status ≢ Status.NoMemory
         → IsFollowAnswer S.tells (S.left source.old) (S.left source.new) (S.fault_count source.old) (S.fault_count source.new)
@@ -74,7 +76,7 @@ pub fn pass_main<R: Threads + Wait + Sync, S: Source, K: Sink, D: Disk + Send, G
         → IsReadInTime (S.left source.old) (S.left source.new) }
 {
     match read_words(alloc, words) {
-        Ok(Command::Run { workers }) => run_words(alloc, workers, source, sink, disk, gate),
+        Ok(Command::Run { workers }) => run_words(rt, alloc, workers, source, sink, disk, gate),
         Ok(Command::Ask(question)) => answered(alloc, Ok(question), sink, disk),
         Ok(Command::Follow) => follow_words(rt, alloc, source, sink, disk),
         Err(status) => answered(alloc, Err(status), sink, disk),
@@ -82,7 +84,8 @@ pub fn pass_main<R: Threads + Wait + Sync, S: Source, K: Sink, D: Disk + Send, G
 }
 
 // Runs the trace of the source.
-fn run_words<S: Source, K: Sink, D: Disk + Send, G: Gate + Sync>(
+fn run_words<R: Threads + Wait + Sync, S: Source, K: Sink, D: Disk + Send, G: Gate + Sync>(
+    rt: &R,
     alloc: Global,
     workers: u32,
     source: &mut S,
@@ -95,7 +98,8 @@ fn run_words<S: Source, K: Sink, D: Disk + Send, G: Gate + Sync>(
         (record { tells = S.tells; left = S.left source.old; before = S.fault_count source.old; after = S.fault_count source.new })
         (record { tells = K.tells; before = K.taken sink.old; after = K.taken sink.new }) disk result.disk (outcome_of result) result.status }
     ensures recorded { OfBytes S.tells (S.left source.old)
-        (λ bytes. (IsNothing (outcome_of result) × IsLeftAlone (D.view disk) (D.view result.disk)) ⊎ IsRecorded (D.view disk) (D.view result.disk) bytes (outcome_of result)) }
+        (λ bytes. IsUnrecorded (D.view disk) (D.view result.disk) bytes (outcome_of result) ⊎ IsRecorded (D.view disk) (D.view result.disk) bytes (outcome_of result)) }
+    ensures backed { IsBackedBy result.history.items result.syncs.items }
     ensures later { IsLater (D.view disk) (D.view result.disk) }
     ensures write_fault { result.status ≢ Status.NoMemory → (result.status ≡ Status.WriteFault
         ↔ HasRisen (K.fault_count sink.old) (K.fault_count sink.new)) }
@@ -111,7 +115,7 @@ fn run_words<S: Source, K: Sink, D: Disk + Send, G: Gate + Sync>(
         start,
         report,
         disk,
-    } = judge(alloc, workers, source, disk, gate);
+    } = judge(rt, alloc, workers, source, disk, gate);
     Ended {
         status: write_answer(alloc, sink, status, &report),
         history,
@@ -135,6 +139,7 @@ fn follow_words<R: Wait, S: Source, K: Sink, D: Disk>(
         (record { tells = K.tells; before = K.taken sink.old; after = K.taken sink.new }) (D.view disk) (D.view result.disk) result.status }
     ensures on_disk { OfRead S.tells (S.left source.old) (S.left source.new) (D.view disk) (λ log bytes. IsFollowedOn log bytes (D.view disk) (D.view result.disk)) }
     ensures nothing { IsNothing (outcome_of result) }
+    ensures backed { IsBackedBy result.history.items result.syncs.items }
     ensures later { IsLater (D.view disk) (D.view result.disk) }
     ensures write_fault { result.status ≢ Status.NoMemory → (result.status ≡ Status.WriteFault
         ↔ HasRisen (K.fault_count sink.old) (K.fault_count sink.new)) }
@@ -161,6 +166,7 @@ fn answered<K: Sink, D: Disk>(
     ensures untaken { result.status ≡ Status.NoMemory → sink.new ≡ sink.old }
     ensures unopened { ¬ IsPut (asked_in question) → result.disk ≡ disk }
     ensures nothing { IsNothing (outcome_of result) }
+    ensures backed { IsBackedBy result.history.items result.syncs.items }
     ensures alone { IsLeftAlone (D.view disk) (D.view result.disk) }
     ensures later { IsLater (D.view disk) (D.view result.disk) }
 {
@@ -172,6 +178,7 @@ fn asked<D>(alloc: Global, asked: Asked<D>) -> Ended<D>
     ensures status { result.status ≡ asked.status }
     ensures disk { result.disk ≡ asked.disk }
     ensures nothing { IsNothing (outcome_of result) }
+    ensures backed { IsBackedBy result.history.items result.syncs.items }
 {
     let Asked { status, disk } = asked;
     Ended {

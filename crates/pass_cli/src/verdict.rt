@@ -1,16 +1,19 @@
 //! Judges what is to be answered of a run, before any of it is written.
 ghost use Rattle.std.specs.Prelude.{◌≢◌, ◌⊎◌, ◌≤◌, IsTrue};
 ghost use Rattle.pass_outside.specs.Faults.{HasRisen};
-ghost use Rattle.pass_run.specs.Stored.{IsLater, IsLeftAlone};
-ghost use Rattle.pass_cli.specs.Answers.{OfBytes, HasRun, IsNothing, IsRecorded, IsReadInTime, outcome_of_run};
+ghost use Rattle.pass_run.specs.Stored.{IsBackedBy, IsLater};
+ghost use Rattle.pass_cli.specs.Answers.{OfBytes, HasRun, IsUnrecorded, IsRecorded, IsReadInTime, outcome_of_run};
 
 use crate::reading::read_trace;
 use pass_outside::{Disk, Gate, Source};
 use pass_run::{RunEnd, Status, run_trace, unopened};
 use std::alloc::Global;
+use std::sync::Wait;
+use std::thread::Threads;
 
-/// Judges the source, then its bytes, and runs their trace over the store; so many workers take the turns.
-pub fn judge<S: Source, D: Disk + Send, G: Gate + Sync>(
+/// Judges the source, then its bytes, and runs their trace over the store; so many worker threads take the turns.
+pub fn judge<R: Threads + Wait + Sync, S: Source, D: Disk + Send, G: Gate + Sync>(
+    rt: &R,
     alloc: Global,
     workers: u32,
     source: &mut S,
@@ -22,14 +25,15 @@ pub fn judge<S: Source, D: Disk + Send, G: Gate + Sync>(
         (λ bytes. HasRun D.view bytes (S.fault_count source.old) (S.fault_count source.new) disk result.disk (outcome_of_run result) result.status result.report.items) }
     // Also where memory was refused.
     ensures recorded { OfBytes S.tells (S.left source.old)
-        (λ bytes. (IsNothing (outcome_of_run result) × IsLeftAlone (D.view disk) (D.view result.disk)) ⊎ IsRecorded (D.view disk) (D.view result.disk) bytes (outcome_of_run result)) }
+        (λ bytes. IsUnrecorded (D.view disk) (D.view result.disk) bytes (outcome_of_run result) ⊎ IsRecorded (D.view disk) (D.view result.disk) bytes (outcome_of_run result)) }
+    ensures backed { IsBackedBy result.history.items result.syncs.items }
     ensures later { IsLater (D.view disk) (D.view result.disk) }
     ensures no_write { result.status ≢ Status.WriteFault }
     ensures stops { IsTrue S.tells → result.status ≢ Status.NoMemory → ¬ HasRisen (S.fault_count source.old) (S.fault_count source.new)
         → IsReadInTime (S.left source.old) (S.left source.new) }
 {
     match read_trace(alloc, source) {
-        Ok(trace) => run_trace(alloc, &trace, workers, disk, gate),
+        Ok(trace) => run_trace(rt, alloc, &trace, workers, disk, gate),
         Err(status) => unopened(alloc, status, disk),
     }
 }

@@ -31,9 +31,17 @@ const LAST_PLACE: u64 = 9_999_999_999_999_999_999;
 #[derive(Debug, Drop)]
 pub enum GraphQuestion {
     /// What came from what, or which files had a name.
-    Lineage { query: Query, form: Form },
+    Lineage {
+        query: Query,
+        form: Form,
+    },
     /// By which steps the node can be made again.
     Recipe(Node),
+    /// How the whole graph looks, or what a node came from with that node; no word of passd asks for it.
+    View {
+        form: pass_view::Form,
+        node: Option<Node>,
+    },
 }
 
 /// A question about the store, which is answered without writing to it.

@@ -1,230 +1,258 @@
--- What a run over an opened store hands out, by its parts.
-use Rattle.std.proofs.Common.{◌≡◌, ◌⊎◌, ◌<◌, ◌≤◌, ◌+◌, ◌^◌, ℕ, zero, suc, Bool, false, List, [], ◌∷◌, length, map, refl, ap, sym, ◌∙◌, subst, inl, inr, ⊎_elim, arith}
-use Rattle.std.specs.Prelude.{Option, Some, None, Result, Ok, IsTrue, slice_get, option_map, nat_lt, if◌then◌else◌}
-use Rattle.std.proofs.lemmas.Bool.Decides.{nat_tests}
+-- What a run over an opened session hands out, whose store was closed.
+use Rattle.std.proofs.Common.{◌≡◌, ◌≢◌, ◌⊎◌, ◌<◌, ◌+◌, ◌∷◌, ℕ, Bool, List, [], length, refl, ap, sym, ◌∙◌, subst, inl, inr, ⊎_elim, arith, length-append}
+use Rattle.std.specs.Prelude.{Option, Result, Ok, Err, IfOk, IfErr, OnOk}
+use mathlib.Core.List.{IsPrefix}
+use Rattle.pass_calls.specs.declared.answer.CallEnd.{CallEnd}
+use Rattle.pass_calls.specs.declared.answer.CallEnd.TheVariants as ends
 use Rattle.pass_entry.specs.declared.entry.Entry.{Entry}
 use Rattle.pass_entry.specs.declared.entry.Synced.{Synced}
-use Rattle.pass_entry.specs.declared.record.FlawReason.{FlawReason}
+use Rattle.pass_entry.specs.declared.record.Record.{Record}
 use Rattle.pass_graph.specs.Lawful.{GraphLaw, VersionRecordLaw, InputRecordLaw}
 use Rattle.pass_graph.specs.Openings.{Continues}
-use Rattle.pass_keep.specs.declared.keeper.Keeper.{Keeper}
-use Rattle.pass_keep.specs.Kept.{Story, IsStory, Noted, synced_of, covered, bound_of, list_to, source_to, HasRecords, AreOlder, IsLeft, AreTimed}
-use Rattle.pass_keep.specs.Keepers.{IsKeeper, GoesOn, Past, no_file}
-use Rattle.pass_keep.proofs.Shown.{since_shown, settled_shown, timed_shown}
-use Rattle.pass_keep.proofs.Stories.{source_below}
-use Rattle.pass_log.specs.LogImage.{held_in}
-use Rattle.pass_log.specs.declared.fault.LogFault.{LogFault}
-use Rattle.pass_log.specs.Records.{Held, image_of}
-use Rattle.pass_outside.specs.Areas.{Image}
+use Rattle.pass_keep.specs.Kept.{Story}
 use Rattle.pass_outside.specs.Moments.{Moment, IsAtEnd}
 use Rattle.pass_plain.specs.declared.start.Start.{Start}
-use Rattle.pass_plain.specs.Legal.{IsLegal}
 use Rattle.pass_plain.specs.Sessions.{Session}
-use Rattle.pass_plain.specs.Traces.{Line}
-use Rattle.pass_plain.specs.WellLogged.{first_flaw}
-use Rattle.pass_range.specs.Rows.{number_of, IsUnmatched}
+use Rattle.pass_plain.specs.Sound.{IsSound}
+use Rattle.pass_plain.specs.Runs.{IsRun}
 use Rattle.pass_recover.specs.declared.fault.OpenFault.{OpenFault}
-use Rattle.pass_recover.specs.declared.fault.OpenFault.TheVariants as store
 use Rattle.pass_recover.specs.Faults.{LogHas}
-use Rattle.pass_report.specs.Reports.{SameButBytes}
-use Rattle.pass_trace.specs.TraceLines.{objects_of, session_of_trace}
+use Rattle.pass_replay.specs.Making.{first_entry}
+use Rattle.pass_report.specs.Reports.{SameButBytes, IsRunFrom, report_of}
+use Rattle.pass_safe.specs.Safes.{IsLost}
+use Rattle.pass_session.specs.Sessions.{OpenedView, HasSession}
+use Rattle.pass_store.specs.Closings.{story_at, IsClosed, IsSettled, IsUnsettled}
+use Rattle.pass_store.specs.Grounds.{Ground, HasGoneOn, ground_of}
+use Rattle.pass_trace.specs.TraceLines.{objects_of, plain_trace, session_of_trace}
 use Rattle.pass_trace.specs.declared.trace.TraceLine.{TraceLine}
-use Rattle.pass_dirty.specs.Gathering.{every_file}
+use Rattle.pass_turns.specs.declared.ends.Last.{Last}
+use Rattle.pass_turns.specs.declared.ends.Last.TheVariants as lasts
+use Rattle.pass_turns.specs.Runs.{IsRanTo}
+use Rattle.pass_vault.specs.Vaulted.{Vaulted}
+use Rattle.pass_vault.specs.declared.vault.Receipt.{Receipt}
+use Rattle.pass_book.specs.Tokens.{BookId}
+use Rattle.pass_run.specs.Closing.{status_of}
+use Rattle.pass_run.specs.Ends.{EndsAs}
 use Rattle.pass_run.specs.declared.ending.RunEnd.{RunEnd}
-use Rattle.pass_run.specs.declared.performing.Performed.{Performed}
 use Rattle.pass_run.specs.declared.status.Status.{Status}
 use Rattle.pass_run.specs.declared.status.Status.TheVariants as status
-use Rattle.pass_run.specs.declared.storing.OpenedRun.{OpenedRun}
-use Rattle.pass_run.specs.Ends.{EndsAs}
-use Rattle.pass_run.specs.OpenedRuns.{IsOpenedRun, story_over, HasPerformed, both_syncs, IsAllKept, IsRunOver}
-use Rattle.pass_run.specs.Stored.{last_end, end_fault, fault_or, session_fault, IsStoreJudged, IsEnd, IsOfDisk, IsBare, IsOpening, IsUnopened, HasRecorded, HasFirst, IsStored, IsSettledRun, IsLater, IsOverStore, HasEnded}
-use Rattle.pass_run.specs.Stores.{image_fault}
+use Rattle.pass_run.specs.OpenedRuns.{IsRunOver}
+use Rattle.pass_run.specs.Stored.{session_fault, IsBare, IsStoreJudged, IsEnd, IsOfDisk, IsOpening, IsLater, IsStored, IsSettledRun, HasRecorded, IsOverStore, HasEnded, story_of}
 use Rattle.pass_run.proofs.Numbered.{numbered}
+use Rattle.pass_run.proofs.Recorded.{is_stored, is_settled, has_recorded}
 
--- The store
+-- Which status it is
 
-within_end : (n : ℕ) → n ≤ 274877906944 → nat_lt last_end n ≡ false
-within_end n le = grind (arith, nat_tests)
+-- what a status says of how the processes ended and how the store was settled
+abbrev IsOfEnd : Last → Result Receipt CallEnd → Status → Type 0
+IsOfEnd last settled s = (receipt : Receipt) × (settled ≡ Ok receipt) × ((s ≡ status.Done) × (last ≡ lasts.Done) ⊎ (s ≡ status.Stuck) × (last ≡ lasts.Stuck))
 
--- the fault of an image without flaws whose end is within bounds
-pub unfaulted : (bytes : List ℕ) (held : Held) → image_of bytes ≡ Ok held → first_flaw held.list ≡ None → held.end ≤ 274877906944 → session_fault bytes ≡ None
-unfaulted bytes held image logged short =
-    ap (λ (r : Result Held LogFault). fault_or (image_fault r) (end_fault r)) image
-    ∙ ap (λ (o : Option (ℕ × FlawReason)). fault_or (option_map (λ flaw. store.Flaw flaw.0 flaw.1) o) (end_fault (Ok held))) logged
-    ∙ ap (λ (b : Bool). if b then Some (store.BadFrame held.end) else None) (within_end held.end short)
+of_end : (now : ℕ) (last : Last) (settled : Result Receipt CallEnd) (s : Status) → s ≡ status_of now last settled → IsEnd s → IsOfEnd last settled s
+of_end now lasts.Done (Ok receipt) s is end = (receipt, refl, inl (is, refl))
+of_end now lasts.Stuck (Ok receipt) s is end = (receipt, refl, inr (is, refl))
+of_end now (lasts.Failed cause) (Ok receipt) s is end = absurd (subst IsEnd is end)
+of_end now last (Err (ends.DiskFault opened found)) s is end = absurd (subst IsEnd is end)
+of_end now last (Err (ends.Fault f)) s is end = absurd (subst IsEnd is end)
+of_end now last (Err ends.Again) s is end = absurd (subst IsEnd is end)
+of_end now last (Err (ends.Full left need)) s is end = absurd (subst IsEnd is end)
+of_end now last (Err ends.NoMemory) s is end = absurd (subst IsEnd is end)
 
-module _ (m : Moment) (g : OpenedRun) (run : IsOpenedRun m g) (short : g.image.end ≤ 274877906944) where
-  pub is_opening : (start : Start) → SameButBytes start g.start → IsBare start → IsOpening m g.image.list.items start g.start
-  is_opening start same none =
-      let (bytes, read, image) = run.read in
-      record {
-        logged = (bytes, read, record { held = held_in g.image; image = image.holds; list_is = refl; unfaulted = unfaulted bytes (held_in g.image) image.holds run.logged short });
-        told = run.told;
-        bytes = run.bytes;
-        outline = same;
-        bare = none;
-      }
+abbrev IsOfFault : ℕ → Result Receipt CallEnd → ℕ → ℕ → Type 0
+IsOfFault now settled opened counted = (found : ℕ) × (settled ≡ Err (ends.DiskFault opened found)) × (now ≡ counted)
 
-  pub judged_end : (ended : Status) → (ended ≡ status.Done) ⊎ (ended ≡ status.Stuck) → LogHas m (λ bytes. IsStoreJudged (session_fault bytes) ended)
-  judged_end ended is =
-      let (bytes, read, image) = run.read in
-      (bytes, read, subst (λ (o : Option OpenFault). IsStoreJudged o ended) (sym (unfaulted bytes (held_in g.image) image.holds run.logged short)) is)
+of_disk : (now : ℕ) (last : Last) (settled : Result Receipt CallEnd) (opened counted : ℕ) → status_of now last settled ≡ status.DiskFault opened counted → IsOfFault now settled opened counted
+of_disk now lasts.Done (Ok receipt) opened counted is = absurd (cc)
+of_disk now lasts.Stuck (Ok receipt) opened counted is = absurd (cc)
+of_disk now (lasts.Failed cause) (Ok receipt) opened counted is = absurd (cc)
+of_disk now last (Err (ends.DiskFault first found)) opened counted is =
+    let same : first ≡ opened = cc in
+    (found, ap (λ n. Err (ends.DiskFault n found)) same, cc)
+of_disk now last (Err (ends.Fault f)) opened counted is = absurd (cc)
+of_disk now last (Err ends.Again) opened counted is = absurd (cc)
+of_disk now last (Err (ends.Full left need)) opened counted is = absurd (cc)
+of_disk now last (Err ends.NoMemory) opened counted is = absurd (cc)
 
-  abbrev lines : List TraceLine
-  lines = g.trace.now.lines.items
+-- it is the end of a run, a fault of the disk, or want of memory
+not_bad : (now : ℕ) (last : Last) (settled : Result Receipt CallEnd) (fault : OpenFault) → status_of now last settled ≡ status.BadStore fault → ⊥
+not_bad now lasts.Done (Ok receipt) fault is = absurd (cc)
+not_bad now lasts.Stuck (Ok receipt) fault is = absurd (cc)
+not_bad now (lasts.Failed cause) (Ok receipt) fault is = absurd (cc)
+not_bad now last (Err (ends.DiskFault first found)) fault is = absurd (cc)
+not_bad now last (Err (ends.Fault f)) fault is = absurd (cc)
+not_bad now last (Err ends.Again) fault is = absurd (cc)
+not_bad now last (Err (ends.Full left need)) fault is = absurd (cc)
+not_bad now last (Err ends.NoMemory) fault is = absurd (cc)
 
-  module _ (few : objects_of lines ≤ 8192) (low : g.start.ceiling + objects_of lines < 2 ^ 48) where
-    pub continues : Continues g.image.list.items (session_of_trace g.start lines)
-    continues = run.continues (objects_of lines) (omega arith) few low
+quiet_end : (now : ℕ) (last : Last) (settled : Result Receipt CallEnd) (s : Status) → s ≡ status_of now last settled → s ≢ status.NoMemory → (IsOfDisk s → ⊥) → IsEnd s
+quiet_end now lasts.Done (Ok receipt) s is some quiet = subst IsEnd (sym is) tt
+quiet_end now lasts.Stuck (Ok receipt) s is some quiet = subst IsEnd (sym is) tt
+quiet_end now (lasts.Failed cause) (Ok receipt) s is some quiet = absurd (some is)
+quiet_end now last (Err (ends.DiskFault first found)) s is some quiet = absurd (quiet (subst IsOfDisk (sym is) tt))
+quiet_end now last (Err (ends.Fault f)) s is some quiet = absurd (some is)
+quiet_end now last (Err ends.Again) s is some quiet = absurd (some is)
+quiet_end now last (Err (ends.Full left need)) s is some quiet = absurd (some is)
+quiet_end now last (Err ends.NoMemory) s is some quiet = absurd (some is)
 
-    pub is_story : (history : List Entry) → IsLegal (session_of_trace g.start lines) history → IsStory (story_over m.seen.store g history)
-    is_story history legal = record { sound = run.sound (objects_of lines) (omega arith) low; tells = run.files; legal = legal }
+-- a history in which something was entered
+some_entry : (first : Entry) (history : List Entry) → IsPrefix (first ∷ []) history → 0 < length history
+some_entry first history begins = let (rest, is) = begins in let size = ap length is in let parts = length-append (first ∷ []) rest in omega (arith, size, parts)
 
-    pub has_recorded : GraphLaw × VersionRecordLaw × InputRecordLaw → (p : Performed) → HasPerformed g.start lines p → HasRecorded g.image.list.items g.start lines p.history.items
-    has_recorded (law, versions, inputs) p performed = record {
-      run = performed.run;
-      graph = law g.image.list.items (session_of_trace g.start lines) p.history.items continues.opens performed.run.legal;
-      exact = record {
-        frozen = versions (session_of_trace g.start lines) p.history.items performed.run.legal;
-        linked = inputs (session_of_trace g.start lines) p.history.items performed.run.legal;
-      };
-    }
+-- What a closed store gives
 
-pub none_legal : (session : Session) → IsLegal session []
-none_legal session i e at = absurd (cc)
+module _ {D : Type 0} (view : D → Moment) (old : Moment) (lines : List TraceLine) (entries : ℕ) (o : OpenedView D) (session : HasSession view old (objects_of lines) entries o)
+    (book : BookId) (book_is : o.vault.book ≡ book) (ground : Ground) (ground_is : ground_of o.vault ≡ ground) where
+  abbrev start : Start
+  start = o.vault.book.session.start
 
--- how a run ends
-pub at_its_end : (session : Session) (trace : List Line) (history : List Entry) (s : Status) → EndsAs session trace history s → (s ≡ status.Done) ⊎ (s ≡ status.Stuck)
-at_its_end session trace history status.Done ends = inl refl
-at_its_end session trace history status.Stuck ends = inr refl
-at_its_end session trace history _ ends = absurd ends
+  abbrev list : List Record
+  list = o.vault.before
 
--- What a keeper keeps
+  session_is : book.session ≡ session_of_trace start lines
+  session_is = sym (ap (λ (b : BookId). b.session) book_is) ∙ (λ i. record { start = start; objects = session.objects_are i })
 
-mapped_at : {A B : Type 0} (f : A → B) (xs : List A) (i : ℕ) (y : B) → slice_get (map f xs) i ≡ Some y → (x : A) × (slice_get xs i ≡ Some x) × (f x ≡ y)
-mapped_at f [] i y at = absurd (cc)
-mapped_at f (x ∷ xs) zero y at = (x, refl, cc)
-mapped_at f (x ∷ xs) (suc i) y at = mapped_at f xs i y at
+  abbrev story : List Entry → Story
+  story history = story_of old.calls old.seen.store list start lines history
 
-module _ {D : Type 0} (view : D → Moment) (s : Story) (noted : List Noted) (k : Keeper D) (keeper : IsKeeper view (record { story = s; noted = noted }) k) where
-  abbrev past : Past
-  past = record { story = s; noted = noted }
-
-  first_of : (x : Noted) (c : Image) → IsLeft s x.entries (bound_of x) c → HasFirst s x.entries c
-  first_of x c left = record { count = left.count; enough = left.enough; within = left.within; records = left.records; older = left.older }
-
-  pub is_stored : (disk : D) (syncs : List Synced) → disk ≡ k.disk → syncs ≡ k.syncs.items → IsStored s (view disk) syncs
-  is_stored disk syncs same are =
-      let kept : IsStored s (view k.disk) syncs = record {
-        begun = keeper.kept.begun;
-        timed = subst (AreTimed (view k.disk) (length s.history)) (sym are) (timed_shown view past k keeper);
-        since = λ told i y at c left.
-            let (x, there, is) = mapped_at synced_of noted i y (ap (λ (l : List Synced). slice_get l i) (sym (are ∙ keeper.syncs)) ∙ at) in
-            subst (λ (z : Synced). HasFirst s z.entries c) is
-            (first_of x c (since_shown view past k keeper told i x there c (subst (λ (z : Synced). (view k.disk).left_since z.calls c) (sym is) left)));
-      } in
-      subst (λ (d : D). IsStored s (view d) syncs) (sym same) kept
-
-module _ {D : Type 0} (view : D → Moment) (s : Story) (k : Keeper D) (all : IsAllKept view s k)
-    (less : (t u : ℕ) (c : Image) → t ≤ u → (view k.disk).left_since u c → (view k.disk).left_since t c) where
-  abbrev first : Noted
-  first = record { calls = all.first; entries = length s.history; files = no_file }
-
-  abbrev second : Noted
-  second = record { calls = all.second; entries = length s.history; files = every_file }
-
-  ordered : (i : ℕ) (x : Noted) → slice_get (both_syncs s all.first all.second) i ≡ Some x → x.calls ≤ second.calls
-  ordered zero x at = let z : first ≡ x = cc in omega (arith, all.ordered, ap (λ (y : Noted). y.calls) z)
-  ordered (suc zero) x at = let z : second ≡ x = cc in omega (arith, ap (λ (y : Noted). y.calls) z)
-  ordered (suc (suc i)) x at = absurd (cc)
-
-  clean : (pnode block number at : ℕ) → source_to s (length s.history) pnode block ≡ Some at → number_of (list_to s (length s.history)) pnode ≡ Some number
-      → at < covered (both_syncs s all.first all.second) number
-  clean pnode block number at source numbered =
-      let low = source_below s (length s.history) pnode block at (omega arith) source in omega (arith, low)
-
-  shown : IsTrue (view k.disk).tells → (c : Image) → (view k.disk).left_since all.second c
-      → HasRecords (list_to s (length s.history)) c.log
-      × ((p b at : ℕ) → source_to s (length s.history) p b ≡ Some at → IsUnmatched (list_to s (length s.history)) c.store p b → ⊥)
-  shown told c left =
-      settled_shown view (record { story = s; noted = both_syncs s all.first all.second }) k all.keeper less told (first ∷ []) second refl refl ordered clean c left
-
-  older : IsTrue (view k.disk).tells → (c : Image) → (view k.disk).left_since all.second c → AreOlder s (length s.history) c.store
-  older told c left =
-      let whole = since_shown view (record { story = s; noted = both_syncs s all.first all.second }) k all.keeper told 1 second refl c left in
-      let count : whole.count ≡ length s.history = omega (arith, whole.enough, whole.within) in
-      subst (λ n. AreOlder s n c.store) count whole.older
-
-  pub is_settled : (disk : D) (syncs : List Synced) → disk ≡ k.disk → syncs ≡ k.syncs.items → IsSettledRun s (view disk) syncs
-  is_settled disk syncs same are =
-      let settled : IsSettledRun s (view k.disk) syncs = record {
-        front = synced_of first ∷ [];
-        last = synced_of second;
-        are = are ∙ all.keeper.syncs;
-        all = refl;
-        records = λ told c left. (shown told c left).0;
-        matched = λ told c left. (shown told c left).1;
-        older = older;
-      } in
-      subst (λ (d : D). IsSettledRun s (view d) syncs) (sym same) settled
-
--- The ends
-
-pub goes_on_later : (old new : Moment) → GoesOn old new → IsLater old new
-goes_on_later old new goes = record { tells = goes.0; faults = goes.1; calls = goes.2 }
-
-pub later_both : (old mid new : Moment) → IsLater old mid → IsLater mid new → IsLater old new
-later_both old mid new first next = record { tells = next.tells ∙ first.tells; faults = omega (arith, first.faults, next.faults); calls = omega (arith, first.calls, next.calls) }
-
-module _ {D : Type 0} (view : D → Moment) (old : Moment) (calls : ℕ) (lines : List TraceLine) (e : RunEnd D) (no_report : (IsEnd e.status → ⊥) → e.report.items ≡ [])
-    (later : IsLater old (view e.disk)) where
-  -- want of memory
-  pub over_memory : e.status ≡ status.NoMemory → IsOverStore calls old (view e.disk) lines e.list.items e.start e.history.items e.syncs.items → IsRunOver view old calls lines e
-  over_memory is over = record {
-    built = λ line also. absurd (let z : status.NoMemory ≡ status.NotBuilt line = sym is ∙ also in cc);
-    disk_fault = λ opened now also. absurd (let z : status.NoMemory ≡ status.DiskFault opened now = sym is ∙ also in cc);
-    no_fault = λ other. absurd (other is);
-    judged = λ other. absurd (other is);
-    bad_store = λ fault also. absurd (let z : status.NoMemory ≡ status.BadStore fault = sym is ∙ also in cc);
-    recorded = inr over;
-    ended = λ end. absurd (subst IsEnd is end);
-    no_report = no_report;
-    later = later;
+  story_is : (history : List Entry) → story_at book ground history ≡ story history
+  story_is history = λ i. record {
+    before = (sym (ap (λ (g : Ground). g.before) ground_is)) i;
+    ceiling = (sym (ap (λ (g : Ground). g.ceiling) ground_is) ∙ ap (λ (v : Vaulted D). v.ceiling) session.vault) i;
+    session = session_is i;
+    history = history;
+    start = (sym (ap (λ (g : Ground). g.since) ground_is) ∙ ap (λ (v : Vaulted D). v.since) session.vault) i;
+    store = (sym (ap (λ (g : Ground). g.store) ground_is) ∙ ap (λ (v : Vaulted D). v.store) session.vault) i;
   }
 
-  -- a fault of the disk
-  pub over_disk : (opened now : ℕ) → e.status ≡ status.DiskFault opened now → opened ≡ old.faults → now ≡ (view e.disk).faults → (opened < now) ⊎ IsAtEnd (view e.disk)
-      → IsOverStore calls old (view e.disk) lines e.list.items e.start e.history.items e.syncs.items → IsRunOver view old calls lines e
-  over_disk opened now is entry return rose over = record {
-    built = λ line also. absurd (let z : status.DiskFault opened now ≡ status.NotBuilt line = sym is ∙ also in cc);
-    disk_fault = λ o n also.
-        let z : status.DiskFault opened now ≡ status.DiskFault o n = sym is ∙ also in
-        let a : opened ≡ o = cc in
-        let b : now ≡ n = cc in
-        (sym a ∙ entry, sym b ∙ return, ⊎_elim (λ (lt : opened < now). inl (omega (arith, lt, a, b))) (λ end. inr end) rose);
-    no_fault = λ other quiet. absurd (quiet (subst IsOfDisk (sym is) tt));
-    judged = λ other quiet. absurd (quiet (subst IsOfDisk (sym is) tt));
-    bad_store = λ fault also. absurd (let z : status.DiskFault opened now ≡ status.BadStore fault = sym is ∙ also in cc);
-    recorded = inr over;
-    ended = λ end. absurd (subst IsEnd is end);
-    no_report = no_report;
-    later = later;
+  opened_is : ground.opened ≡ old.faults
+  opened_is = sym (ap (λ (g : Ground). g.opened) ground_is) ∙ ap (λ (v : Vaulted D). v.opened) session.vault
+
+  since_is : ground.since ≡ old.calls + 2
+  since_is = sym (ap (λ (g : Ground). g.since) ground_is) ∙ ap (λ (v : Vaulted D). v.since) session.vault
+
+  -- the disk goes on from where it was found
+  pub gone_on_so : (tells : Bool) → (view o.vault.disk).tells ≡ tells → HasGoneOn tells ground.opened (view o.vault.disk)
+  gone_on_so tells told = record { told = told; faults = let healthy = session.healthy in omega (arith, opened_is, healthy) }
+
+  pub later_by : (tells : Bool) → (view o.vault.disk).tells ≡ tells → (m : Moment) (history : List Entry) (ready : ℕ) (syncs : List Synced) → HasGoneOn tells ground.opened m
+      → IsClosed (story_at book ground history) ready m syncs → IsLater old m
+  later_by tells told m history ready syncs gone closed = record {
+    tells = gone.told ∙ sym told ∙ session.later.tells;
+    faults = let low = gone.faults in omega (arith, low, opened_is);
+    calls = let earlier = closed.begun.earlier in omega (arith, earlier, since_is);
   }
 
-  -- the whole run
-  pub over_end : (e.status ≡ status.Done) ⊎ (e.status ≡ status.Stuck) → (view e.disk).faults ≡ old.faults → LogHas old (λ bytes. IsStoreJudged (session_fault bytes) e.status)
-      → IsOverStore calls old (view e.disk) lines e.list.items e.start e.history.items e.syncs.items
-      → HasEnded calls old (view e.disk) lines e.list.items e.start e.history.items e.syncs.items e.status e.report.items → IsRunOver view old calls lines e
-  over_end at healthy judged over ended =
-      let is_end : IsEnd e.status = ⊎_elim (λ (d : e.status ≡ status.Done). subst IsEnd (sym d) tt) (λ (s : e.status ≡ status.Stuck). subst IsEnd (sym s) tt) at in
-      record {
-        built = λ line also. absurd (subst IsEnd also is_end);
-        disk_fault = λ opened now also. absurd (subst IsEnd also is_end);
-        no_fault = λ _ _. healthy;
-        judged = λ _ _. judged;
-        bad_store = λ fault also. absurd (subst IsEnd also is_end);
-        recorded = inr over;
-        ended = λ _. ended;
-        no_report = no_report;
-        later = later;
-      }
+  continues : Continues list (session_of_trace start lines)
+  continues = subst (λ (s : Session). Continues list s) (ap (λ (b : BookId). b.session) book_is ∙ session_is) session.continues
+
+  sound : IsSound (session_of_trace start lines)
+  sound = subst IsSound (ap (λ (b : BookId). b.session) book_is ∙ session_is) session.sound
+
+  judged_end : (s : Status) → (s ≡ status.Done) ⊎ (s ≡ status.Stuck) → LogHas old (λ bytes. IsStoreJudged (session_fault bytes) s)
+  judged_end s is =
+      let (bytes, read, listed) = session.opening.logged in
+      (bytes, read, subst (λ (o : Option OpenFault). IsStoreJudged o s) (sym listed.unfaulted) is)
+
+  -- the run that it handed out
+  module _ (e : RunEnd D) (last : Last) (settled : Result Receipt CallEnd) (status_is : (e.status ≡ status_of (view e.disk).faults last settled) ⊎ (e.status ≡ status.NoMemory))
+      (no_report : (IsEnd e.status → ⊥) → e.report.items ≡ []) (list_is : e.list.items ≡ ground.before) (same : SameButBytes e.start book.session.start) (bare : IsBare e.start)
+      (closed : IsClosed (story_at book ground e.history.items) ground.ready (view e.disk) e.syncs.items)
+      (later : IsLater old (view e.disk)) (laws : GraphLaw × VersionRecordLaw × InputRecordLaw) (ran : IsRanTo book.session (plain_trace lines) e.history.items last) where
+    list_too : e.list.items ≡ list
+    list_too = list_is ∙ sym (ap (λ (g : Ground). g.before) ground_is)
+
+    run : IsRun (session_of_trace start lines) (plain_trace lines) e.history.items
+    run = subst (λ (s : Session). IsRun s (plain_trace lines) e.history.items) session_is ran.run
+
+    outline : SameButBytes e.start start
+    outline = subst (λ (b : BookId). SameButBytes e.start b.session.start) (sym book_is) same
+
+    is_opening : IsOpening old e.list.items e.start start
+    is_opening = subst (λ (l : List Record). IsOpening old l e.start start) (sym list_too) (record {
+      logged = session.opening.logged;
+      told = session.opening.told;
+      bytes = session.opening.bytes;
+      outline = outline;
+      bare = bare;
+    })
+
+    recorded : HasRecorded e.list.items start lines e.history.items
+    recorded = subst (λ (l : List Record). HasRecorded l start lines e.history.items) (sym list_too) (has_recorded list start lines e.history.items sound continues laws run)
+
+    story_same : story_at book ground e.history.items ≡ story_of old.calls old.seen.store e.list.items start lines e.history.items
+    story_same = story_is e.history.items ∙ ap (λ (l : List Record). story_of old.calls old.seen.store l start lines e.history.items) (sym list_too)
+
+    stored : IsStored (story_of old.calls old.seen.store e.list.items start lines e.history.items) (view e.disk) e.syncs.items
+    stored = subst (λ (s : Story). IsStored s (view e.disk) e.syncs.items) story_same (is_stored (story_at book ground e.history.items) ground.ready (view e.disk) e.syncs.items closed)
+
+    over : IsOverStore old.calls old (view e.disk) lines e.list.items e.start e.history.items e.syncs.items
+    over = record { opened = start; opening = is_opening; some = some_entry (first_entry book.session) e.history.items ran.has.starts; recorded = recorded; stored = stored }
+
+    -- a fault of the disk
+    module _ (refused : IfErr settled (IsUnsettled ground.opened (view e.disk))) where
+      lost : (opened counted : ℕ) → e.status ≡ status.DiskFault opened counted → (opened ≡ old.faults) × (counted ≡ (view e.disk).faults) × ((opened < counted) ⊎ IsAtEnd (view e.disk))
+      lost opened counted also = ⊎_elim by_settled (λ (starved : e.status ≡ status.NoMemory). absurd (let z : status.NoMemory ≡ status.DiskFault opened counted = sym starved ∙ also in cc)) status_is
+        where
+          by_settled : e.status ≡ status_of (view e.disk).faults last settled → (opened ≡ old.faults) × (counted ≡ (view e.disk).faults) × ((opened < counted) ⊎ IsAtEnd (view e.disk))
+          by_settled is =
+              let (found, failed, now) = of_disk (view e.disk).faults last settled opened counted (sym is ∙ also) in
+              let fault : IsLost (view e.disk) ground.opened (record { opened = opened; found = found }) = subst (λ (r : Result Receipt CallEnd). IfErr r (IsUnsettled ground.opened (view e.disk))) failed refused in (
+                fault.first ∙ opened_is,
+                sym now,
+                ⊎_elim (λ (rose : opened < found). inl (omega (arith, rose, fault.within, now))) (λ (end : IsAtEnd (view e.disk)). inr end) fault.above,
+              )
+
+      -- all of it
+      module _ (whole : IfOk settled (IsSettled (story_at book ground e.history.items) (view e.disk) e.syncs.items)) (healthy : OnOk settled ((view e.disk).faults ≡ ground.opened))
+          (report : IsEnd e.status → (full : Start) → IsRunFrom e.start e.history.items lines full → e.report.items ≡ report_of full e.history.items lines) where
+        its_end : IsEnd e.status → IsOfEnd last settled e.status
+        its_end end = ⊎_elim (λ is. of_end (view e.disk).faults last settled e.status is end) (λ starved. absurd (subst IsEnd starved end)) status_is
+
+        which : IsEnd e.status → (e.status ≡ status.Done) ⊎ (e.status ≡ status.Stuck)
+        which end = let (receipt, ok, by) = its_end end in ⊎_elim (λ (d : (e.status ≡ status.Done) × (last ≡ lasts.Done)). inl d.0) (λ (s : (e.status ≡ status.Stuck) × (last ≡ lasts.Stuck)). inr s.0) by
+
+        ends_as : IsEnd e.status → EndsAs (session_of_trace start lines) (plain_trace lines) e.history.items e.status
+        ends_as end =
+            let (receipt, ok, by) = its_end end in
+            subst (λ (s : Session). EndsAs s (plain_trace lines) e.history.items e.status) session_is
+            (⊎_elim (λ (d : (e.status ≡ status.Done) × (last ≡ lasts.Done)). subst (EndsAs book.session (plain_trace lines) e.history.items) (sym d.0) (ran.done d.1))
+            (λ (s : (e.status ≡ status.Stuck) × (last ≡ lasts.Stuck)). subst (EndsAs book.session (plain_trace lines) e.history.items) (sym s.0) (ran.stuck s.1)) by)
+
+        settled_run : IsEnd e.status → IsSettledRun (story_of old.calls old.seen.store e.list.items start lines e.history.items) (view e.disk) e.syncs.items
+        settled_run end =
+            let (receipt, ok, by) = its_end end in
+            subst (λ (s : Story). IsSettledRun s (view e.disk) e.syncs.items) story_same
+            (is_settled (story_at book ground e.history.items) (view e.disk) e.syncs.items receipt
+            (subst (λ (r : Result Receipt CallEnd). IfOk r (IsSettled (story_at book ground e.history.items) (view e.disk) e.syncs.items)) ok whole))
+
+        ended : IsEnd e.status → HasEnded old.calls old (view e.disk) lines e.list.items e.start e.history.items e.syncs.items e.status e.report.items
+        ended end = record {
+          opened = start;
+          opening = is_opening;
+          recorded = recorded;
+          reported = record { ends = ends_as end; report = report end start (record { same = outline; sound = sound; run = run }) };
+          stored = stored;
+          settled = settled_run end;
+          numbered = numbered (session_of_trace start lines) e.history.items run.legal;
+        }
+
+        fine : IsEnd e.status → (view e.disk).faults ≡ old.faults
+        fine end =
+            let (receipt, ok, by) = its_end end in
+            subst (λ (r : Result Receipt CallEnd). OnOk r ((view e.disk).faults ≡ ground.opened)) ok healthy ∙ opened_is
+
+        quiet : e.status ≢ status.NoMemory → (IsOfDisk e.status → ⊥) → IsEnd e.status
+        quiet some other = ⊎_elim (λ is. quiet_end (view e.disk).faults last settled e.status is some other) (λ starved. absurd (some starved)) status_is
+
+        pub over_run : IsRunOver view old lines e
+        over_run = record {
+          disk_fault = lost;
+          no_fault = λ some other. fine (quiet some other);
+          judged = λ some other. judged_end e.status (which (quiet some other));
+          bad_store = λ fault also. absurd (⊎_elim (λ is. not_bad (view e.disk).faults last settled fault (sym is ∙ also))
+              (λ (starved : e.status ≡ status.NoMemory). let z : status.NoMemory ≡ status.BadStore fault = sym starved ∙ also in absurd (cc)) status_is);
+          recorded = inr (inr over);
+          backed = closed.backed;
+          ended = ended;
+          no_report = no_report;
+          later = later;
+        }

@@ -1,8 +1,9 @@
 -- The lines of the trace of a text keep the rules of a trace.
 use Rattle.std.proofs.Common.{◌≡◌, ◌<◌, ◌≤◌, ◌+◌, ℕ, List, [], ◌∷◌, ◌++◌, length, take, refl, ap, sym, ◌∙◌, subst, arith, inl, inr, Bool, true, false, not, ◌||◌, ◌&&◌, ◌==◌, cond, append_assoc, length-append}
-use Rattle.std.specs.Prelude.{Option, Some, None, Result, Ok, Err, slice_index_or, nat_lt, nat_le}
+use Rattle.std.specs.Prelude.{Option, Some, None, Result, Ok, Err, option_map, slice_get, slice_index_or, nat_lt, nat_le}
 use Rattle.std.specs.List.{list_any}
 use Rattle.std.proofs.lemmas.Bool.{cases_lt}
+use Rattle.std.proofs.lemmas.Option.{slice_get-map}
 use Rattle.std.proofs.lemmas.Bool.Decides.{nat_tests}
 use Rattle.pass_entry.specs.Texts.{is_name, is_line}
 use Rattle.pass_entry.specs.declared.objects.Mode.{Mode}
@@ -26,7 +27,6 @@ use Rattle.pass_trace.proofs.Good.{IsGood, IsMode, text_line_is}
 use Rattle.pass_trace.proofs.LinesLemmas.{lines_from-push}
 use Rattle.pass_run.specs.Ends.{IsTrace}
 use Rattle.pass_replay.specs.Lines.{is_fork_of, is_there, IsLineCall, IsLineBehind, AreLinesBehind, ForksBefore}
-use Rattle.pass_run.proofs.Linked.{plain_at}
 
 below_64 : (fd : ℕ) → fd ≤ 63 → is_fd fd ≡ true
 below_64 fd le = grind (arith, nat_tests)
@@ -65,6 +65,9 @@ line_call (command.Disclose target source) good = (refl, both_true (is_fd target
 line_call (command.Tag fd attr value) good =
     (refl, both_true (is_fd fd && is_name attr) (is_name value) (both_true (is_fd fd) (is_name attr) (below_64 fd good.0) good.1) good.2)
 line_call (command.Sync fd) good = (refl, below_64 fd good)
+
+plain_at : (lines : List TraceLine) (k : ℕ) (l : TraceLine) → slice_get lines k ≡ Some l → slice_get (plain_trace lines) k ≡ Some (plain_line l)
+plain_at lines k l at = slice_get-map plain_line lines k ∙ ap (λ o. option_map plain_line o) at
 
 -- who is there
 

@@ -1,11 +1,9 @@
 -- How the run of a trace ends. This project's own rule.
-use Rattle.std.specs.Prelude.{ℕ, ◌≡◌, Bool, true, false, not, List, [], Option, find, option_map}
+use Rattle.std.specs.Prelude.{ℕ, ◌≡◌, List, []}
 use Rattle.pass_entry.specs.declared.entry.Entry.{Entry}
 use Rattle.pass_plain.specs.declared.start.Start.{Start}
 use Rattle.pass_plain.specs.Sessions.{Session}
 use Rattle.pass_plain.specs.Traces.{Line}
-use Rattle.pass_trace.specs.declared.trace.Command.{Command}
-use Rattle.pass_trace.specs.declared.trace.Command.TheVariants as command
 use Rattle.pass_trace.specs.declared.trace.TraceLine.{TraceLine}
 use Rattle.pass_trace.specs.Traces.{trace_of, IsTraceText}
 use Rattle.pass_replay.specs.Ends.{NoneOpen, IsStuck}
@@ -21,15 +19,6 @@ pub record IsEmptyStart (start : Start) : Type 0 where
   pub ceiling : start.ceiling ≡ 0
   pub files : start.files.items ≡ []
   pub apps : start.apps.items ≡ []
-
--- the program makes each call but `sync`
-abbrev pub is_built : Command → Bool
-is_built (command.Sync fd) = false
-is_built _ = true
-
--- the number of the first line whose call the program doesn't make
-abbrev pub unbuilt_line : List TraceLine → Option ℕ
-unbuilt_line lines = option_map (λ l. l.number) (find (λ l. not (is_built l.command)) lines)
 
 -- with which status a run of the whole trace ends: done where no process is open, else stuck, and never elsewise
 abbrev pub EndsAs : Session → List Line → List Entry → Status → Type 0

@@ -1,11 +1,9 @@
 pub mod Statuses
 pub mod Stores
 pub mod Ends
-pub mod Making
-pub mod Calling
-pub mod Tables
 pub mod Reading
 pub mod Writing
 pub mod Stored
+pub mod Closing
 pub mod OpenedRuns
 pub mod Successive

@@ -19,7 +19,6 @@ number_of_status status.Stuck = 4
 number_of_status status.BadWords = 2
 number_of_status status.ReadFault = 6
 number_of_status (status.BadTrace line reason) = 3
-number_of_status (status.NotBuilt line) = 12
 number_of_status (status.DiskFault opened now) = 8
 number_of_status (status.BadStore fault) = 5
 number_of_status (status.BadPattern fault) = 17
@@ -64,7 +63,6 @@ abbrev pub status_text : Status → List ℕ
 status_text status.BadWords = codes "fault words" ++ 10 ∷ []
 status_text status.ReadFault = codes "fault read" ++ 10 ∷ []
 status_text (status.BadTrace line reason) = codes "fault trace " ++ decimal line ++ codes " " ++ reason_word reason ++ 10 ∷ []
-status_text (status.NotBuilt line) = codes "fault unbuilt " ++ decimal line ++ 10 ∷ []
 status_text (status.DiskFault opened now) = codes "fault disk" ++ 10 ∷ []
 status_text (status.BadStore fault) = store_text fault
 status_text (status.BadPattern fault) = pattern_text fault

@@ -1,5 +1,5 @@
 -- What the run of a trace over a disk is. This project's own rule.
-use Rattle.std.specs.Prelude.{ℕ, ◌+◌, ◌≡◌, ◌⊎◌, ◌↔◌, ◌<◌, ◌≤◌, true, Contains, IsTrue, List, [], ◌∷◌, ◌++◌, Option, Some, None, Result, Ok, Err, length, slice_get, nat_lt, if◌then◌else◌}
+use Rattle.std.specs.Prelude.{ℕ, ◌+◌, ◌≡◌, ◌⊎◌, ◌↔◌, ◌<◌, ◌≤◌, true, Contains, IsTrue, List, [], ◌∷◌, ◌++◌, Option, Some, None, length, slice_get}
 use Rattle.pass_entry.specs.declared.entry.Entry.{Entry}
 use Rattle.pass_entry.specs.declared.entry.Synced.{Synced}
 use Rattle.pass_entry.specs.declared.objects.Node.{Node}
@@ -9,19 +9,16 @@ use Rattle.pass_graph.specs.Lawful.{IsFaithful}
 use Rattle.pass_graph.specs.Openings.{session_list}
 use Rattle.pass_graph.specs.Places.{node_at, source_at, is_fresh_at, is_freeze_at}
 use Rattle.pass_keep.specs.Kept.{Story, list_to, source_to, HasRecords, AreOlder, IsBegun, AreTimed}
-use Rattle.pass_log.specs.declared.fault.LogFault.{LogFault}
-use Rattle.pass_log.specs.Records.{Held, image_of}
 use Rattle.pass_outside.specs.Areas.{Image}
-use Rattle.pass_outside.specs.Moments.{Moment, Adds}
+use Rattle.pass_outside.specs.Moments.{Moment}
 use Rattle.pass_plain.specs.declared.start.Start.{Start}
-use Rattle.pass_plain.specs.declared.start.StartFile.{StartFile}
 use Rattle.pass_plain.specs.Histories.{made_object}
 use Rattle.pass_plain.specs.Records.{records_of}
 use Rattle.pass_plain.specs.Runs.{IsRun}
 use Rattle.pass_plain.specs.Sessions.{Session}
+use Rattle.pass_plain.specs.Sound.{IsSound}
 use Rattle.pass_range.specs.Rows.{IsUnmatched}
 use Rattle.pass_recover.specs.declared.fault.OpenFault.{OpenFault}
-use Rattle.pass_recover.specs.declared.fault.OpenFault.TheVariants.{BadFrame}
 use Rattle.pass_recover.specs.Faults.{LogHas}
 use Rattle.pass_recover.specs.Starts.{IsStartOf, HasBytes}
 use Rattle.pass_report.specs.Reports.{SameButBytes, report_of}
@@ -30,25 +27,11 @@ use Rattle.pass_trace.specs.declared.trace.TraceLine.{TraceLine}
 use Rattle.pass_run.specs.declared.status.Status.{Status}
 use Rattle.pass_run.specs.declared.status.Status.TheVariants as status
 use Rattle.pass_run.specs.Ends.{EndsAs, IsEmptyStart}
-use Rattle.pass_run.specs.Stores.{store_fault}
+pub use Rattle.pass_session.specs.Judgements.{session_fault}
+pub use Rattle.pass_session.specs.Openings.{IsListOf, IsBare, IsLater, IsLeftAlone, HasBegun}
+pub use Rattle.pass_store.specs.Closings.{IsBackedBy}
 
 -- How the store is judged
-
--- the last end of a log image over which a session begins, 2 ^ 38: what a session adds never makes its log too long to be read
-abbrev pub last_end : ℕ
-last_end = 274877906944
-
-abbrev pub end_fault : Result Held LogFault → Option OpenFault
-end_fault (Ok held) = if nat_lt last_end held.end then Some (BadFrame held.end) else None
-end_fault (Err fault) = None
-
-abbrev pub fault_or : Option OpenFault → Option OpenFault → Option OpenFault
-fault_or (Some fault) next = Some fault
-fault_or None next = next
-
--- the fault for which no session begins over the bytes of a log area: that of the store, else the place of its end
-abbrev pub session_fault : List ℕ → Option OpenFault
-session_fault bytes = fault_or (store_fault bytes) (end_fault (image_of bytes))
 
 -- a store with a fault is refused with it, and any other is run
 abbrev pub IsStoreJudged : Option OpenFault → Status → Type 0
@@ -67,17 +50,6 @@ IsOfDisk _ = ⊥
 
 -- What was opened
 
--- the records are those of a log area's bytes over which a session begins
-pub record IsListOf (list : List Record) (bytes : List ℕ) : Type 0 where
-  pub held : Held
-  pub image : image_of bytes ≡ Ok held
-  pub list_is : held.list ≡ list
-  pub unfaulted : session_fault bytes ≡ None
-
--- the start has no bytes in its files
-abbrev pub IsBare : Start → Type 0
-IsBare start = (i : ℕ) (file : StartFile) → slice_get start.files.items i ≡ Some file → file.bytes.items ≡ []
-
 -- The list is that of the log area as it read at that moment, `opened` the start that it tells, with the bytes that the store
 -- area read then, and `start` is that start without those bytes.
 pub record IsOpening (m : Moment) (list : List Record) (start opened : Start) : Type 0 where
@@ -94,23 +66,19 @@ pub record IsUnopened (list : List Record) (start : Start) (history : List Entry
   pub no_history : history ≡ []
   pub no_syncs : syncs ≡ []
 
--- a later moment of a disk: what it tells stays, and its counts never fall
-pub record IsLater (old new : Moment) : Type 0 where
-  pub tells : new.tells ≡ old.tells
-  pub faults : old.faults ≤ new.faults
-  pub calls : old.calls ≤ new.calls
-
--- nothing was written to a disk: a crash leaves what it might have left before
-pub record IsLeftAlone (old new : Moment) : Type 0 where
-  pub crash : (c : Image) → new.may_leave c → old.may_leave c
-  pub adds : Adds old new old.may_leave
-
 -- The opening was refused: nothing is handed out, and nothing was written. Unless a device call failed the disk reads as before.
 pub record IsRefusedOpening (old new : Moment) (ended : Status) (list : List Record) (start : Start) (history : List Entry) (syncs : List Synced) : Type 0 where
   pub unended : IsEnd ended → ⊥
   pub nothing : IsUnopened list start history syncs
   pub alone : IsLeftAlone old new
   pub reads : (IsOfDisk ended → ⊥) → new.seen ≡ old.seen
+
+-- The session's ceiling was to be raised, and no entry was made: nothing is handed out, and a crash leaves what was there before, or
+-- that and the ceiling.
+pub record IsHeldBack (old new : Moment) (lines : List TraceLine) (ended : Status) (list : List Record) (start : Start) (history : List Entry) (syncs : List Synced) : Type 0 where
+  pub unended : IsEnd ended → ⊥
+  pub nothing : IsUnopened list start history syncs
+  pub begun : HasBegun old new (objects_of lines)
 
 -- What was recorded
 
@@ -121,8 +89,9 @@ pub record AreExact (session : Session) (history : List Entry) : Type 0 where
   pub linked : (target source : Node) → Contains (records_of session history) (log.Input target source)
       ↔ ((place : ℕ) × (is_fresh_at session history place ≡ true) × (node_at session history place ≡ Some target) × (source_at session history place ≡ Some source))
 
--- a run of the trace from that start, whose graph joins what its flows and the records before it join
+-- a run of the trace from that start, over a session that is sound, whose graph joins what its flows and the records before it join
 pub record HasRecorded (list : List Record) (opened : Start) (lines : List TraceLine) (history : List Entry) : Type 0 where
+  pub sound : IsSound (session_of_trace opened lines)
   pub run : IsRun (session_of_trace opened lines) (plain_trace lines) history
   pub graph : IsFaithful (session_list list (session_of_trace opened lines) history) list (session_of_trace opened lines) history
   pub exact : AreExact (session_of_trace opened lines) history
@@ -180,12 +149,14 @@ AreNumbered s = (i n : ℕ) (e : Entry) → slice_get s.history i ≡ Some e →
 
 -- What a run hands out
 
--- An opened store, with the history that was recorded over it, if any, and what of it stands on the disk: `old` is the moment
--- at which the run began, behind so many device calls, and `new` the one at which it ended.
+-- An opened store, with the history that was recorded over it and what of it stands on the disk: `old` is the moment at which the
+-- run began, behind so many device calls, and `new` the one at which it ended. However it ended, the history is a run of the trace
+-- so far: its first entry is there, and each process's calls stand once, in their order.
 pub record IsOverStore (calls : ℕ) (old new : Moment) (lines : List TraceLine) (list : List Record) (start : Start) (history : List Entry) (syncs : List Synced) : Type 0 where
   pub opened : Start
   pub opening : IsOpening old list start opened
-  pub recorded : (history ≡ []) ⊎ HasRecorded list opened lines history
+  pub some : 0 < length history
+  pub recorded : HasRecorded list opened lines history
   pub stored : IsStored (story_of calls old.seen.store list opened lines history) new syncs
 
 -- such a run that came to its end

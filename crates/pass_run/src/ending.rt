@@ -1,13 +1,10 @@
 //! What the run of a trace hands out.
 ghost use Rattle.std.specs.Prelude.{◌≡◌, []};
-ghost use Rattle.pass_run.specs.Ends.{IsEmptyStart, unbuilt_line};
-ghost use Rattle.pass_run.specs.Stored.{IsBare};
-ghost use Rattle.pass_report.specs.Reports.{SameButBytes};
+ghost use Rattle.pass_run.specs.Ends.{IsEmptyStart};
 
 use crate::status::Status;
 use pass_entry::{Entry, Record, Synced};
 use pass_plain::Start;
-use pass_trace::{Command, TraceLine};
 use std::alloc::Global;
 
 /// How the run of a trace ended: the history that it recorded, the syncs of the store, the records and the start that its
@@ -54,26 +51,4 @@ pub fn unopened<D>(alloc: Global, status: Status, disk: D) -> RunEnd<D>
         report: Vec::new(alloc),
         disk,
     }
-}
-
-/// A start without the bytes of its files.
-pub(crate) fn bare(start: Start) -> Start
-    ensures outline { SameButBytes result start }
-    ensures bare { IsBare result }
-{
-    let mut start = start;
-    for file in start.files.iter_mut() {
-        file.bytes.clear();
-    }
-    start
-}
-
-/// The number of the first line whose call the program doesn't make.
-pub(crate) fn first_unbuilt(lines: &[TraceLine]) -> Option<u32>
-    ensures { result ≡ unbuilt_line lines.now }
-{
-    lines
-        .iter()
-        .find(|line| matches!(line.command, Command::Sync { .. }))
-        .map(|line| line.number)
 }

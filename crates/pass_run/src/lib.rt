@@ -1,14 +1,11 @@
-//! Runs a trace over the store of a disk: its processes take their turns, what they did is kept, and the end is told.
+//! Runs a trace over the store of a disk: its processes take their turns on worker threads, what they did is kept, and the end is told.
 #![tactic(auto)]
 
-mod calling;
+mod closing;
 mod ending;
 pub mod laws;
-mod performing;
-mod places;
+mod needs;
 mod reading;
-mod requests;
-mod run;
 mod status;
 mod storing;
 mod writing;

@@ -23,8 +23,6 @@ pub enum Status {
     ReadFault,
     /// The first line of the text that is at fault, counted from 1, and its first reason.
     BadTrace { line: u32, reason: TraceReason },
-    /// The first line of the trace, counted from 1, whose call this program doesn't make.
-    NotBuilt { line: u32 },
     /// A call of the disk failed: its count of faults as the run began, and a later one.
     DiskFault { opened: u64, now: u64 },
     /// The store that the disk has doesn't open: `BadFrame`, `BadRecord` or `Flaw`.
@@ -58,7 +56,6 @@ impl Status {
             Status::BadWords => 2,
             Status::ReadFault => 6,
             Status::BadTrace { .. } => 3,
-            Status::NotBuilt { .. } => 12,
             Status::DiskFault { .. } => 8,
             Status::BadStore(_) => 5,
             Status::BadPattern(_) => 17,
@@ -79,7 +76,6 @@ impl Status {
             Status::BadWords => String::from_str(alloc, "fault words\n"),
             Status::ReadFault => String::from_str(alloc, "fault read\n"),
             Status::BadTrace { line, reason } => trace_text(alloc, *line, *reason),
-            Status::NotBuilt { line } => format!(in alloc; "fault unbuilt {line}\n"),
             Status::DiskFault { .. } => String::from_str(alloc, "fault disk\n"),
             Status::BadStore(fault) => text_of_store(alloc, *fault),
             Status::BadPattern(fault) => text_of_pattern(alloc, *fault),

@@ -5,6 +5,8 @@
 #[cfg(test)]
 mod disk;
 #[cfg(test)]
+mod failing;
+#[cfg(test)]
 mod host;
 #[cfg(test)]
 mod log;
@@ -14,5 +16,9 @@ mod range;
 mod recover;
 #[cfg(test)]
 mod run;
+#[cfg(test)]
+mod running;
+#[cfg(test)]
+mod stopping;
 #[cfg(test)]
 mod vault;

@@ -3,7 +3,7 @@ use Rattle.pass_recipe.specs.declared.entries.Made.{Made}
 use Rattle.pass_recipe.specs.Texts.{recipe_text}
 use Rattle.pass_cli.specs.GraphAnswers.{IsMissing, IsRecipe}
 use Rattle.pass_cli.specs.declared.words.GraphQuestion.TheVariants.{Recipe}
-use Rattle.pass_cli.proofs.Lacking.{lacking_both, lacking_none, starved_lacks, ok_lacks}
+use Rattle.pass_view.proofs.Lacking.{lacking_both, lacking_none, starved_lacks, ok_lacks}
 use Rattle.pass_cli.proofs.graph.recipe_answer.Goals as goal
 
 pub returns-in_err-entries-clause-absent : goal.returns-in_err-entries-clause-absent

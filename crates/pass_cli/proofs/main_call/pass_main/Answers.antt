@@ -53,7 +53,7 @@ returns-in-Err-clause-run g c = λ run known.
     absurd ((refuses (map string_bytes c.args.words.now) c.read_words.result c.read_words.ensures.command c.in-Err.status c.in-Err.is (λ starved. known (c.answered-in-Err.ensures.starved (ap Err starved)))).0 run)
 
 pub returns-in-Err-clause-recorded : goal.returns-in-Err-clause-recorded
-returns-in-Err-clause-recorded g c = λ run. (g.S.Source.left c.args.source.now, λ tells. refl, inl (c.answered-in-Err.ensures.nothing, c.answered-in-Err.ensures.alone))
+returns-in-Err-clause-recorded g c = λ run. (g.S.Source.left c.args.source.now, λ tells. refl, inl (c.answered-in-Err.ensures.nothing, inl c.answered-in-Err.ensures.alone))
 
 pub returns-in-Err-clause-stops : goal.returns-in-Err-clause-stops
 returns-in-Err-clause-stops g c = λ tells run known.

@@ -1,9 +1,10 @@
 use Rattle.std.proofs.Common.{◌≡◌, ◌∙◌, sym, subst, List, inl, inr, ⊎_elim}
+use Rattle.pass_trace.specs.TraceLines.{objects_of}
 use Rattle.pass_trace.specs.declared.trace.TraceLine.{TraceLine}
 use Rattle.pass_run.specs.declared.status.Status.{Status}
 use Rattle.pass_run.specs.declared.status.Status.TheVariants as status
-use Rattle.pass_run.specs.Stored.{IsLeftAlone, IsOverStore}
-use Rattle.pass_run.proofs.Moved.{alone_untouched}
+use Rattle.pass_run.specs.Stored.{HasBegun, IsLeftAlone, IsHeldBack, IsOverStore}
+use Rattle.pass_run.proofs.Moved.{alone_untouched, none_backed}
 use Rattle.pass_cli.specs.Answers.{IsRefusal, IsRefused, HasRun, outcome_of_run}
 use Rattle.pass_cli.proofs.Judging.{ran_run, refusal_run, same_error, no_write}
 use Rattle.pass_cli.proofs.verdict.judge.Goals as goal
@@ -17,11 +18,9 @@ returns-in-Ok-clause-judged g c = λ known.
       told,
       ran_run g.D.Disk.view bytes _ _ c.args.disk r.disk c.in-Ok.trace.lines.items (outcome_of_run r) r.status r.report.items traced same
           (record {
-            not_built = e.not_built known;
             disk_fault = λ opened now is. let (before, after, risen) = e.disk_fault opened now is in record { before = before; after = after; risen = risen };
             no_fault = e.no_fault known;
             by_log = e.judged known;
-            not_begun = e.not_begun;
             bad_store = e.bad_store;
             recorded = e.recorded;
             ended = e.ended;
@@ -36,9 +35,11 @@ returns-in-Ok-clause-recorded g c =
     let new = g.D.Disk.view r.disk in (
       bytes,
       told,
-      ⊎_elim (λ (refused : IsRefused old new r.status (outcome_of_run r)). inl (refused.nothing, refused.alone))
+      ⊎_elim (λ (refused : IsRefused old new r.status (outcome_of_run r)). inl (refused.nothing, inl refused.alone))
+          (⊎_elim (λ (held : IsHeldBack old new c.in-Ok.trace.lines.items r.status r.list.items r.start r.history.items r.syncs.items).
+          inl (held.nothing, inr (subst (λ (ls : List TraceLine). HasBegun old new (objects_of ls)) same held.begun)))
           (λ (over : IsOverStore old.calls old new c.in-Ok.trace.lines.items r.list.items r.start r.history.items r.syncs.items).
-          inr (subst (λ (ls : List TraceLine). IsOverStore old.calls old new ls r.list.items r.start r.history.items r.syncs.items) same over))
+          inr (subst (λ (ls : List TraceLine). IsOverStore old.calls old new ls r.list.items r.start r.history.items r.syncs.items) same over)))
           c.run_trace.ensures.recorded,
     )
 
@@ -70,7 +71,7 @@ returns-in-Err-clause-recorded g c =
       told,
       inl (
         record { no_list = e.list; no_start = e.start; no_history = e.history; no_syncs = e.syncs },
-        subst (λ d. IsLeftAlone (view c.args.disk) (view d)) (sym e.disk) (alone_untouched (view c.args.disk)),
+        inl (subst (λ d. IsLeftAlone (view c.args.disk) (view d)) (sym e.disk) (alone_untouched (view c.args.disk))),
       ),
     )
 
@@ -81,3 +82,6 @@ returns-in-Err-clause-no_write g c = λ is.
 
 pub returns-in-Err-clause-stops : goal.returns-in-Err-clause-stops
 returns-in-Err-clause-stops g c = λ t known. c.in-Err.ensures.stops t (λ is. known (c.unopened.ensures.status ∙ same_error _ _ is))
+
+pub returns-in-Err-clause-backed : goal.returns-in-Err-clause-backed
+returns-in-Err-clause-backed g c = none_backed c.unopened.result.history.items c.unopened.result.syncs.items c.unopened.ensures.history

@@ -1,0 +1,15 @@
+mod Tracing
+mod Acts
+mod Firsts
+mod Calls
+mod Moves
+mod Adding
+mod Counting
+mod Answered
+mod Turns
+mod Created
+mod Opened
+mod Sharing
+mod Seeking
+mod Wrote
+mod Tallying

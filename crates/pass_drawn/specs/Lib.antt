@@ -1,0 +1,4 @@
+pub mod Runs
+pub mod Texts
+pub mod Tallies
+pub mod Lawful

@@ -1,0 +1,43 @@
+-- A process that meets others, one after the other.
+use Rattle.std.proofs.Common.{◌≡◌, ◌<◌, ◌≤◌, ◌+◌, ℕ, List, [], ◌∷◌, ◌++◌, length, refl, ap, sym, ◌∙◌, subst, arith, All, get_or, inl, inr, true, false, length-append}
+use Rattle.std.specs.Prelude.{Some, slice_get, slice_set}
+use Rattle.std.proofs.lemmas.Bool.{cases_lt}
+use Rattle.std.proofs.lemmas.List.Elements.{All-append, All-cons, All-nil, Contains-push}
+use Rattle.std.proofs.lemmas.Option.{slice_get-get_or}
+use Rattle.pass_plain.proofs.Lists.{some_is}
+use Rattle.pass_turns.specs.Meetings.{HasMetAll, IsLater}
+use Rattle.pass_turns.specs.Turners.{TurnerState}
+use Rattle.pass_turns.proofs.Linked.{set_here, set_other}
+
+-- those before a place that have ended have seen no more
+abbrev pub HaveSeenNoMore : List TurnerState → ℕ → TurnerState → Type 0
+HaveSeenNoMore tasks place first = (k : ℕ) (t : TurnerState) → k < place → slice_get tasks k ≡ Some t → t.ended ≡ true → length t.seen ≤ length first.seen
+
+seen_longer : (old new : TurnerState) → IsLater old new → length old.seen ≤ length new.seen
+seen_longer old new is = (let a = ap length is.turned.begins.1 in let b = length-append old.seen is.turned.begins.0 in omega (arith, a, b))
+
+-- it has met one more
+pub one_more_met : (tasks : List TurnerState) (place : ℕ) (other first now : TurnerState) → place < length tasks → IsLater first now → (other.ended ≡ true → length other.seen ≤ length now.seen)
+    → HaveSeenNoMore tasks place first → HaveSeenNoMore (slice_set tasks place other) (place + 1) now
+one_more_met tasks place other first now within later met before k t less at ended = elim (cases_lt k place) [
+  | inl early ↦
+      let a = before k t early (sym (set_other tasks place k other (λ same. omega (arith, early, same))) ∙ at) ended in
+      let b = seen_longer first now later in
+      omega (arith, a, b)
+  | inr le ↦
+      let same : k ≡ place = omega (arith, le, less) in
+      let one : other ≡ t = some_is other t (sym (set_here tasks place other within) ∙ ap (λ k. slice_get (slice_set tasks place other) k) (sym same) ∙ at) in
+      subst (λ (t : TurnerState). length t.seen ≤ length now.seen) one (met (ap (λ (t : TurnerState). t.ended) one ∙ ended))
+]
+
+-- it has met them all
+pub all_met : (others : List TurnerState) (one first : TurnerState) → IsLater one first → one.ended ≡ false → HaveSeenNoMore others (length others) first → HasMetAll one.process (others ++ first ∷ [])
+all_met others one first later lives met =
+    let NoMore : TurnerState → Type 0 = λ t. t.ended ≡ true → length t.seen ≤ length first.seen in
+    record {
+      first = first;
+      among = Contains-push others first;
+      number = later.turned.process;
+      lives = later.ended ∙ lives;
+      all = All-append NoMore others (first ∷ []) (λ k d less. met k (get_or others k d) less (slice_get-get_or others k d less)) (All-cons NoMore first [] (λ ended. omega arith) (All-nil NoMore));
+    }

@@ -1,0 +1,216 @@
+-- Processes that come to one history.
+use Rattle.std.proofs.Common.{◌≡◌, ◌≢◌, ◌<◌, ◌≤◌, ◌+◌, ℕ, zero, suc, List, [], ◌∷◌, ◌++◌, length, take, drop, refl, ap, sym, ◌∙◌, subst, arith, All, true, false, sum_by, inl, inr, Bool, ◌==◌}
+use Rattle.std.specs.Prelude.{Option, Some, None, slice_get, slice_set, Contains, max}
+use Rattle.std.specs.List.{list_any}
+use Rattle.std.proofs.lemmas.Bool.{cases_lt}
+use Rattle.std.proofs.lemmas.List.{append-nil, take-append-le}
+use Rattle.std.proofs.lemmas.List.Elements.{All-nil, All-contains}
+use Rattle.std.proofs.lemmas.List.Sums.{sum_by-append}
+use Rattle.std.proofs.lemmas.Option.{slice_get_within}
+use mathlib.Core.List.{IsPrefix}
+use Rattle.pass_entry.specs.declared.entry.Entry.{Entry}
+use Rattle.pass_plain.specs.declared.request.Request.{Request}
+use Rattle.pass_plain.specs.Lawful.{AgreeBy}
+use Rattle.pass_plain.specs.Legal.{IsLegal, ends_call, is_over}
+use Rattle.pass_plain.specs.Processes.{Process, has_begun}
+use Rattle.pass_plain.specs.Sessions.{Session}
+use Rattle.pass_plain.specs.Traces.{Line, LineCall, calls_of}
+use Rattle.pass_plain.proofs.TwoPrefixes.{SameCaller, caller_agrees, none_later}
+use Rattle.pass_plain.proofs.Lists.{same_itself, slice_get-front, some_is}
+use Rattle.pass_hold.specs.Goings.{Goes, HasNotAnswered, LookLaw, StillLaw, UnansweredLaw}
+use Rattle.pass_proc.specs.Procs.{ProcView}
+use Rattle.pass_progress.specs.Progress.{IsBetween, LookedLaw, MayGoOn, UnderWayLaw}
+use Rattle.pass_replay.specs.Lines.{AreLinesBehind}
+use Rattle.pass_replay.specs.Members.{IsLineStep, MakesSteps}
+use Rattle.pass_replay.proofs.Parts.{own_within}
+use Rattle.pass_sched.proofs.Plays.{sum_of_cons}
+use Rattle.pass_store.specs.Meetings.{HasMet}
+use Rattle.pass_trace.specs.TraceLines.{plain_trace}
+use Rattle.pass_trace.specs.declared.trace.TraceLine.{TraceLine}
+use Rattle.pass_turns.specs.declared.walker.Living.{Living}
+use Rattle.pass_turns.specs.declared.walker.Ended.{Ended as EndedProcess}
+use Rattle.pass_turns.specs.Meetings.{AreLater, HasComeOn, HasSeenMore, IsLater}
+use Rattle.pass_turns.specs.Tasks.{task_room}
+use Rattle.pass_turns.specs.Turners.{AreTasks, HasTask, IsBirthAmong, IsNewTask, Turned, TurnerState}
+use Rattle.pass_turns.specs.Walkers.{IsEndedOf, IsLivingOf, pnode_among}
+use Rattle.pass_turns.proofs.Among.{Among, among, contains, all_of, in_both, in_left, in_right}
+use Rattle.pass_turns.proofs.Placed.{call_at, parts_at}
+use Rattle.pass_turns.proofs.Passing.{turned_not, turned_twice}
+use Rattle.pass_turns.proofs.Walks.{request, stayed}
+
+-- a living process that looks
+pub come_on : {J : Type 0} (session : Session) (trace : List Line) → StillLaw → LookLaw → UnansweredLaw → UnderWayLaw → LookedLaw → AreLinesBehind [] trace → (l : Living J) → IsLivingOf session trace l → IsBetween session l.proc
+    → (p : ProcView) → HasMet session l.proc p → HasComeOn session trace l (record l { proc = p })
+come_on session trace still_law look_law unmade_law under_way_law looked_law behind l is between p met =
+    let next = call_at trace l.process is.done l.line is.line in
+    let r = request session trace behind l is next.0 next.1 in
+    let may = is.goes next.0 next.1 in
+    let who : p.who ≡ l.proc.who = ap (λ (p : ProcView). p.who) met.same in
+    let way : p.way ≡ l.proc.way = ap (λ (p : ProcView). p.way) met.same in
+    let goes : Goes session l.proc.who r l.proc.seen p.seen =
+    look_law session l.proc.who r l.proc.seen l.proc.seen p.seen (still_law session l.proc.who r l.proc.seen is.legal is.local.makes.begun) met.looked in
+    let has : HasNotAnswered l.proc.who r l.proc.seen p.seen =
+    unmade_law session l.proc.who r l.proc.seen p.seen met.looked is.local.makes.begun is.local.living (under_way_law session l.proc r between may) in
+    record {
+      living = stayed session trace behind l is next.0 next.1 p who goes has (looked_law session l.proc p r between met.looked who way may);
+      process = refl;
+      line = refl;
+      who = who;
+      looked = met.looked;
+    }
+
+-- a process that has made no more entries
+module _ (session : Session) (who : ℕ) (old new : List Entry) (legal : IsLegal session new) (begins : IsPrefix old new) (agrees : AgreeBy who old new) where
+  none : list_any (λ (e : Entry). e.who == who) begins.0 ≡ false
+  none = none_later (λ (e : Entry). e.who == who) old begins.0 new begins.1 agrees
+
+  -- each entry by it stands where it had seen it
+  own_early : (n : ℕ) (e : Entry) → slice_get new n ≡ Some e → e.who ≡ who → (n < length old) × (slice_get old n ≡ Some e)
+  own_early n e at by = own_within (λ (e : Entry). e.who == who) old begins.0 new n e begins.1 none at (ap (λ w. w == who) by ∙ same_itself who)
+
+  own_none : (n : ℕ) (e : Entry) → slice_get new n ≡ Some e → length old ≤ n → e.who ≡ who → ⊥
+  own_none n e at later by = let z = (own_early n e at by).0 in omega (arith, z, later)
+
+  same : has_begun old who ≡ true → SameCaller old new who
+  same begun = subst (λ h. SameCaller old h who) begins.1 (caller_agrees session old begins.0 who (subst (λ h. IsLegal session h) (sym begins.1) legal) begun none)
+
+  makes_still : (trace : List Line) (process : ℕ) → MakesSteps trace process who old → MakesSteps trace process who new
+  makes_still trace process makes = record {
+    begun = (same makes.begun).begun;
+    steps = λ n e at by.
+        let (early, there) = own_early n e at by in
+        subst (λ h. IsLineStep trace process who h e) (sym (ap (λ h. take n h) (sym begins.1) ∙ take-append-le n old begins.0 (omega (arith, early)))) (makes.steps n e there by);
+  }
+
+  over_still : has_begun old who ≡ true → (n : ℕ) → is_over new who n ≡ is_over old who n
+  over_still begun n = (λ i. ends_call ((same begun).before n i) ((same begun).calls n i))
+
+-- one that has ended is of the run still
+pub seen_more : {J : Type 0} (session : Session) (trace : List Line) (e f : EndedProcess J) → IsEndedOf trace e → HasSeenMore session e f → IsEndedOf trace f
+seen_more session trace e f is more = record {
+  makes = subst (λ (x : ℕ × ℕ). MakesSteps trace x.0 x.1 f.trail.seen) (λ i. (sym more.process i, sym more.who i))
+      (makes_still session e.trail.who e.trail.seen f.trail.seen more.legal more.begins more.agrees trace e.process is.makes);
+  over = ap (λ w. is_over f.trail.seen w (length (calls_of trace f.process))) more.who ∙ ap (λ p. is_over f.trail.seen e.trail.who (length (calls_of trace p))) more.process
+      ∙ over_still session e.trail.who e.trail.seen f.trail.seen more.legal more.begins more.agrees is.makes.begun (length (calls_of trace e.process)) ∙ is.over;
+  met = λ count h. some_is (length f.trail.seen) count (sym more.met ∙ h);
+}
+
+-- Lists of tasks
+
+pub turned_more : (session : Session) (old new : TurnerState) → new.lines ≡ old.lines → new.process ≡ old.process → new.who ≡ old.who → IsLegal session new.seen → IsPrefix old.seen new.seen → AgreeBy old.who old.seen new.seen → Turned old [] new
+turned_more session old new lines process who legal begins agrees = record {
+  lines = lines;
+  process = process;
+  who = who;
+  begins = begins;
+  new_tasks = All-nil (IsNewTask old.lines);
+  births = λ n e out descriptors at later by born. absurd (own_none session old.who old.seen new.seen legal begins agrees n e at later by);
+}
+
+pub later_same : (t : TurnerState) → IsLater t t
+later_same t = record { turned = turned_not t; ended = refl; left = refl; cause = refl }
+
+pub later_twice : (a b c : TurnerState) → IsLater a b → IsLater b c → IsLater a c
+later_twice a b c f s = record { turned = turned_twice a b c [] [] f.turned s.turned; ended = s.ended ∙ f.ended; left = s.left ∙ f.left; cause = s.cause ∙ f.cause }
+
+pub are_later_same : (ts : List TurnerState) → AreLater ts ts
+are_later_same [] = tt
+are_later_same (t ∷ ts) = (later_same t, are_later_same ts)
+
+-- one more of them is later
+pub are_later_set : (ts us : List TurnerState) (i : ℕ) (v : TurnerState) → AreLater ts us → ((u : TurnerState) → slice_get us i ≡ Some u → IsLater u v) → AreLater ts (slice_set us i v)
+are_later_set [] [] i v are is = tt
+are_later_set [] (u ∷ us) i v are is = absurd are
+are_later_set (t ∷ ts) [] i v are is = absurd are
+are_later_set (t ∷ ts) (u ∷ us) zero v (one, are) is = (later_twice t u v one (is u refl), are)
+are_later_set (t ∷ ts) (u ∷ us) (suc i) v (one, are) is = (one, are_later_set ts us i v are is)
+
+later_of : (ts us : List TurnerState) → AreLater ts us → (t : TurnerState) → Among t ts → (u : TurnerState) × Among u us × IsLater t u
+later_of [] us are t there = absurd there
+later_of (x ∷ ts) [] are t there = absurd are
+later_of (x ∷ ts) (u ∷ us) (one, are) t (inl same) = (u, inl refl, subst (λ x. IsLater x u) same one)
+later_of (x ∷ ts) (u ∷ us) (one, are) t (inr rest) = let (v, there, is) = later_of ts us are t rest in (v, inr there, is)
+
+earlier_of : (ts us : List TurnerState) → AreLater ts us → (u : TurnerState) → Among u us → (t : TurnerState) × Among t ts × IsLater t u
+earlier_of [] [] are u there = absurd there
+earlier_of [] (x ∷ us) are u there = absurd are
+earlier_of (t ∷ ts) [] are u there = absurd there
+earlier_of (t ∷ ts) (x ∷ us) (one, are) u (inl same) = (t, inl refl, subst (λ x. IsLater t x) same one)
+earlier_of (t ∷ ts) (x ∷ us) (one, are) u (inr rest) = let (v, there, is) = earlier_of ts us are u rest in (v, inr there, is)
+
+later_room : (ts us : List TurnerState) → AreLater ts us → sum_by task_room us ≡ sum_by task_room ts
+later_room [] [] are = refl
+later_room [] (u ∷ us) are = absurd are
+later_room (t ∷ ts) [] are = absurd are
+later_room (t ∷ ts) (u ∷ us) (one, are) =
+    (let a = sum_of_cons task_room t ts in let b = sum_of_cons task_room u us in let c = later_room ts us are in let d = ap (λ n. max 1 n) one.left in omega (arith, a, b, c, d))
+
+-- one was taken out and put behind the others, and all are later
+module _ (tasks others : List TurnerState) (place : ℕ) (one first : TurnerState) (at : slice_get tasks place ≡ Some one) (are : AreLater (take place tasks ++ drop (suc place) tasks) others) (is : IsLater one first) where
+  parts : tasks ≡ take place tasks ++ one ∷ drop (suc place) tasks
+  parts = parts_at tasks place one at
+
+  on : (t : TurnerState) → Among t tasks → (u : TurnerState) × Among u (others ++ first ∷ []) × IsLater t u
+  on t there = elim (in_both (take place tasks) (one ∷ drop (suc place) tasks) t (subst (λ xs. Among t xs) parts there)) [
+    | inl l ↦ with_rest t (in_left (take place tasks) (drop (suc place) tasks) t l)
+    | inr r ↦ elim r [
+      | inl same ↦ (first, in_right others (first ∷ []) first (inl refl), subst (λ t. IsLater t first) same is)
+      | inr rest ↦ with_rest t (in_right (take place tasks) (drop (suc place) tasks) t rest)
+    ]
+  ]
+    where
+      with_rest : (t : TurnerState) → Among t (take place tasks ++ drop (suc place) tasks) → (u : TurnerState) × Among u (others ++ first ∷ []) × IsLater t u
+      with_rest t h = let (u, there, later) = later_of (take place tasks ++ drop (suc place) tasks) others are t h in (u, in_left others (first ∷ []) u there, later)
+
+  back : (u : TurnerState) → Among u (others ++ first ∷ []) → (t : TurnerState) × Among t tasks × IsLater t u
+  back u there = elim (in_both others (first ∷ []) u there) [
+    | inl l ↦
+        let (t, h, later) = earlier_of (take place tasks ++ drop (suc place) tasks) others are u l in (
+          t,
+          subst (λ xs. Among t xs) (sym parts) (elim (in_both (take place tasks) (drop (suc place) tasks) t h) [
+            | inl a ↦ in_left (take place tasks) (one ∷ drop (suc place) tasks) t a
+            | inr b ↦ in_right (take place tasks) (one ∷ drop (suc place) tasks) t (inr b)
+          ]),
+          later,
+        )
+    | inr r ↦ elim r [
+      | inl same ↦ (one, subst (λ xs. Among one xs) (sym parts) (in_right (take place tasks) (one ∷ drop (suc place) tasks) one (inl refl)), subst (λ u. IsLater one u) same is)
+      | inr none ↦ absurd none
+    ]
+  ]
+
+  has_on : (q w : ℕ) → HasTask tasks q w → HasTask (others ++ first ∷ []) q w
+  has_on q w has =
+      let (u, there, later) = on has.task (among tasks has.task has.among) in
+      record { task = u; among = contains (others ++ first ∷ []) u there; number = later.turned.process ∙ has.number; is = later.turned.who ∙ has.is }
+
+  pub tasks_met : (lines : List TraceLine) (number : ℕ) → AreTasks lines number tasks → AreTasks lines number (others ++ first ∷ [])
+  tasks_met lines number given = record {
+    first_is = has_on 1 number given.first_is;
+    each = all_of (λ t. t.lines ≡ lines) (others ++ first ∷ []) (λ u h.
+        let (t, there, later) = back u (among (others ++ first ∷ []) u h) in later.turned.lines ∙ All-contains (λ t. t.lines ≡ lines) tasks t given.each (contains tasks t there));
+    bears = λ u h n e out descriptors at_n by born.
+        let (t, there, later) = back u (among (others ++ first ∷ []) u h) in
+        elim (cases_lt n (length t.seen)) [
+          | inl early ↦
+              let b = given.bears t (contains tasks t there) n e out descriptors (slice_get-front t.seen later.turned.begins.0 n e early (ap (λ h. slice_get h n) later.turned.begins.1 ∙ at_n)) (by ∙ later.turned.who) born in
+              subst (λ p. IsBirthAmong (plain_trace lines) (others ++ first ∷ []) p e) (sym later.turned.process)
+              (record { number = b.number; child = b.child; counted = b.counted; forks = b.forks; there = has_on b.child e.what b.there })
+          | inr late ↦ absurd (nobody (plain_trace t.lines) t.process e (later.turned.births n e out descriptors at_n late (by ∙ later.turned.who) born))
+        ];
+  }
+    where
+      nobody : (trace : List Line) (process : ℕ) (e : Entry) → IsBirthAmong trace [] process e → ⊥
+      nobody trace process e b = among [] b.there.task b.there.among
+
+  pub room_met : sum_by task_room (others ++ first ∷ []) ≡ sum_by task_room tasks
+  room_met =
+      let a = sum_by-append task_room others (first ∷ []) in
+      let b = sum_of_cons task_room first [] in
+      let c = later_room (take place tasks ++ drop (suc place) tasks) others are in
+      let d = ap (λ n. max 1 n) is.left in
+      let e = sum_by-append task_room (take place tasks) (drop (suc place) tasks) in
+      let f = ap (λ xs. sum_by task_room xs) parts in
+      let g = sum_by-append task_room (take place tasks) (one ∷ drop (suc place) tasks) in
+      let h = sum_of_cons task_room one (drop (suc place) tasks) in
+      omega (arith, a, b, c, d, e, f, g, h)

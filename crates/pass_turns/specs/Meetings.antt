@@ -1,0 +1,59 @@
+-- Processes that come to one history. This project's own rule.
+use Rattle.std.specs.Prelude.{ℕ, ◌≡◌, ◌≤◌, true, false, List, [], ◌∷◌, All, Contains, None, Some, length, slice_get}
+use mathlib.Core.List.{IsPrefix}
+use Rattle.pass_plain.specs.Lawful.{AgreeBy}
+use Rattle.pass_plain.specs.Sessions.{Session}
+use Rattle.pass_plain.specs.Legal.{IsLegal}
+use Rattle.pass_plain.specs.Traces.{Line}
+use Rattle.pass_proc.specs.Ends.{TrailView}
+use Rattle.pass_turns.specs.declared.walker.Living.{Living}
+use Rattle.pass_turns.specs.declared.walker.Ended.{Ended as EndedProcess}
+use Rattle.pass_turns.specs.declared.walker.Walker.{Walker}
+use Rattle.pass_turns.specs.declared.walker.Walker.TheVariants as walker
+use Rattle.pass_turns.specs.Turners.{Turned, TurnerState}
+use Rattle.pass_turns.specs.Walkers.{IsLivingOf}
+use Rattle.pass_hold.specs.Callings.{HasLooked}
+
+-- a living process has seen more, and may go on as before
+pub record HasComeOn {J : Type 0} (session : Session) (trace : List Line) (old new : Living J) : Type 0 where
+  pub living : IsLivingOf session trace new
+  pub process : new.process ≡ old.process
+  pub line : new.line ≡ old.line
+  pub who : new.proc.who ≡ old.proc.who
+  pub looked : HasLooked session old.proc.who old.proc.seen new.proc.seen
+
+-- one that has ended has seen more, and made no more
+pub record HasSeenMore {J : Type 0} (session : Session) (old new : EndedProcess J) : Type 0 where
+  pub process : new.process ≡ old.process
+  pub who : new.trail.who ≡ old.trail.who
+  pub begins : IsPrefix old.trail.seen new.trail.seen
+  pub agrees : AgreeBy old.trail.who old.trail.seen new.trail.seen
+  pub legal : IsLegal session new.trail.seen
+  pub met : new.met ≡ Some (length new.trail.seen)
+
+-- a living one and one that has ended come to one history; any others stay as they are
+abbrev pub HaveMet : {J : Type 0} → Session → List Line → Walker J → Walker J → Walker J × Walker J → Type 0
+HaveMet session trace (walker.Living l) (walker.Ended e) r =
+    (m : Living _) × (f : EndedProcess _) × (r ≡ (walker.Living m, walker.Ended f)) × HasComeOn session trace l m × HasSeenMore session e f × (f.trail.seen ≡ m.proc.seen)
+HaveMet session trace v w r = r ≡ (v, w)
+
+-- a task whose process has seen more, and made no more
+pub record IsLater (old new : TurnerState) : Type 0 where
+  pub turned : Turned old [] new
+  pub ended : new.ended ≡ old.ended
+  pub left : new.left ≡ old.left
+  pub cause : new.cause ≡ old.cause
+
+-- each task is later than the one at its place
+abbrev pub AreLater : List TurnerState → List TurnerState → Type 0
+AreLater [] [] = Unit {0}
+AreLater (t ∷ ts) (u ∷ us) = IsLater t u × AreLater ts us
+AreLater _ _ = ⊥
+
+-- of the process of this number, which lives, each that has ended has seen no more
+pub record HasMetAll (process : ℕ) (tasks : List TurnerState) : Type 0 where
+  pub first : TurnerState
+  pub among : Contains tasks first
+  pub number : first.process ≡ process
+  pub lives : first.ended ≡ false
+  pub all : All (λ t. t.ended ≡ true → length t.seen ≤ length first.seen) tasks

@@ -1,0 +1,131 @@
+//! The run of a trace over a store.
+ghost use Rattle.std.specs.Prelude.{◌≡◌, ◌≤◌, ◌+◌, [], ◌∷◌, vec_len, vec_capacity, map, All};
+ghost use Rattle.pass_trace.specs.TraceLines.{plain_trace};
+ghost use Rattle.pass_proc.specs.Ends.{trail_of_proc};
+ghost use Rattle.pass_turns.specs.Lefts.{HasRoomFor};
+ghost use Rattle.pass_turns.specs.Performed.{IsPerformed};
+ghost use Rattle.pass_turns.specs.Runs.{IsRanBy};
+ghost use Rattle.pass_turns.specs.Turners.{IsKnown, task_trail};
+
+use crate::children::Children;
+use crate::ends::{Cause, Last};
+use crate::ground::Ground;
+use crate::passes::passes;
+use crate::plan::Plan;
+use crate::task::Turner;
+use crate::walker::Living;
+use pass_outside::{Disk, Gate};
+use pass_proc::{Proc, Trail};
+use pass_progress::between;
+use pass_progress::laws::lives;
+use pass_store::{Opening, Store};
+use std::alloc::Global;
+use std::sync::Wait;
+use std::thread::Threads;
+
+/// The number of the first process in a trace.
+const FIRST: u32 = 1;
+
+/// What each process had seen as the run ended, and how it ended.
+#[derive(Drop)]
+pub struct Ran<J: Opening> {
+    pub trails: Vec<Trail<J>>,
+    pub last: Last,
+}
+
+/// Runs a trace over a store that has just begun, by so many workers, from its first process on. `room` comes of the plan. Where memory or
+/// the disk fails the answer says so, and has the trails all the same.
+pub fn run<'g, R: Threads + Wait + Sync, J: Opening + Send, D: Disk + Send, G: Gate + Sync>(
+    rt: &R,
+    alloc: Global,
+    store: &Store<'g, J, D, G>,
+    first: Proc<J>,
+    plan: &Plan<'_>,
+    room: Vec<Trail<J>>,
+    workers: u32,
+    gate: &G,
+) -> Ran<J>
+    requires workers { (1 ≤ workers) × (workers ≤ 64) }
+    requires first { (first.who ≡ J.book.session.start.ceiling + 1) × (first.number ≡ 0) }
+    requires room { HasRoomFor (plain_trace plan.now) room }
+    ensures { IsRanBy J.book.session J.places (plain_trace plan.now) result.trails.items result.last }
+{
+    let ground = Ground {
+        rt,
+        alloc,
+        store,
+        plan,
+        gate,
+    };
+    let ran = perform(&ground, first, room, workers);
+    let Ground {
+        rt: _,
+        alloc: _,
+        store: _,
+        plan: _,
+        gate: _,
+    } = ground;
+    ran
+}
+
+/// Makes passes, and gives up what all processes had seen.
+fn perform<'a, 'g, R: Threads + Wait + Sync, J: Opening + Send, D: Disk + Send, G: Gate + Sync>(
+    ground: &'a Ground<'a, 'g, R, J, D, G>,
+    first: Proc<J>,
+    room: Vec<Trail<J>>,
+    workers: u32,
+) -> Ran<J>
+    requires workers { (1 ≤ workers) × (workers ≤ 64) }
+    requires first { (first.who ≡ J.book.session.start.ceiling + 1) × (first.number ≡ 0) }
+    requires room { HasRoomFor (plain_trace ground.now.plan.now) room }
+    ensures { IsPerformed J.book.session J.places ground.now.plan.now result.trails.items result.last }
+{
+    lives();
+    ground.plan.ordered();
+    between(&first);
+    let Ok(mut tasks) = Vec::with_capacity(ground.alloc, 1) else {
+        return unmade(first, room);
+    };
+    let living = Living {
+        process: FIRST,
+        line: ground.plan.first(FIRST),
+        children: Children::new(ground.alloc),
+        proc: first,
+    };
+    tasks.push_reserved(Turner::new(ground, living));
+    let (tasks, last) = passes(ground.rt, ground.alloc, tasks, workers);
+    Ran {
+        trails: trails(tasks, room),
+        last,
+    }
+}
+
+/// No pass was made, for want of memory.
+fn unmade<J: Opening>(first: Proc<J>, room: Vec<Trail<J>>) -> Ran<J>
+    requires room { (room.items ≡ []) × (1 ≤ vec_capacity room) }
+    ensures trails { result.trails.items ≡ trail_of_proc first ∷ [] }
+    ensures last { result.last ≡ Last.Failed Cause.NoMemory }
+{
+    let mut trails = room;
+    trails.push_reserved(first.set_aside());
+    Ran {
+        trails,
+        last: Last::Failed(Cause::NoMemory),
+    }
+}
+
+/// What the processes had seen.
+fn trails<'a, 'g, R: Wait, J: Opening, D: Disk, G: Gate>(
+    tasks: Vec<Turner<'a, 'g, R, J, D, G>>,
+    room: Vec<Trail<J>>,
+) -> Vec<Trail<J>>
+    requires room { (room.items ≡ []) × (vec_len tasks ≤ vec_capacity room) }
+    ensures trails { result.items ≡ map task_trail tasks.entry.items }
+    ensures known { All (IsKnown J.book.session J.places) tasks.entry.items }
+{
+    let mut trails = room;
+    for task in tasks {
+        trails.push_reserved(task.into_trail());
+    }
+    trails
+}

@@ -1,0 +1,48 @@
+//! A view as a text.
+ghost use Rattle.std.specs.Prelude.{◌≡◌, ◌↔◌, IfOk, Some, Err};
+ghost use Rattle.pass_entry.specs.declared.objects.Node.{Node};
+ghost use Rattle.pass_graph.specs.ListRanks.{HasNode};
+ghost use Rattle.pass_query.specs.declared.fault.QueryFault.{QueryFault};
+ghost use Rattle.pass_view.specs.Texts.{IsViewText, text_in};
+
+use crate::dots::dot;
+use crate::picture::View;
+use crate::provs::prov;
+use crate::selecting::select;
+use pass_entry::Node;
+use pass_query::QueryFault;
+use pass_waldo::Index;
+use std::alloc::{AllocError, Global};
+
+/// How a view is written.
+#[derive(Clone, Copy, Debug, PartialEq, Eq)]
+pub enum Form {
+    /// In the DOT language of Graphviz.
+    Dot,
+    /// In PROV-JSON, after the W3C.
+    Prov,
+}
+
+/// The text that shows the whole graph, or the part of it that a node came from, with that node.
+pub fn view_text(
+    alloc: Global,
+    index: &Index,
+    node: Option<Node>,
+    form: Form,
+) -> Result<Vec<u8>, QueryFault>
+    ensures text { IfOk result (λ v. IsViewText index.now node form v.items) }
+    ensures absent { (n : Node) → (result ≡ Err (QueryFault.NoObject n)) ↔ ((node ≡ Some n) × ¬ (HasNode index.now n)) }
+{
+    let view = select(alloc, index, node)?;
+    Ok(written(alloc, &view, form)?)
+}
+
+// The view in this form.
+fn written(alloc: Global, view: &View, form: Form) -> Result<Vec<u8>, AllocError>
+    ensures { IfOk result (λ v. v.items ≡ text_in form view.now) }
+{
+    match form {
+        Form::Dot => dot(alloc, view),
+        Form::Prov => prov(alloc, view),
+    }
+}

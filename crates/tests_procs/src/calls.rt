@@ -1,0 +1,374 @@
+//! A store's calls, with letters for names and for bytes.
+ghost use Rattle.std.specs.Prelude.{◌≡◌, ◌≤◌, ◌<◌, false, true, IfOk};
+ghost use Rattle.pass_entry.specs.Texts.{is_name};
+ghost use Rattle.pass_entry.specs.declared.objects.Mode.TheVariants as modes;
+ghost use Rattle.pass_plain.specs.Processes.{same_mode};
+
+use pass_calls::{CallEnd, Moved};
+use pass_entry::{Bytes, CallFault, Mode, Pnode, Text};
+use pass_outside::{Disk, Gate};
+use pass_proc::{Proc, Trail};
+use pass_store::{Opening, Store};
+use std::alloc::Global;
+use std::sync::Wait;
+use std::test::*;
+
+/// A call of a process, or a look at it. A name and an attribute are one letter; what is written is one letter so many times.
+#[derive(Clone, Copy, Debug)]
+pub enum Call {
+    Creat(u8, u8),
+    Open(u8, u8, Mode),
+    Close(u8),
+    Read(u8, u32),
+    Write(u8, u8, usize),
+    Seek(u8, u64),
+    Truncate(u8, u64),
+    Pipe(u8, u8),
+    Fork,
+    Exec(u8),
+    Wait(u64),
+    Exit,
+    Rename(u8, u8),
+    Unlink(u8),
+    MakeObject(u8),
+    Revive(u8, u64),
+    Freeze(u8),
+    Disclose(u8, u8),
+    Tag(u8),
+    Sync(u8),
+    /// Makes all durable that stands.
+    Settle,
+    /// Meets the process at this place.
+    Meet(usize),
+    /// Ends, and the process at this place meets what it had seen.
+    Retire(usize),
+    /// The first letter of what it read last.
+    Last,
+    /// How many calls it has begun.
+    Number,
+    /// How many entries it has seen.
+    Seen,
+}
+
+/// What a call answers, or a look shows. Nodes are a number and a version.
+#[derive(Clone, Copy, Debug, PartialEq, Eq)]
+pub enum Answer {
+    Done,
+    Made(u64),
+    Read(u32, u64, u64),
+    Wrote(u32, u64, u64),
+    Frozen(u64, u64),
+    /// So many calls of the device, and entries.
+    Synced(u64, u64),
+    Refused(CallFault),
+    Again,
+    Full(u32, u32),
+    /// The device's faults as the store was opened, and later.
+    DiskFault(u64, u64),
+    Letter(Option<u8>),
+    Number(u64),
+    NoMemory,
+    /// Nothing that a call answers here.
+    Other,
+}
+
+/// The processes of a session in the order in which they began. Those that have ended are gone.
+pub type Procs<J> = Vec<Option<Proc<J>>>;
+
+fn went(moved: &Moved) -> Answer {
+    match moved {
+        Moved::Done => Answer::Done,
+        Moved::Made(pnode) => Answer::Made(pnode.0),
+        Moved::Read { len, from } => Answer::Read(*len, from.pnode.0, from.version),
+        Moved::Wrote { len, to } => Answer::Wrote(*len, to.pnode.0, to.version),
+        Moved::Frozen(node) => Answer::Frozen(node.pnode.0, node.version),
+        Moved::Synced { calls, entries } => Answer::Synced(*calls, *entries),
+    }
+}
+
+fn ended(end: &CallEnd) -> Answer {
+    match end {
+        CallEnd::Fault(fault) => Answer::Refused(*fault),
+        CallEnd::Again => Answer::Again,
+        CallEnd::Full { left, need } => Answer::Full(*left, *need),
+        CallEnd::DiskFault { opened, now } => Answer::DiskFault(*opened, *now),
+        CallEnd::NoMemory => Answer::NoMemory,
+    }
+}
+
+fn told(answer: Result<Moved, CallEnd>) -> Answer {
+    match answer {
+        Ok(moved) => went(&moved),
+        Err(end) => ended(&end),
+    }
+}
+
+/// A number that a descriptor can have.
+fn low(fd: u8) -> u8
+    ensures { result < 64 }
+{
+    fd % 64
+}
+
+/// How many bytes one call can read.
+fn few(len: u32) -> u32
+    ensures { (1 ≤ result) × (result ≤ 4096) }
+{
+    len.clamp(1, 4_096)
+}
+
+/// A way to open a file.
+fn opening(mode: Mode) -> Mode
+    ensures { same_mode result modes.App ≡ false }
+{
+    match mode {
+        Mode::App => Mode::Both,
+        other => other,
+    }
+}
+
+fn name_of(alloc: Global, letter: u8) -> Result<Text, Fail>
+    ensures { IfOk result (λ name. is_name name ≡ true) }
+{
+    match Text::name(alloc, &[letter]) {
+        Ok(name) => Ok(name),
+        Err(_) => Err(Fail::new("no name")),
+    }
+}
+
+/// A call that looks names up.
+fn on_names<J: Opening, D: Disk, G: Gate, R: Wait>(
+    rt: &R,
+    alloc: Global,
+    store: &Store<'_, J, D, G>,
+    proc: &mut Proc<J>,
+    call: Call,
+) -> Result<Answer, Fail> {
+    let moved = match call {
+        Call::Creat(fd, name) => store.creat(rt, alloc, proc, low(fd), &name_of(alloc, name)?),
+        Call::Open(fd, name, mode) => {
+            let name = name_of(alloc, name)?;
+            store.open_name(rt, alloc, proc, low(fd), &name, opening(mode))
+        }
+        Call::Exec(name) => {
+            let name = name_of(alloc, name)?;
+            store.exec(rt, alloc, proc, &name, &name)
+        }
+        Call::Rename(from, to) => {
+            let from = name_of(alloc, from)?;
+            let to = name_of(alloc, to)?;
+            store.rename(rt, alloc, proc, &from, &to)
+        }
+        Call::Unlink(name) => store.unlink(rt, alloc, proc, &name_of(alloc, name)?),
+        _ => return Ok(Answer::Other),
+    };
+    Ok(told(moved))
+}
+
+fn write<J: Opening, D: Disk, G: Gate, R: Wait>(
+    rt: &R,
+    alloc: Global,
+    store: &Store<'_, J, D, G>,
+    proc: &mut Proc<J>,
+    fd: u8,
+    letter: u8,
+    count: usize,
+) -> Result<Answer, Fail> {
+    let letters = vec![in alloc; letter; count]?;
+    let bytes = Bytes::of(alloc, &letters)?;
+    Ok(told(store.pass_write(rt, alloc, proc, low(fd), &bytes)))
+}
+
+fn tag<J: Opening, D: Disk, G: Gate, R: Wait>(
+    rt: &R,
+    alloc: Global,
+    store: &Store<'_, J, D, G>,
+    proc: &mut Proc<J>,
+    fd: u8,
+) -> Result<Answer, Fail> {
+    let name = name_of(alloc, b'k')?;
+    Ok(told(store.tag(rt, alloc, proc, low(fd), &name, &name)))
+}
+
+/// A call on what the process holds.
+fn on_held<J: Opening, D: Disk, G: Gate, R: Wait>(
+    rt: &R,
+    alloc: Global,
+    store: &Store<'_, J, D, G>,
+    proc: &mut Proc<J>,
+    call: Call,
+) -> Answer {
+    match call {
+        Call::Close(fd) => told(store.close_fd(rt, alloc, proc, low(fd))),
+        Call::Read(fd, len) => told(store.pass_read(rt, alloc, proc, low(fd), few(len))),
+        Call::Seek(fd, at) => told(store.seek(rt, alloc, proc, low(fd), at)),
+        Call::Truncate(fd, size) => told(store.truncate(rt, alloc, proc, low(fd), size)),
+        Call::Sync(fd) => told(store.pass_sync(rt, alloc, proc, low(fd))),
+        Call::Freeze(fd) => told(store.pass_freeze(rt, alloc, proc, low(fd))),
+        Call::Disclose(fd, source) => {
+            told(store.disclose(rt, alloc, proc, low(fd), low(source)))
+        }
+        _ => Answer::Other,
+    }
+}
+
+/// A call by which a process holds a new object or an old one, or waits, or a look at it.
+fn on_objects<J: Opening, D: Disk, G: Gate, R: Wait>(
+    rt: &R,
+    alloc: Global,
+    store: &Store<'_, J, D, G>,
+    proc: &mut Proc<J>,
+    call: Call,
+) -> Answer {
+    match call {
+        Call::Pipe(reader, writer) => told(store.pipe(rt, alloc, proc, low(reader), low(writer))),
+        Call::MakeObject(fd) => told(store.pass_mkobj(rt, alloc, proc, low(fd))),
+        Call::Revive(fd, pnode) => {
+            told(store.pass_reviveobj(rt, alloc, proc, low(fd), Pnode(pnode)))
+        }
+        Call::Wait(child) => told(store.wait_child(rt, alloc, proc, Pnode(child))),
+        Call::Last => Answer::Letter(proc.last().first().copied()),
+        Call::Number => Answer::Number(proc.number()),
+        Call::Seen => Answer::Number(proc.seen()),
+        Call::Settle => match store.settle(rt, alloc) {
+            Ok(receipt) => Answer::Synced(receipt.calls, receipt.entries),
+            Err(end) => ended(&end),
+        },
+        _ => Answer::Other,
+    }
+}
+
+/// What a call of a process answers.
+fn on_process<J: Opening, D: Disk, G: Gate, R: Wait>(
+    rt: &R,
+    alloc: Global,
+    store: &Store<'_, J, D, G>,
+    proc: &mut Proc<J>,
+    call: Call,
+) -> Result<Answer, Fail> {
+    match call {
+        Call::Creat(..) | Call::Open(..) | Call::Exec(_) | Call::Rename(..) | Call::Unlink(_) => {
+            on_names(rt, alloc, store, proc, call)
+        }
+        Call::Write(fd, letter, count) => write(rt, alloc, store, proc, fd, letter, count),
+        Call::Tag(fd) => tag(rt, alloc, store, proc, fd),
+        Call::Close(_)
+        | Call::Read(..)
+        | Call::Seek(..)
+        | Call::Truncate(..)
+        | Call::Freeze(_)
+        | Call::Sync(_)
+        | Call::Disclose(..) => Ok(on_held(rt, alloc, store, proc, call)),
+        _ => Ok(on_objects(rt, alloc, store, proc, call)),
+    }
+}
+
+/// A fork, whose child is then the last of the processes.
+fn fork<J: Opening, D: Disk, G: Gate, R: Wait>(
+    rt: &R,
+    alloc: Global,
+    store: &Store<'_, J, D, G>,
+    procs: &mut Procs<J>,
+    who: usize,
+) -> Result<Answer, Fail> {
+    let Some(Some(parent)) = procs.get_mut(who) else {
+        return Ok(Answer::Other);
+    };
+    match store.fork(rt, alloc, parent) {
+        Ok(child) => {
+            let made = Answer::Made(child.pnode().0);
+            procs.push(Some(child))?;
+            Ok(made)
+        }
+        Err(end) => Ok(ended(&end)),
+    }
+}
+
+/// Another process meets the one at this place. The answer is how many entries that one has seen then.
+fn met<J: Opening, D: Disk, G: Gate, R: Wait>(
+    rt: &R,
+    store: &Store<'_, J, D, G>,
+    procs: &mut Procs<J>,
+    who: usize,
+    other: &mut Proc<J>,
+) -> Answer {
+    let Some(Some(proc)) = procs.get_mut(who) else {
+        return Answer::Other;
+    };
+    store.meet(rt, other, proc);
+    Answer::Number(proc.seen())
+}
+
+/// The process at this place meets what an ended one had seen. The answer is how many entries it has seen then.
+fn met_ended<J: Opening, D: Disk, G: Gate, R: Wait>(
+    rt: &R,
+    store: &Store<'_, J, D, G>,
+    procs: &mut Procs<J>,
+    who: usize,
+    trail: &mut Trail<J>,
+) -> Answer {
+    let Some(Some(proc)) = procs.get_mut(who) else {
+        return Answer::Other;
+    };
+    store.meet_ended(rt, proc, trail);
+    Answer::Number(proc.seen())
+}
+
+/// A process that lives makes a call, and lives on.
+fn lives<J: Opening, D: Disk, G: Gate, R: Wait>(
+    rt: &R,
+    alloc: Global,
+    store: &Store<'_, J, D, G>,
+    procs: &mut Procs<J>,
+    proc: &mut Proc<J>,
+    call: Call,
+) -> Result<Answer, Fail> {
+    match call {
+        Call::Meet(other) => Ok(met(rt, store, procs, other, proc)),
+        _ => on_process(rt, alloc, store, proc, call),
+    }
+}
+
+/// Takes out the process at this place.
+fn taken<J: Opening>(procs: &mut Procs<J>, who: usize) -> Option<Proc<J>> {
+    procs.get_mut(who)?.take()
+}
+
+/// Lays a process back at its place.
+fn lay<J: Opening>(procs: &mut Procs<J>, who: usize, proc: Proc<J>) {
+    if let Some(slot) = procs.get_mut(who) {
+        *slot = Some(proc);
+    }
+}
+
+/// What a call answers of the process at this place.
+pub fn called<J: Opening, D: Disk, G: Gate, R: Wait>(
+    rt: &R,
+    alloc: Global,
+    store: &Store<'_, J, D, G>,
+    procs: &mut Procs<J>,
+    who: usize,
+    call: Call,
+) -> Result<Answer, Fail> {
+    if let Call::Fork = call {
+        return fork(rt, alloc, store, procs, who);
+    }
+    let Some(mut proc) = taken(procs, who) else {
+        return Ok(Answer::Other);
+    };
+    match call {
+        Call::Exit => {
+            store.exit(rt, alloc, proc);
+            Ok(Answer::Done)
+        }
+        Call::Retire(other) => {
+            let mut trail = store.retire(rt, alloc, proc);
+            Ok(met_ended(rt, store, procs, other, &mut trail))
+        }
+        _ => {
+            let answer = lives(rt, alloc, store, procs, &mut proc, call)?;
+            lay(procs, who, proc);
+            Ok(answer)
+        }
+    }
+}

@@ -4,6 +4,7 @@ pub mod Moments
 pub mod Runs
 pub mod NoDisk
 pub mod Scripts
+pub mod Pieces
 pub mod Blocks
 pub mod Codes
 pub mod History

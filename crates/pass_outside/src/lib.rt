@@ -16,6 +16,7 @@ mod no_disk;
 mod plan;
 mod sink;
 mod source;
+mod step;
 mod stream;
 mod synced;
 mod watch;

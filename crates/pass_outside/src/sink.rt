@@ -1,8 +1,11 @@
 //! A sink in memory.
-ghost use Rattle.std.specs.Prelude.{◌≡◌, ◌+◌, ◌≤◌, None};
+ghost use Rattle.std.specs.Prelude.{◌≡◌, ◌+◌, ◌≤◌, Some, None};
+ghost use Rattle.std.specs.Option.{ForSome};
 ghost use Rattle.pass_outside.specs.Scripts.{due_among};
+ghost use Rattle.pass_outside.specs.Pieces.{in_step};
 
 use crate::due::is_to_fail;
+use crate::step::of_step;
 use crate::{Failed, Sink};
 use std::alloc::Global;
 
@@ -10,25 +13,47 @@ use std::alloc::Global;
 #[derive(Debug, Drop)]
 pub struct MemSink {
     taken: Vec<u8>,
+    step: Option<u32>,
     fail: Vec<u64>,
     calls: u64,
     faults: u64,
     starved: u64,
     ghost counted: { faults ≡ due_among fail.items None calls + starved },
+    ghost moves: { ForSome step (λ n. 1 ≤ n) },
 }
 
 impl MemSink {
     ghost use Rattle.std.specs.Prelude.{[]};
     ghost use Rattle.pass_outside.specs.Scripts.{IsCounted};
-    ghost use Rattle.pass_outside.specs.Streams.{bytes_taken, sink_script};
+    ghost use Rattle.pass_outside.specs.Streams.{bytes_taken, sink_script, sink_step};
 
-    /// An empty sink, which fails at the listed calls. Its bytes will lie in memory of that allocator.
+    /// An empty sink, which fails at the listed calls. A call takes its piece whole. Its bytes will lie in memory of that allocator.
     pub fn new(alloc: Global, fail: Vec<u64>) -> MemSink
         ensures taken { bytes_taken result ≡ [] }
         ensures script { sink_script result ≡ record { fail = fail.items; stop = None; calls = 0; faults = 0; starved = 0 } }
+        ensures step { sink_step result ≡ None }
     {
         MemSink {
             taken: Vec::new(alloc),
+            step: None,
+            fail,
+            calls: 0,
+            faults: 0,
+            starved: 0,
+        }
+    }
+
+    /// An empty sink, which fails at the listed calls. A call takes no more bytes than the step. They will lie in memory of that
+    /// allocator.
+    pub fn in_steps(alloc: Global, step: u32, fail: Vec<u64>) -> MemSink
+        requires { 1 ≤ step }
+        ensures taken { bytes_taken result ≡ [] }
+        ensures script { sink_script result ≡ record { fail = fail.items; stop = None; calls = 0; faults = 0; starved = 0 } }
+        ensures step { sink_step result ≡ Some step }
+    {
+        MemSink {
+            taken: Vec::new(alloc),
+            step: Some(step),
             fail,
             calls: 0,
             faults: 0,
@@ -57,7 +82,7 @@ impl Sink for MemSink {
     ghost use Rattle.std.specs.Prelude.{true, ◌<◌, ◌++◌, IfOk, OnErr, length, take};
     ghost use Rattle.pass_outside.specs.Faults.{FailsByCount, count_end};
     ghost use Rattle.pass_outside.specs.Scripts.{IsOver, GoesOn};
-    ghost use Rattle.pass_outside.specs.Streams.{bytes_taken, sink_script};
+    ghost use Rattle.pass_outside.specs.Streams.{bytes_taken, sink_script, sink_step};
 
     ghost tells = { true };
 
@@ -66,8 +91,8 @@ impl Sink for MemSink {
     ghost fault_count = { λ s. s.faults };
 
     fn write(&mut self, bytes: &[u8]) -> Result<usize, Failed>
-        // It takes each piece whole.
-        ensures whole { IfOk result (λ n. n ≡ length bytes.now) }
+        // It takes each piece whole, but where it goes in steps.
+        ensures whole { IfOk result (λ n. sink_step self.old ≡ None → n ≡ length bytes.now) }
         ensures within { IfOk result (λ n. n ≤ length bytes.now) }
         ensures some { IfOk result (λ n. 0 < length bytes.now → 0 < n) }
         ensures taken { IfOk result (λ n. bytes_taken self.new ≡ bytes_taken self.old ++ take n bytes.now) }
@@ -76,6 +101,9 @@ impl Sink for MemSink {
         ensures stands { (sink_script self.old).faults ≡ count_end → self.new ≡ self.old }
         // Besides the end of a count, it fails exactly where it is listed or finds no memory.
         ensures script { (IsOver (sink_script self.old) → ⊥) → GoesOn (sink_script self.old) (sink_script self.new) result }
+        // It takes a piece up to its step, which stays.
+        ensures count { IfOk result (λ n. n ≡ in_step (sink_step self.old) (length bytes.now)) }
+        ensures step { sink_step self.new ≡ sink_step self.old }
     {
         if self.faults == u64::MAX {
             return Err(Failed);
@@ -88,8 +116,9 @@ impl Sink for MemSink {
                 return Err(Failed);
             }
         }
-        match self.taken.extend_from_slice(bytes) {
-            Ok(()) => Ok(bytes.len()),
+        let count = of_step(self.step, bytes.len());
+        match self.taken.extend_from_slice(&bytes[..count]) {
+            Ok(()) => Ok(count),
             Err(_) => {
                 self.starved += 1;
                 self.faults += 1;

@@ -14,8 +14,6 @@ mod parts;
 mod rule;
 mod sight;
 mod steps;
-#[cfg(test)]
-mod tests;
 mod tokens;
 mod vault;
 mod vault_steps;

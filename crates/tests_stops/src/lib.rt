@@ -1,17 +1,11 @@
-//! Tests of stops, faults and images of disks: log, ranges, recovery, keeper, vault and the run over a disk, each through public
-//! calls.
+//! Tests of stops and faults: the adapters over a real folder, an opening, and runs over disks and streams in memory of which each call
+//! fails in turn.
 #![tactic(auto)]
 
-#[cfg(test)]
-mod disk;
 #[cfg(test)]
 mod failing;
 #[cfg(test)]
 mod host;
-#[cfg(test)]
-mod log;
-#[cfg(test)]
-mod range;
 #[cfg(test)]
 mod recover;
 #[cfg(test)]
@@ -20,5 +14,3 @@ mod run;
 mod running;
 #[cfg(test)]
 mod stopping;
-#[cfg(test)]
-mod vault;

@@ -1,4 +1,4 @@
-//! Tests of a store's calls by one thread, which answers each by a table, and of how many files its registry makes.
+//! Tests of a store's calls by one thread, which answers each by a table.
 #![tactic(auto)]
 
 #[cfg(test)]
@@ -6,18 +6,10 @@ mod answers;
 #[cfg(test)]
 mod calls;
 #[cfg(test)]
-mod descriptors;
-#[cfg(test)]
-mod limits;
-#[cfg(test)]
-mod names;
-#[cfg(test)]
 mod pipes;
 #[cfg(test)]
 mod places;
 #[cfg(test)]
 mod processes;
-#[cfg(test)]
-mod refusals;
 #[cfg(test)]
 mod syncs;

@@ -1,69 +1,7 @@
-//! Processes that run programs, end, and wait for one another.
+//! Processes that share a file, and that meet.
 use crate::answers::{Row, check, edges_of};
 use crate::calls::{Answer, Call};
-use pass_entry::{CallFault, Mode};
 use std::test::*;
-
-const CHILDLESS: Answer = Answer::Refused(CallFault::NoChild);
-
-/// A process waits for a child that lives and then has ended, and for none that is not its own: a child's child, itself, its parent, a
-/// file, and one that it has waited for.
-fn waits() -> [Row; 20] {
-    [
-        (0, Call::Creat(3, b'a'), Answer::Made(2)),
-        (0, Call::Fork, Answer::Made(3)),
-        (1, Call::Fork, Answer::Made(4)),
-        (0, Call::Wait(3), Answer::Again),
-        (0, Call::Wait(4), CHILDLESS),
-        (0, Call::Wait(1), CHILDLESS),
-        (0, Call::Wait(2), CHILDLESS),
-        (0, Call::Wait(9), CHILDLESS),
-        (1, Call::Wait(1), CHILDLESS),
-        (2, Call::Wait(3), CHILDLESS),
-        (0, Call::Number, Answer::Number(6)),
-        (2, Call::Exit, Answer::Done),
-        (0, Call::Wait(4), CHILDLESS),
-        (0, Call::Wait(3), Answer::Again),
-        (1, Call::Exit, Answer::Done),
-        (0, Call::Number, Answer::Number(7)),
-        (0, Call::Wait(3), Answer::Done),
-        (0, Call::Number, Answer::Number(8)),
-        (0, Call::Wait(3), CHILDLESS),
-        (0, Call::Wait(4), CHILDLESS),
-    ]
-}
-
-#[test]
-fn a_process_waits_for_its_own_children(rt: HostRuntime) -> Result<(), Fail> {
-    let alloc = rt.alloc();
-    check(&rt, alloc, 8, 1_000, &waits())?;
-    Ok(())
-}
-
-/// A program that begins has nothing read, and holds what its process held.
-fn runs() -> [Row; 12] {
-    [
-        (0, Call::Creat(3, b'a'), Answer::Made(2)),
-        (0, Call::Write(3, b'x', 1), Answer::Wrote(1, 2, 1)),
-        (0, Call::Write(3, b'y', 1), Answer::Wrote(1, 2, 1)),
-        (0, Call::Seek(3, 0), Answer::Done),
-        (0, Call::Read(3, 1), Answer::Read(1, 2, 1)),
-        (0, Call::Last, Answer::Letter(Some(b'x'))),
-        (0, Call::Exec(b'b'), Answer::Refused(CallFault::NoEntry)),
-        (0, Call::Last, Answer::Letter(Some(b'x'))),
-        (0, Call::Exec(b'a'), Answer::Done),
-        (0, Call::Last, Answer::Letter(None)),
-        (0, Call::Read(3, 1), Answer::Read(1, 2, 1)),
-        (0, Call::Last, Answer::Letter(Some(b'y'))),
-    ]
-}
-
-#[test]
-fn a_program_begins_with_nothing_read(rt: HostRuntime) -> Result<(), Fail> {
-    let alloc = rt.alloc();
-    check(&rt, alloc, 8, 1_000, &runs())?;
-    Ok(())
-}
 
 /// A process that writes what its child has read in between: the link stands already, so nothing is frozen.
 fn shares() -> [Row; 6] {

@@ -1,13 +1,9 @@
-//! A file that is made durable: the calls that the device has then, and what a stop and a crash leave of it.
+//! A file that is made durable, and the calls that the device has then.
 use crate::answers::{Row, compare, new_disk, told_of};
 use crate::calls::{Answer, Call};
 use pass_entry::Synced;
-use pass_outside::{Disk, Keep};
-use pass_recover::recover;
+use pass_outside::Disk;
 use pass_vault::Receipt;
-use std::alloc::Global;
-use std::process::Abort;
-use std::sync::Wait;
 use std::test::*;
 
 /// Makes a file, writes to it and syncs it.
@@ -59,58 +55,5 @@ fn a_needless_sync_has_no_device_call(rt: HostRuntime) -> Result<(), Fail> {
     let told = told_of(&rt, alloc, new_disk(alloc, None)?, 2, 1_000, &again())?;
     compare(&rt, &told.answers, &again());
     assert_eq!(rt; told.finished.closed.disk.calls(), 15);
-    Ok(())
-}
-
-/// How many syncs a session hands out whose device stops after so many calls, and how many records and unmatched ranges a crash leaves.
-fn left<R: Wait + Abort>(
-    rt: &R,
-    alloc: Global,
-    stop: u64,
-    keep: Keep,
-    answer: Answer,
-) -> Result<(usize, usize, usize), Fail> {
-    let rows = saves(answer);
-    let told = told_of(rt, alloc, new_disk(alloc, Some(stop))?, 2, 1_000, &rows)?;
-    compare(rt, &told.answers, &rows);
-    let closed = told.finished.closed;
-    let mut disk = closed.disk.after_crash(keep)?;
-    let Ok(opening) = recover(alloc, &mut disk) else {
-        return Err(Fail::new("it is not read again"));
-    };
-    Ok((
-        closed.syncs.len(),
-        opening.image.list.len(),
-        opening.unmatched.len(),
-    ))
-}
-
-const STOPPED: Answer = Answer::DiskFault(0, 1);
-
-/// After how many device calls it stops, what a crash leaves of what was not synced then, what the sync answers, and what is left.
-fn stops() -> [(u64, Keep, Answer, (usize, usize, usize)); 9] {
-    [
-        (9, Keep::New, STOPPED, (0, 1, 0)),
-        (11, Keep::New, STOPPED, (0, 1, 0)),
-        (12, Keep::Old, STOPPED, (0, 1, 0)),
-        (12, Keep::New, STOPPED, (0, 7, 1)),
-        (12, Keep::Fill(7), STOPPED, (0, 1, 0)),
-        (12, Keep::Fill(1), STOPPED, (0, 7, 1)),
-        (13, Keep::Old, STOPPED, (1, 7, 1)),
-        (14, Keep::New, STOPPED, (1, 7, 0)),
-        (15, Keep::Old, Answer::Synced(15, 6), (3, 7, 0)),
-    ]
-}
-
-#[test]
-fn a_device_stops_within_a_sync(rt: HostRuntime) -> Result<(), Fail> {
-    let alloc = rt.alloc();
-    for (stop, keep, answer, wanted) in stops() {
-        assert_eq!(rt;
-            left(&rt, alloc, stop, keep, answer)?,
-            wanted,
-            "{stop} {keep:?}"
-        );
-    }
     Ok(())
 }

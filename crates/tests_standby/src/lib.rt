@@ -1,7 +1,5 @@
-//! Tests of a standby: what is left on its disk after each stop and each fault, and what a log sends it.
+//! Tests of a standby: what is left on its disk after each stop and each fault.
 #![tactic(auto)]
 
-#[cfg(test)]
-mod sends;
 #[cfg(test)]
 mod stops;

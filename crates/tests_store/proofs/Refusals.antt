@@ -14,8 +14,8 @@ use Rattle.pass_plain.specs.Calls.{call_steps, steps_of}
 use Rattle.pass_plain.specs.Legal.{ObjectAllows, CallerAllows}
 use Rattle.pass_plain.specs.Places.{keeps}
 use Rattle.pass_plain.proofs.Replays.{own_step-fault}
-use Rattle.pass_hold.specs.Callings.{IsEntered, IsGoing, HasGone, HasLooked}
-use Rattle.pass_hold.proofs.Callings.{begins_call, allows, keeps_going, goes, idle_again, idle_looked}
+use Rattle.pass_hold.specs.Callings.{IsEntered, IsGoing, HasGone}
+use Rattle.pass_hold.proofs.Callings.{begins_call, allows, keeps_going, goes, idle_again}
 use Rattle.tests_store.specs.Families.{IsFree, refused_entry}
 
 module _ (session : Session) (seen : List Entry) (who number : ℕ) (is : IsFree session seen who number) where
@@ -53,6 +53,3 @@ module _ (session : Session) (seen : List Entry) (who number : ℕ) (is : IsFree
       gone = subst (λ q. HasGone session seen after who (number + 1) (requests.CloseFd 3) p ((length entered.past, refused_entry who (number + 1)) ∷ []) q)
           (own_step-fault (λ past p e. process_act past p e.act) who entered.past p (refused_entry who (number + 1)) refl)
           (goes session seen seen who (number + 1) (requests.CloseFd 3) p [] p who (act.Deny (ask.Held 3)) (answer.Fault fault.BadFd) next desk after first.is entered)
-
-pub looked_free : (session : Session) (seen after : List Entry) (who number : ℕ) → IsFree session seen who number → HasLooked session who seen after → length after ≤ 2 ^ 32 → IsFree session after who number
-looked_free session seen after who number is l few = record { state = is.state; idle = idle_looked session seen after who number is.state is.idle l; free = is.free; few = few }

@@ -3,7 +3,7 @@ ghost use Rattle.std.specs.Prelude.{◌≡◌, ◌+◌, ◌-◌, ◌<◌, ◌≤
 ghost use Rattle.pass_plain.specs.Places.{call_places, exit_places, left_for};
 ghost use Rattle.tests_store.specs.Families.{IsFree, refused_entry};
 
-use pass_book::{Book, Claim, Desk, Full, Line, Slip};
+use pass_book::{Book, Claim, Desk, Line, Slip};
 use pass_entry::{Act, Ask, CallFault, CallName, Entry, Pnode, Reply};
 use pass_hold::{Caller, Shelf, Whose};
 use std::alloc::Global;
@@ -104,38 +104,5 @@ impl<J: Whose> Hand<J> {
             who,
             number,
         })
-    }
-
-    /// Whether there are places for a call.
-    pub fn full(self, shelf: &mut Shelf<J>, need: u32) -> (Hand<J>, Option<Full>) {
-        let Hand {
-            mut caller,
-            mut desk,
-            who,
-            number,
-        } = self;
-        match caller.room(shelf, need) {
-            Ok(()) => (
-                Hand {
-                    caller,
-                    desk,
-                    who,
-                    number,
-                },
-                None,
-            ),
-            Err(full) => {
-                shelf.show(&mut desk);
-                (
-                    Hand {
-                        caller,
-                        desk,
-                        who,
-                        number,
-                    },
-                    Some(full),
-                )
-            }
-        }
     }
 }

@@ -1,11 +1,9 @@
-//! Tests of processes at work on one book under its lock.
+//! Two processes at work on one book under its lock, at once.
 #![tactic(auto)]
 
 #[cfg(test)]
 mod begun;
 #[cfg(test)]
 mod hand;
-#[cfg(test)]
-mod places;
 #[cfg(test)]
 mod two_threads;

@@ -1,6 +1,4 @@
 //! The plain history: two processes that cross, and a version that is frozen while it is read.
-ghost use Rattle.std.specs.Prelude.{ℕ, ◌≤◌, ◌<◌};
-ghost use Rattle.pass_entry.specs.Limits.{number_limit};
 ghost use Rattle.pass_plain.specs.Legal.{session_of};
 ghost use Rattle.pass_plain.specs.Sound.{IsSound};
 
@@ -11,20 +9,41 @@ use pass_entry::{
 use pass_graph::check;
 use pass_plain::{Plain, Start};
 use std::alloc::{AllocError, Global};
-use std::process::Abort;
 use std::test::Fail;
-
-/// The registry, and the outside.
-const OUTSIDE: Pnode = Pnode(0);
-
-const FIRST: Pnode = Pnode(1);
 
 /// The greatest number of objects of each session.
 const OBJECTS: u32 = 5;
 
+/// An act, with a letter for a name. What is written is the letter x.
+#[derive(Clone, Copy)]
+enum Step {
+    Mint,
+    Bind(u8),
+    Attach(u8, u64),
+    Spawn(u64),
+    /// The place of the parent's step, and whether the child holds a second file.
+    Born(u64, bool),
+    Give,
+    Gain(u64, u8),
+    Show(u8),
+    Put(u64),
+    Freeze,
+}
+
+/// The reply to a step. Of bytes it is the letter x or none.
+#[derive(Clone, Copy)]
+enum Want {
+    Done,
+    Made(u64),
+    Took(bool),
+}
+
+/// Who makes a step, the number of the call and its name, the object, the step, and the reply to it.
+type Row = (u64, u64, CallName, u64, Step, Want);
+
 /// A store that was never opened before.
 fn nothing(alloc: Global) -> Start
-    ensures { (objects : ℕ) → 1 ≤ objects → objects < number_limit → IsSound (session_of result objects) }
+    ensures { IsSound (session_of result 5) }
 {
     Start {
         ceiling: 0,
@@ -33,92 +52,104 @@ fn nothing(alloc: Global) -> Start
     }
 }
 
-/// An entry, to which the history gives its reply.
-fn entry(who: Pnode, number: u64, call: CallName, what: Pnode, act: Act) -> Entry {
-    Entry {
-        who,
-        number,
-        call,
-        what,
-        act,
-        reply: Reply::Done,
-    }
-}
-
-fn letter(alloc: Global, letter: u8) -> Result<Text, Fail> {
-    Ok(Text::name(alloc, &[letter])?)
-}
-
-/// The history takes the entry and gives it this reply.
-fn accept(rt: &impl Abort, plain: &mut Plain, entry: Entry, want: Reply) -> Result<(), AllocError> {
-    let got = plain.step(&entry)?;
-    let same = got == Some(want);
-    assert!(rt; same, "place {}", plain.entries().len());
-    Ok(())
-}
-
-fn start(rt: &impl Abort, plain: &mut Plain) -> Result<(), AllocError> {
-    let kind = Kind::Process;
-    let mint = Act::Mint { kind };
-    let entry = entry(OUTSIDE, 0, CallName::Start, OUTSIDE, mint);
-    accept(rt, plain, entry, Reply::Made(FIRST))
-}
-
-fn file(pnode: Pnode) -> Descriptor {
+fn file(pnode: u64) -> Descriptor {
     Descriptor {
-        pnode,
+        pnode: Pnode(pnode),
         kind: Kind::File,
         mode: Mode::Both,
         offset: 0,
     }
 }
 
-/// The first process creates a file at a descriptor, by its call of this number.
-fn creat(
-    rt: &impl Abort,
-    alloc: Global,
-    plain: &mut Plain,
-    number: u64,
-    name: u8,
-    fd: u8,
-    made: Pnode,
-) -> Result<(), Fail> {
-    let name = letter(alloc, name)?;
-    let bind = entry(FIRST, number, CallName::Creat, OUTSIDE, Act::Bind { name });
-    accept(rt, plain, bind, Reply::Made(made))?;
-    let descriptor = file(made);
-    let attach = Act::Attach { fd, descriptor };
-    let attach = entry(FIRST, number, CallName::Creat, FIRST, attach);
-    accept(rt, plain, attach, Reply::Done)?;
-    Ok(())
+/// What a child holds.
+fn held(has_second: bool) -> Descriptors {
+    let mut held = Descriptors::new();
+    held.put(3, file(2));
+    if has_second {
+        held.put(4, file(3));
+    }
+    held
 }
 
-/// The first process makes a child with these descriptors.
-fn fork(
-    rt: &impl Abort,
-    plain: &mut Plain,
-    number: u64,
-    child: Pnode,
-    descriptors: Descriptors,
-) -> Result<(), AllocError> {
-    let kind = Kind::Process;
-    let call = CallName::Fork;
-    let mint = entry(FIRST, number, call, OUTSIDE, Act::Mint { kind });
-    accept(rt, plain, mint, Reply::Made(child))?;
-    let out = plain.entries().len() as u64;
-    let spawn = entry(FIRST, number, call, FIRST, Act::Spawn { child });
-    accept(rt, plain, spawn, Reply::Done)?;
-    let born = Act::Born { out, descriptors };
-    accept(
-        rt,
-        plain,
-        entry(FIRST, number, call, child, born),
-        Reply::Done,
-    )
+fn act_of(alloc: Global, step: Step) -> Result<Act, Fail> {
+    Ok(match step {
+        Step::Bind(letter) => Act::Bind {
+            name: Text::name(alloc, &[letter])?,
+        },
+        Step::Put(out) => Act::Put {
+            out,
+            at: 0,
+            bytes: Bytes::of(alloc, b"x")?,
+        },
+        other => plain_act(other),
+    })
+}
+
+fn plain_act(step: Step) -> Act {
+    match step {
+        Step::Mint => Act::Mint {
+            kind: Kind::Process,
+        },
+        Step::Attach(fd, pnode) => Act::Attach {
+            fd,
+            descriptor: file(pnode),
+        },
+        Step::Spawn(child) => Act::Spawn {
+            child: Pnode(child),
+        },
+        Step::Born(out, has_second) => Act::Born {
+            out,
+            descriptors: held(has_second),
+        },
+        Step::Give => Act::Give { at: 0, len: 1 },
+        Step::Gain(out, fd) => Act::Gain { out, fd },
+        Step::Show(fd) => Act::Show { fd, len: 1 },
+        _ => Act::Freeze,
+    }
+}
+
+fn is_wanted(reply: &Option<Reply>, want: Want) -> bool {
+    match (reply, want) {
+        (Some(Reply::Done), Want::Done) => true,
+        (Some(Reply::Made(pnode)), Want::Made(made)) => pnode.0 == made,
+        (Some(Reply::Took(bytes)), Want::Took(is_letter)) => {
+            bytes.as_bytes() == (if is_letter { "x" } else { "" }).as_bytes()
+        }
+        _ => false,
+    }
+}
+
+/// The history takes the entry of a row and gives it its reply.
+fn take(alloc: Global, plain: &mut Plain<'_>, row: Row) -> Result<(), Fail> {
+    let (who, number, call, what, step, want) = row;
+    let entry = Entry {
+        who: Pnode(who),
+        number,
+        call,
+        what: Pnode(what),
+        act: act_of(alloc, step)?,
+        reply: Reply::Done,
+    };
+    if is_wanted(&plain.step(&entry)?, want) {
+        Ok(())
+    } else {
+        Err(Fail::new("another reply"))
+    }
+}
+
+/// A history with these entries.
+fn begun<'a>(alloc: Global, start: &'a Start, rows: &[Row]) -> Result<Plain<'a>, Fail>
+    requires { IsSound (session_of start.now 5) }
+{
+    let mut plain = Plain::new(alloc, start, OBJECTS)?;
+    for row in rows {
+        take(alloc, &mut plain, *row)?;
+    }
+    Ok(plain)
 }
 
 /// The records behind a ceiling pass the check of a list.
-fn passes(alloc: Global, plain: &Plain, ceiling: u64) -> Result<bool, AllocError> {
+fn passes(alloc: Global, plain: &Plain<'_>, ceiling: u64) -> Result<bool, AllocError> {
     let pnode = Pnode(ceiling);
     let mut list = Vec::new(alloc);
     list.push(Record::Ceiling { pnode })?;
@@ -127,112 +158,91 @@ fn passes(alloc: Global, plain: &Plain, ceiling: u64) -> Result<bool, AllocError
     Ok(check(alloc, list.as_slice()).is_ok())
 }
 
-/// One of two processes that cross: it reads a byte of the file that the other writes, then writes one to the file that the other
-/// reads. `out` is the place of its entry before.
+/// A process makes two files and a child.
+fn pair() -> [Row; 8] {
+    [
+        (0, 0, CallName::Start, 0, Step::Mint, Want::Made(1)),
+        (1, 1, CallName::Creat, 0, Step::Bind(b'A'), Want::Made(2)),
+        (1, 1, CallName::Creat, 1, Step::Attach(3, 2), Want::Done),
+        (1, 2, CallName::Creat, 0, Step::Bind(b'B'), Want::Made(3)),
+        (1, 2, CallName::Creat, 1, Step::Attach(4, 3), Want::Done),
+        (1, 3, CallName::Fork, 0, Step::Mint, Want::Made(4)),
+        (1, 3, CallName::Fork, 1, Step::Spawn(4), Want::Done),
+        (1, 3, CallName::Fork, 4, Step::Born(6, true), Want::Done),
+    ]
+}
+
+/// How many of its four entries a process has made, and the place of the last one.
 #[derive(Clone, Copy)]
 struct Side {
-    who: Pnode,
-    number: u64,
-    source: Pnode,
-    reader: u8,
-    target: Pnode,
-    writer: u8,
     steps: u8,
-    out: u64,
+    last: u64,
 }
 
-fn read_step(side: &Side) -> Entry {
-    let call = CallName::Read;
-    if side.steps == 0 {
-        let give = Act::Give { at: 0, len: 1 };
-        entry(side.who, side.number, call, side.source, give)
-    } else {
-        let fd = side.reader;
-        let out = side.out;
-        entry(side.who, side.number, call, side.who, Act::Gain { out, fd })
+/// The next entry of the process, which reads the second file and then writes the first one.
+fn parents(side: Side, is_written: bool) -> Row {
+    match side.steps {
+        0 => (1, 4, CallName::Read, 3, Step::Give, Want::Took(is_written)),
+        1 => (
+            1,
+            4,
+            CallName::Read,
+            1,
+            Step::Gain(side.last, 4),
+            Want::Done,
+        ),
+        2 => (1, 5, CallName::Write, 1, Step::Show(3), Want::Done),
+        _ => (1, 5, CallName::Write, 2, Step::Put(side.last), Want::Done),
     }
 }
 
-fn write_step(alloc: Global, side: &Side) -> Result<Entry, Fail> {
-    let call = CallName::Write;
-    let number = side.number.saturating_add(1);
-    if side.steps == 2 {
-        let fd = side.writer;
-        let show = Act::Show { fd, len: 1 };
-        return Ok(entry(side.who, number, call, side.who, show));
+/// The next entry of its child, which reads the first file and then writes the second one.
+fn childs(side: Side, is_written: bool) -> Row {
+    match side.steps {
+        0 => (4, 1, CallName::Read, 2, Step::Give, Want::Took(is_written)),
+        1 => (
+            4,
+            1,
+            CallName::Read,
+            4,
+            Step::Gain(side.last, 3),
+            Want::Done,
+        ),
+        2 => (4, 2, CallName::Write, 4, Step::Show(4), Want::Done),
+        _ => (4, 2, CallName::Write, 3, Step::Put(side.last), Want::Done),
     }
-    let bytes = Bytes::of(alloc, b"x")?;
-    let out = side.out;
-    let put = Act::Put { out, at: 0, bytes };
-    Ok(entry(side.who, number, call, side.target, put))
 }
 
-/// The side's next entry. What it reads is there where the other side has written.
-fn turn(
-    rt: &impl Abort,
-    alloc: Global,
-    plain: &mut Plain,
-    side: &mut Side,
-    is_written: bool,
-) -> Result<(), Fail> {
-    let place = plain.entries().len() as u64;
-    let next = if side.steps < 2 {
-        read_step(side)
-    } else {
-        write_step(alloc, side)?
-    };
-    let want = if side.steps == 0 {
-        let got = if is_written { "x" } else { "" };
-        Reply::Took(Bytes::of(alloc, got.as_bytes())?)
-    } else {
-        Reply::Done
-    };
-    accept(rt, plain, next, want)?;
-    side.steps = side.steps.saturating_add(1);
-    side.out = place;
-    Ok(())
+/// A process makes its next entry.
+fn turn(alloc: Global, plain: &mut Plain<'_>, side: Side, row: Row) -> Result<Side, Fail> {
+    let last = plain.entries().len() as u64;
+    take(alloc, plain, row)?;
+    Ok(Side {
+        steps: side.steps.saturating_add(1),
+        last,
+    })
 }
 
-/// One order of the two processes' entries, which the bits tell.
-fn cross(rt: &impl Abort, alloc: Global, bits: u32) -> Result<(), Fail> {
-    let opened = nothing(alloc);
-    let mut plain = Plain::new(alloc, &opened, OBJECTS)?;
-    let (a, b, other) = (Pnode(2), Pnode(3), Pnode(4));
-    let mut held = Descriptors::new();
-    held.put(3, file(a));
-    held.put(4, file(b));
-    start(rt, &mut plain)?;
-    creat(rt, alloc, &mut plain, 1, b'A', 3, a)?;
-    creat(rt, alloc, &mut plain, 2, b'B', 4, b)?;
-    fork(rt, &mut plain, 3, other, held)?;
-    let mut first = Side {
-        who: FIRST,
-        number: 4,
-        source: b,
-        reader: 4,
-        target: a,
-        writer: 3,
-        steps: 0,
-        out: 0,
-    };
-    let mut second = Side {
-        who: other,
-        number: 1,
-        source: a,
-        reader: 3,
-        target: b,
-        writer: 4,
-        ..first
-    };
+/// Both make their entries, in the order that the bits tell.
+fn turns(alloc: Global, plain: &mut Plain<'_>, bits: u32) -> Result<(), Fail> {
+    let mut parent = Side { steps: 0, last: 0 };
+    let mut child = parent;
     for k in 0..8u32 {
         if bits >> k & 1 == 1 {
-            turn(rt, alloc, &mut plain, &mut first, second.steps == 4)?;
+            parent = turn(alloc, plain, parent, parents(parent, child.steps == 4))?;
         } else {
-            turn(rt, alloc, &mut plain, &mut second, first.steps == 4)?;
+            child = turn(alloc, plain, child, childs(child, parent.steps == 4))?;
         }
     }
-    assert!(rt; passes(alloc, &plain, 4)?, "order {bits}");
     Ok(())
+}
+
+/// Whether the records of that order pass the check.
+fn cross(alloc: Global, bits: u32) -> Result<bool, Fail> {
+    let start = nothing(alloc);
+    let mut plain = begun(alloc, &start, &pair())?;
+    turns(alloc, &mut plain, bits)?;
+    Ok(passes(alloc, &plain, 4)?)
 }
 
 /// The four entries of each of two processes that cross, in all their orders.
@@ -241,12 +251,28 @@ fn two_processes_that_cross(rt: HostRuntime) -> Result<(), Fail> {
     let mut orders = 0u32;
     for bits in 0..256u32 {
         if bits.count_ones() == 4 {
-            cross(&rt, rt.alloc(), bits)?;
+            let is_sound = cross(rt.alloc(), bits)?;
+            assert!(rt; is_sound, "order {bits}");
             orders = orders.saturating_add(1);
         }
     }
-    assert_eq!(rt; orders, 70);
+    assert!(rt; orders == 70);
     Ok(())
+}
+
+/// A process freezes a file that its child has taken from, before the child gains the bytes.
+fn frozen() -> [Row; 9] {
+    [
+        (0, 0, CallName::Start, 0, Step::Mint, Want::Made(1)),
+        (1, 1, CallName::Creat, 0, Step::Bind(b'a'), Want::Made(2)),
+        (1, 1, CallName::Creat, 1, Step::Attach(3, 2), Want::Done),
+        (1, 2, CallName::Fork, 0, Step::Mint, Want::Made(3)),
+        (1, 2, CallName::Fork, 1, Step::Spawn(3), Want::Done),
+        (1, 2, CallName::Fork, 3, Step::Born(4, false), Want::Done),
+        (3, 1, CallName::Read, 2, Step::Give, Want::Took(false)),
+        (1, 3, CallName::FreezeObj, 2, Step::Freeze, Want::Done),
+        (3, 1, CallName::Read, 3, Step::Gain(6, 3), Want::Done),
+    ]
 }
 
 fn node(pnode: u64, version: u64) -> Node {
@@ -254,36 +280,26 @@ fn node(pnode: u64, version: u64) -> Node {
     Node { pnode, version }
 }
 
-/// The version that a reader took from is frozen before the reader gains its bytes.
-#[test]
-fn frozen_between_out_and_in(rt: HostRuntime) -> Result<(), Fail> {
-    let alloc = rt.alloc();
-    let opened = nothing(alloc);
-    let mut plain = Plain::new(alloc, &opened, OBJECTS)?;
-    let (a, reader) = (Pnode(2), Pnode(3));
-    let mut held = Descriptors::new();
-    held.put(3, file(a));
-    start(&rt, &mut plain)?;
-    creat(&rt, alloc, &mut plain, 1, b'a', 3, a)?;
-    fork(&rt, &mut plain, 2, reader, held)?;
-    let give = Act::Give { at: 0, len: 1 };
-    let none = Reply::Took(Bytes::of(alloc, b"")?);
-    let give = entry(reader, 1, CallName::Read, a, give);
-    accept(&rt, &mut plain, give, none)?;
-    let freeze = entry(FIRST, 3, CallName::FreezeObj, a, Act::Freeze);
-    accept(&rt, &mut plain, freeze, Reply::Done)?;
-    let gain = Act::Gain { out: 6, fd: 3 };
-    let gain = entry(reader, 1, CallName::Read, reader, gain);
-    accept(&rt, &mut plain, gain, Reply::Done)?;
-    let records = plain.records()?;
-    assert_eq!(rt; records.len(), 7);
+/// Whether the last two of seven records are the new version, and what the reader has from the one before.
+fn are_wanted(records: &[Record]) -> bool {
     let version = Record::Version { node: node(2, 2) };
-    assert!(rt; records.get(5) == Some(&version));
     let input = Record::Input {
         target: node(3, 1),
         source: node(2, 1),
     };
-    assert!(rt; records.get(6) == Some(&input));
-    assert!(rt; passes(alloc, &plain, 3)?);
+    records.len() == 7 && records[5] == version && records[6] == input
+}
+
+fn freezes(alloc: Global) -> Result<bool, Fail> {
+    let start = nothing(alloc);
+    let plain = begun(alloc, &start, &frozen())?;
+    let records = plain.records()?;
+    Ok(are_wanted(&records) && passes(alloc, &plain, 3)?)
+}
+
+#[test]
+fn frozen_between_out_and_in(rt: HostRuntime) -> Result<(), Fail> {
+    let is_so = freezes(rt.alloc())?;
+    assert!(rt; is_so);
     Ok(())
 }

@@ -1,6 +1,7 @@
 //! The adapters over a real folder, and over readers and writers that fail.
 use pass_host::{HostDisk, HostFault, HostSink, HostSource};
 use pass_outside::{Area, Disk, Failed, Sink, Source};
+use std::alloc::Global;
 use std::io::{ErrorKind, Read, Write};
 use std::path::PathBuf;
 use std::test::Fail;
@@ -27,34 +28,37 @@ fn write_in(rt: &HostRuntime, folder: &str) -> Result<bool, Fail> {
     Ok(alone == Some(HostFault::Failed) && beside == Some(HostFault::Failed))
 }
 
+// Whether what was written is there when the folder is opened again, by two who read.
+fn is_read(rt: &HostRuntime, folder: &str) -> Result<bool, Fail> {
+    let mut disk = HostDisk::open_to_read(rt, rt.alloc(), folder)?;
+    let _other = HostDisk::open_to_read(rt, rt.alloc(), folder)?;
+    let alone = HostDisk::open(rt, rt.alloc(), folder).err();
+    let mut bytes = [7; 8];
+    let count = disk.read(Area::Log, 0, &mut bytes)?;
+    let len = disk.len(Area::Store)?;
+    Ok(alone == Some(HostFault::Failed) && (count, len) == (6, 4) && bytes == *b"abc\0\0f\x07\x07")
+}
+
+// Whether a file is cut, and no file has so high a place.
+fn is_cut(rt: &HostRuntime, folder: &str) -> Result<bool, Fail> {
+    let mut disk = HostDisk::open(rt, rt.alloc(), folder)?;
+    disk.cut(Area::Log, 9)?;
+    disk.cut(Area::Log, 2)?;
+    disk.write_at(Area::Log, 4, b"")?;
+    let len = disk.len(Area::Log)?;
+    let is_high = disk.write_at(Area::Log, 1 << 63, b"a").is_err();
+    Ok(is_high && (len, disk.calls(), disk.faults()) == (4, 5, 1))
+}
+
 #[test]
 fn a_disk_in_a_folder(rt: HostRuntime) -> Result<(), Fail> {
     let path = new_folder(&rt, "disk")?;
     let folder = path.as_str();
-    assert!(rt; write_in(&rt, folder)?);
-    // What was written is there when the folder is opened again, by two who read.
-    let mut disk = HostDisk::open_to_read(&rt, rt.alloc(), folder)?;
-    let _other = HostDisk::open_to_read(&rt, rt.alloc(), folder)?;
-    assert_eq!(rt;
-        HostDisk::open(&rt, rt.alloc(), folder).err(),
-        Some(HostFault::Failed)
-    );
-    let mut bytes = [7; 8];
-    assert_eq!(rt; disk.read(Area::Log, 0, &mut bytes)?, 6);
-    assert_eq!(rt; bytes, *b"abc\0\0f\x07\x07");
-    assert_eq!(rt; disk.len(Area::Store)?, 4);
-    disk.cut(Area::Log, 9)?;
-    disk.cut(Area::Log, 2)?;
-    disk.write_at(Area::Log, 4, b"")?;
-    assert_eq!(rt; disk.len(Area::Log)?, 4);
-    // No file has so high a place.
-    assert_eq!(rt; disk.write_at(Area::Log, 1 << 63, b"a"), Err(Failed));
-    assert_eq!(rt; (disk.calls(), disk.faults()), (7, 1));
+    let is_so = write_in(&rt, folder)? && is_read(&rt, folder)? && is_cut(&rt, folder)?;
+    assert!(rt; is_so);
     fs::remove_dir_all(&rt, path.as_path())?;
-    assert_eq!(rt;
-        HostDisk::open(&rt, rt.alloc(), folder).err(),
-        Some(HostFault::Failed)
-    );
+    let is_gone = HostDisk::open(&rt, rt.alloc(), folder).is_err();
+    assert!(rt; is_gone);
     Ok(())
 }
 
@@ -82,17 +86,25 @@ impl Write for Full {
     }
 }
 
-#[test]
-fn readers_and_writers(rt: HostRuntime) -> Result<(), Fail> {
+fn is_read_from() -> Result<bool, Failed> {
     let mut source = HostSource::new(b"abc".as_slice());
     let mut bytes = [0; 2];
-    assert_eq!(rt; source.read(&mut bytes)?, 2);
-    assert_eq!(rt; bytes, *b"ab");
-    assert_eq!(rt; HostSource::new(Broken).read(&mut bytes), Err(Failed));
-    let mut sink = HostSink::new(Vec::new(rt.alloc()));
-    assert_eq!(rt; sink.write(b"abc")?, 3);
+    let count = source.read(&mut bytes)?;
+    let is_broken = HostSource::new(Broken).read(&mut bytes).is_err();
+    Ok(is_broken && count == 2 && bytes == *b"ab")
+}
+
+fn is_written_to(alloc: Global) -> Result<bool, Failed> {
+    let mut sink = HostSink::new(Vec::new(alloc));
+    let count = sink.write(b"abc")?;
     let mut full = HostSink::new(Full);
-    assert_eq!(rt; full.write(b"")?, 0);
-    assert_eq!(rt; full.write(b"abc"), Err(Failed));
+    let none = full.write(b"")?;
+    Ok((count, none) == (3, 0) && full.write(b"abc").is_err())
+}
+
+#[test]
+fn readers_and_writers(rt: HostRuntime) -> Result<(), Fail> {
+    let is_so = is_read_from()? && is_written_to(rt.alloc())?;
+    assert!(rt; is_so);
     Ok(())
 }

@@ -1,10 +1,8 @@
-//! Tests of the parts: numbers, records, the text of a trace, the plain history and the book, each through public calls.
+//! Tests of the parts: records, the text of a trace, the plain history and the book, each through public calls.
 #![tactic(auto)]
 
 #[cfg(test)]
 mod book;
-#[cfg(test)]
-mod num;
 #[cfg(test)]
 mod plain;
 #[cfg(test)]

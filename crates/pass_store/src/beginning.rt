@@ -17,6 +17,7 @@ use pass_flow::{AppDesk, Versioned};
 use pass_hold::Whose;
 use pass_outside::{Disk, Gate};
 use pass_proc::{Living, Proc};
+use pass_safe::Safe;
 use pass_session::{Blank, Held, Opened};
 use std::alloc::{AllocError, Global};
 use std::collections::HashMap;
@@ -30,11 +31,19 @@ struct Layout<J: Whose> {
 }
 
 impl<J: Whose> Layout<J> {
+    /// Lays an object of the opening into a lock.
+    fn lay(&mut self, what: Pnode, object: Slot<J>) -> Result<(), AllocError> {
+        let place = self.slots.len();
+        self.slots.push(Mutex::new(object))?;
+        self.opened.insert(what, place)?;
+        Ok(())
+    }
+
     /// Lays the files of the opening into locks.
     fn files(&mut self, files: Vec<FileDesk<J>>) -> Result<(), AllocError> {
         for file in files {
-            self.opened.insert(file.what(), self.slots.len())?;
-            self.slots.push(Mutex::new(Slot::File(file)))?;
+            let what = file.what();
+            self.lay(what, Slot::File(file))?;
         }
         Ok(())
     }
@@ -42,8 +51,8 @@ impl<J: Whose> Layout<J> {
     /// Lays its app objects into locks.
     fn apps(&mut self, apps: Vec<AppDesk<J>>) -> Result<(), AllocError> {
         for app in apps {
-            self.opened.insert(app.what(), self.slots.len())?;
-            self.slots.push(Mutex::new(Slot::App(app)))?;
+            let what = app.what();
+            self.lay(what, Slot::App(app))?;
         }
         Ok(())
     }
@@ -74,6 +83,15 @@ fn laid<J: Whose>(
     layout.apps(apps)?;
     layout.others(first, blanks)?;
     Ok(layout)
+}
+
+/// The disk of a vault that is used no more.
+fn given_back<J: Whose, D: Disk>(safe: Safe<J, D>) -> D
+    ensures { result ≡ safe.vault.disk }
+{
+    let (disk, syncs) = safe.into_vault().into_disk();
+    drop(syncs);
+    disk
 }
 
 impl<'g, J: Opening, D: Disk, G: Gate> Store<'g, J, D, G> {
@@ -113,7 +131,12 @@ impl<'g, J: Opening, D: Disk, G: Gate> Store<'g, J, D, G> {
             Err(disk) => return Err(disk),
         };
         let Ok(layout) = laid(alloc, files, apps, living, blanks) else {
-            return Err(safe.into_vault().into_disk().0);
+            drop(shelf);
+            drop(registry);
+            drop(first);
+            drop(list);
+            drop(start);
+            return Err(given_back(safe));
         };
         let Layout {
             slots,

@@ -12,6 +12,7 @@ ghost use Rattle.pass_store.specs.Closings.{IsClosed, IsSettled, IsTold, IsUnset
 ghost use Rattle.pass_store.specs.Grounds.{HasGoneOn, ground_of};
 
 use crate::ground::Opening;
+use crate::locks::Locks;
 use crate::settling::{Rest, settle_all, unsettled};
 use crate::store::Store;
 use pass_calls::CallEnd;
@@ -84,6 +85,7 @@ fn tell<J: Whose>(shelf: &mut Shelf<J>, trail: Trail<J>)
 {
     let mut trail = trail;
     trail.look(shelf);
+    drop(trail);
 }
 
 /// Each trail sees the whole history.
@@ -124,8 +126,17 @@ impl<'g, J: Opening, D: Disk, G: Gate> Store<'g, J, D, G> {
             vault,
             ..
         } = self;
-        let registry = locks.registry.into_inner();
-        let shelf = locks.book.into_inner();
+        let Locks {
+            slots,
+            opened: places,
+            registry,
+            book,
+            ..
+        } = locks;
+        drop(slots);
+        drop(places);
+        let registry = registry.into_inner();
+        let shelf = book.into_inner();
         let safe = vault.into_inner().into_safe();
         let (history, vault) = unsettled(registry, shelf, safe);
         close::<J, D>(history, vault, list, start)
@@ -154,15 +165,23 @@ impl<'g, J: Opening, D: Disk, G: Gate> Store<'g, J, D, G> {
             vault,
             ..
         } = self;
-        let mut shelf = locks.book.into_inner();
+        let Locks {
+            slots,
+            opened: places,
+            registry,
+            book,
+            ..
+        } = locks;
+        drop(places);
+        let mut shelf = book.into_inner();
         tell_all(&mut shelf, trails);
-        let registry = locks.registry.into_inner();
+        let registry = registry.into_inner();
         let safe = vault.into_inner().into_safe();
         let Rest {
             settled,
             history,
             vault,
-        } = settle_all(alloc, locks.slots, registry, shelf, safe);
+        } = settle_all(alloc, slots, registry, shelf, safe);
         Finished {
             settled: answered(settled),
             closed: close::<J, D>(history, vault, list, start),

@@ -50,7 +50,7 @@ fn end_in<J: Whose>(
     match mem::replace(slot, Slot::Empty) {
         Slot::Living(living) => {
             let (place, ended, trail) = end_exit(alloc, shelf, exiting, living);
-            *slot = Slot::Ended(ended);
+            slot.lay(Slot::Ended(ended));
             (place, trail)
         }
         _ => unreachable!(),
@@ -102,7 +102,9 @@ impl<'g, J: Opening, D: Disk, G: Gate> Store<'g, J, D, G> {
     pub fn exit<R: Wait>(&self, rt: &R, alloc: Global, proc: Proc<J>) -> u64
         ensures { (seen : List AnyEntry) × HasExited J.book.session proc seen result }
     {
-        self.end_process(rt, alloc, proc).0
+        let (place, trail) = self.end_process(rt, alloc, proc);
+        drop(trail);
+        place
     }
 
     /// Ends a process as `exit` does, and answers what it had seen then.

@@ -11,6 +11,7 @@ use crate::ground::Opening;
 use crate::slot::Slot;
 use crate::store::Store;
 use pass_calls::CallEnd;
+use pass_file::FileDesk;
 use pass_hold::Shelf;
 use pass_outside::{Disk, Gate};
 use pass_safe::{Copied, SafeFault};
@@ -18,6 +19,20 @@ use pass_vault::Receipt;
 use std::alloc::{AllocError, Global};
 use std::mem;
 use std::sync::{Mutex, MutexGuard, Wait};
+
+/// Writes the changed blocks of a file, under the vault's lock.
+fn settle_held<R: Wait, J: Opening, D: Disk>(
+    rt: &R,
+    alloc: Global,
+    file: FileDesk<J>,
+    vault: &Mutex<Cellar<J, D>>,
+    book: &Mutex<Shelf<J>>,
+) -> (FileDesk<J>, Result<Option<Receipt>, SafeFault>)
+    ensures { IfErr result.1 (IsFaultSince D.view J.ground.opened) }
+{
+    let mut vault = vault.lock(rt);
+    vault.settle_file(rt, alloc, book, file)
+}
 
 /// Writes the changed blocks of the file that lies in a slot.
 fn settle_in<R: Wait, J: Opening, D: Disk>(
@@ -31,15 +46,12 @@ fn settle_in<R: Wait, J: Opening, D: Disk>(
 {
     match mem::replace(slot, Slot::Empty) {
         Slot::File(file) => {
-            let (file, settled) = {
-                let mut vault = vault.lock(rt);
-                vault.settle_file(rt, alloc, book, file)
-            };
-            *slot = Slot::File(file);
+            let (file, settled) = settle_held(rt, alloc, file, vault, book);
+            slot.lay(Slot::File(file));
             settled
         }
         other => {
-            *slot = other;
+            slot.lay(other);
             Ok(None)
         }
     }

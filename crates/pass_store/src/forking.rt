@@ -67,7 +67,7 @@ fn bear_in<J: Whose>(
         Slot::Blank(blank) => {
             let desk = blank.into_desk();
             let (born, living) = end_fork(alloc, shelf, caller, process, number, forking, desk);
-            *slot = Slot::Living(living);
+            slot.lay(Slot::Living(living));
             born
         }
         _ => unreachable!(),

@@ -65,6 +65,23 @@ fn made_app<J: Whose>(alloc: Global, blank: Blank<J>) -> Slot<J> {
     Slot::App(AppDesk::new(alloc, pnode, 1, false, blank.into_desk()))
 }
 
+/// Lays a pipe that was just made into its slot, with its room for bytes.
+fn laid_pipe<J: Whose>(alloc: Global, slot: &mut Slot<J>, state: PipeState)
+    requires { state ≡ new_pipe }
+{
+    let held = match mem::replace(slot, Slot::Empty) {
+        Slot::Blank(blank) => {
+            let pnode = blank.pnode();
+            Slot::Pipe(PipeDesk::new(alloc, pnode, state, blank.into_desk()))
+        }
+        other => {
+            drop(state);
+            other
+        }
+    };
+    slot.lay(held);
+}
+
 impl<J: Whose> Locks<J> {
     /// Where an object lies among the slots.
     fn index(&self, object: Pnode) -> Option<usize> {
@@ -80,20 +97,29 @@ impl<J: Whose> Locks<J> {
         self.slots.get(self.index(object)?)
     }
 
-    /// What is used for the first time becomes an object of its kind; a pipe has become one as it was made. It takes no memory.
-    fn fill<R: Wait>(&self, rt: &R, alloc: Global, slot: &mut Slot<J>, kind: Kind) {
-        if !matches!(slot, Slot::Blank(_)) {
-            return;
-        }
-        *slot = match mem::replace(slot, Slot::Empty) {
-            Slot::Blank(blank) if matches!(kind, Kind::File) => {
+    /// A desk that nobody has used, as an object of such a kind; a pipe has become one as it was made. It takes no memory.
+    fn used<R: Wait>(&self, rt: &R, alloc: Global, blank: Blank<J>, kind: Kind) -> Slot<J> {
+        match kind {
+            Kind::File => {
                 let mut registry = self.registry.lock(rt);
                 let mut shelf = self.book.lock(rt);
                 made_file(alloc, &mut registry, &mut shelf, blank)
             }
-            Slot::Blank(blank) if matches!(kind, Kind::App) => made_app(alloc, blank),
+            Kind::App => made_app(alloc, blank),
+            Kind::Pipe | Kind::Process => Slot::Blank(blank),
+        }
+    }
+
+    /// What is used for the first time becomes an object of its kind. It takes no memory.
+    fn fill<R: Wait>(&self, rt: &R, alloc: Global, slot: &mut Slot<J>, kind: Kind) {
+        if !matches!(slot, Slot::Blank(_)) {
+            return;
+        }
+        let held = match mem::replace(slot, Slot::Empty) {
+            Slot::Blank(blank) => self.used(rt, alloc, blank, kind),
             other => other,
         };
+        slot.lay(held);
     }
 
     /// The lock of what is looked for. It waits until that lies there.
@@ -199,12 +225,6 @@ impl<J: Whose> Locks<J> {
             return;
         };
         let mut slot = lock.lock(rt);
-        *slot = match mem::replace(&mut *slot, Slot::Empty) {
-            Slot::Blank(blank) => {
-                let pnode = blank.pnode();
-                Slot::Pipe(PipeDesk::new(alloc, pnode, state, blank.into_desk()))
-            }
-            other => other,
-        };
+        laid_pipe(alloc, &mut slot, state);
     }
 }

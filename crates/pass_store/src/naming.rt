@@ -140,6 +140,8 @@ impl<'g, J: Opening, D: Disk, G: Gate> Store<'g, J, D, G> {
         // Nobody else has a descriptor of it yet.
         if let Some(pipe) = made_by(&answer) {
             self.locks.lay_pipe(rt, alloc, pipe, state);
+        } else {
+            drop(state);
         }
         answer
     }

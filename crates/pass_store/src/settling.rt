@@ -48,10 +48,7 @@ fn file_in<J: Whose>(
         Slot::Blank(blank) => made_file(alloc, registry, shelf, blank),
         used => used,
     };
-    match slot {
-        Slot::File(file) => Some(file),
-        _ => None,
-    }
+    slot.into_file()
 }
 
 /// Adds a file to those of the numbers below its own.
@@ -66,8 +63,10 @@ fn add_file<J: Whose>(
     if let Some(number) = registry.number(file.what()) {
         if number as usize == files.len() {
             files.push(file)?;
+            return Ok(());
         }
     }
+    drop(file);
     Ok(())
 }
 
@@ -104,6 +103,7 @@ fn all_files<J: Whose>(
 {
     let files = numbered_files(alloc, slots, registry, shelf)?;
     if files.len() < registry.files() as usize {
+        drop(files);
         return Err(AllocError);
     }
     Ok(files)
@@ -133,6 +133,7 @@ pub(crate) fn unsettled<J: Whose, D: Disk>(
     let _durable = safe.durable();
     let mut vault = safe.into_vault();
     vault.meet(told);
+    drop(registry);
     (shelf.into_history(), vault)
 }
 

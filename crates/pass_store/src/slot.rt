@@ -9,6 +9,7 @@ use pass_hold::Whose;
 use pass_pipe::PipeDesk;
 use pass_proc::{Ended, Living};
 use pass_session::Blank;
+use std::mem;
 
 /// What lies in the lock of an object: its desk until its first use, then the object itself.
 #[derive(Drop)]
@@ -37,6 +38,24 @@ pub enum Sought {
 }
 
 impl<J: Whose> Slot<J> {
+    /// Lays this here, in place of what lay here.
+    pub(crate) fn lay(&mut self, held: Slot<J>)
+        ensures { self.new ≡ held }
+    {
+        drop(mem::replace(self, held));
+    }
+
+    /// The file that lies here.
+    pub(crate) fn into_file(self) -> Option<FileDesk<J>> {
+        match self {
+            Slot::File(file) => Some(file),
+            other => {
+                drop(other);
+                None
+            }
+        }
+    }
+
     /// What is looked for lies here, of this number.
     pub(crate) fn has(&self, sought: Sought, object: Pnode) -> bool
         ensures { result ≡ true → Has self.now sought object }

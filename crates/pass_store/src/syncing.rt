@@ -231,7 +231,7 @@ impl<'g, J: Opening, D: Disk, G: Gate> Store<'g, J, D, G> {
     {
         let file = taken(slot, d.pnode);
         let (file, answer) = self.sync_file(rt, alloc, proc, fd, d, file);
-        *slot = Slot::File(file);
+        slot.lay(Slot::File(file));
         answer
     }
 

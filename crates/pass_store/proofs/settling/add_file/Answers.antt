@@ -5,8 +5,8 @@ use Rattle.pass_store.specs.Closings.{AreByNumber}
 use Rattle.pass_store.proofs.Filing.{one_more}
 use Rattle.pass_store.proofs.settling.add_file.Goals as goal
 
-pub returns-in_ok-push : goal.returns-in_ok-push
-returns-in_ok-push g c =
+pub returns-then-number-len : goal.returns-then-number-len
+returns-then-number-len g c =
     let S = g.J.Whose.book.session in
     let h = c.args.registry.now.seen in
     let files = c.args.files.now.items in

@@ -111,25 +111,21 @@ pub fn told_of<D: Disk + Drop, R: Wait>(
     told_over::<Brand, D, R>(rt, alloc, opened, rows)
 }
 
-/// A new disk, each call of which fails after the stop.
-pub fn new_disk(alloc: Global, stop: Option<u64>) -> Result<MemDisk, Fail> {
+pub fn new_disk(alloc: Global) -> Result<MemDisk, Fail> {
     Ok(MemDisk::new(
         alloc,
         Vec::new(alloc),
         Vec::new(alloc),
         Vec::new(alloc),
-        stop,
+        None,
     )?)
 }
 
 /// Each call answered what its row says.
 pub fn compare<R: Abort>(rt: &R, answers: &[Answer], rows: &[Row]) {
     for (place, row) in rows.iter().enumerate() {
-        assert_eq!(rt;
-            answers.get(place).copied(),
-            Some(row.2),
-            "{place}: {row:?}"
-        );
+        let is_so = answers.get(place) == Some(&row.2);
+        assert!(rt; is_so, "row {place}");
     }
 }
 
@@ -156,11 +152,8 @@ fn judged<R: Abort>(
     let start = nothing(alloc);
     let mut plain = Plain::new(alloc, &start, objects)?;
     for entry in history {
-        assert_eq!(rt;
-            plain.step(entry)?.as_ref(),
-            Some(&entry.reply),
-            "{entry:?}"
-        );
+        let is_so = plain.step(entry)?.as_ref() == Some(&entry.reply);
+        assert!(rt; is_so);
     }
     Ok(plain.records()?)
 }
@@ -176,7 +169,7 @@ pub fn check<R: Wait + Abort>(
     requires objects { (1 ≤ objects) × (objects ≤ 8192) }
     requires entries { (66 ≤ entries) × (entries ≤ 16777216) }
 {
-    let told = told_of(rt, alloc, new_disk(alloc, None)?, objects, entries, rows)?;
+    let told = told_of(rt, alloc, new_disk(alloc)?, objects, entries, rows)?;
     compare(rt, &told.answers, rows);
     assert!(rt; told.finished.settled.is_ok());
     judged(rt, alloc, objects, &told.finished.closed.history)

@@ -1,11 +1,9 @@
 //! A store's calls, with letters for names and for bytes.
-ghost use Rattle.std.specs.Prelude.{◌≡◌, ◌≤◌, ◌<◌, false, true, IfOk};
+ghost use Rattle.std.specs.Prelude.{◌≡◌, ◌≤◌, ◌<◌, true, IfOk};
 ghost use Rattle.pass_entry.specs.Texts.{is_name};
-ghost use Rattle.pass_entry.specs.declared.objects.Mode.TheVariants as modes;
-ghost use Rattle.pass_plain.specs.Processes.{same_mode};
 
 use pass_calls::{CallEnd, Moved};
-use pass_entry::{Bytes, CallFault, Mode, Pnode, Text};
+use pass_entry::{Bytes, CallFault, Text};
 use pass_outside::{Disk, Gate};
 use pass_proc::{Proc, Trail};
 use pass_store::{Opening, Store};
@@ -13,28 +11,16 @@ use std::alloc::Global;
 use std::sync::Wait;
 use std::test::*;
 
-/// A call of a process, or a look at it. A name and an attribute are one letter; what is written is one letter so many times.
-#[derive(Clone, Copy, Debug)]
+/// A call of a process, or a look at it. A name is one letter; what is written is one letter so many times.
+#[derive(Clone, Copy)]
 pub enum Call {
     Creat(u8, u8),
-    Open(u8, u8, Mode),
-    Close(u8),
     Read(u8, u32),
     Write(u8, u8, usize),
-    Seek(u8, u64),
-    Truncate(u8, u64),
     Pipe(u8, u8),
     Fork,
-    Exec(u8),
-    Wait(u64),
-    Exit,
-    Rename(u8, u8),
-    Unlink(u8),
     MakeObject(u8),
-    Revive(u8, u64),
     Freeze(u8),
-    Disclose(u8, u8),
-    Tag(u8),
     Sync(u8),
     /// Makes all durable that stands.
     Settle,
@@ -42,8 +28,6 @@ pub enum Call {
     Meet(usize),
     /// Ends, and the process at this place meets what it had seen.
     Retire(usize),
-    /// The first letter of what it read last.
-    Last,
     /// How many calls it has begun.
     Number,
     /// How many entries it has seen.
@@ -51,23 +35,17 @@ pub enum Call {
 }
 
 /// What a call answers, or a look shows. Nodes are a number and a version.
-#[derive(Clone, Copy, Debug, PartialEq, Eq)]
+#[derive(Clone, Copy, PartialEq, Eq)]
 pub enum Answer {
-    Done,
     Made(u64),
     Read(u32, u64, u64),
     Wrote(u32, u64, u64),
-    Frozen(u64, u64),
     /// So many calls of the device, and entries.
     Synced(u64, u64),
     Refused(CallFault),
     Again,
     Full(u32, u32),
-    /// The device's faults as the store was opened, and later.
-    DiskFault(u64, u64),
-    Letter(Option<u8>),
     Number(u64),
-    NoMemory,
     /// Nothing that a call answers here.
     Other,
 }
@@ -77,12 +55,11 @@ pub type Procs<J> = Vec<Option<Proc<J>>>;
 
 fn went(moved: &Moved) -> Answer {
     match moved {
-        Moved::Done => Answer::Done,
         Moved::Made(pnode) => Answer::Made(pnode.0),
         Moved::Read { len, from } => Answer::Read(*len, from.pnode.0, from.version),
         Moved::Wrote { len, to } => Answer::Wrote(*len, to.pnode.0, to.version),
-        Moved::Frozen(node) => Answer::Frozen(node.pnode.0, node.version),
         Moved::Synced { calls, entries } => Answer::Synced(*calls, *entries),
+        Moved::Done | Moved::Frozen(_) => Answer::Other,
     }
 }
 
@@ -91,8 +68,7 @@ fn ended(end: &CallEnd) -> Answer {
         CallEnd::Fault(fault) => Answer::Refused(*fault),
         CallEnd::Again => Answer::Again,
         CallEnd::Full { left, need } => Answer::Full(*left, *need),
-        CallEnd::DiskFault { opened, now } => Answer::DiskFault(*opened, *now),
-        CallEnd::NoMemory => Answer::NoMemory,
+        CallEnd::DiskFault { .. } | CallEnd::NoMemory => Answer::Other,
     }
 }
 
@@ -117,16 +93,6 @@ fn few(len: u32) -> u32
     len.clamp(1, 4_096)
 }
 
-/// A way to open a file.
-fn opening(mode: Mode) -> Mode
-    ensures { same_mode result modes.App ≡ false }
-{
-    match mode {
-        Mode::App => Mode::Both,
-        other => other,
-    }
-}
-
 fn name_of(alloc: Global, letter: u8) -> Result<Text, Fail>
     ensures { IfOk result (λ name. is_name name ≡ true) }
 {
@@ -134,35 +100,6 @@ fn name_of(alloc: Global, letter: u8) -> Result<Text, Fail>
         Ok(name) => Ok(name),
         Err(_) => Err(Fail::new("no name")),
     }
-}
-
-/// A call that looks names up.
-fn on_names<J: Opening, D: Disk, G: Gate, R: Wait>(
-    rt: &R,
-    alloc: Global,
-    store: &Store<'_, J, D, G>,
-    proc: &mut Proc<J>,
-    call: Call,
-) -> Result<Answer, Fail> {
-    let moved = match call {
-        Call::Creat(fd, name) => store.creat(rt, alloc, proc, low(fd), &name_of(alloc, name)?),
-        Call::Open(fd, name, mode) => {
-            let name = name_of(alloc, name)?;
-            store.open_name(rt, alloc, proc, low(fd), &name, opening(mode))
-        }
-        Call::Exec(name) => {
-            let name = name_of(alloc, name)?;
-            store.exec(rt, alloc, proc, &name, &name)
-        }
-        Call::Rename(from, to) => {
-            let from = name_of(alloc, from)?;
-            let to = name_of(alloc, to)?;
-            store.rename(rt, alloc, proc, &from, &to)
-        }
-        Call::Unlink(name) => store.unlink(rt, alloc, proc, &name_of(alloc, name)?),
-        _ => return Ok(Answer::Other),
-    };
-    Ok(told(moved))
 }
 
 fn write<J: Opening, D: Disk, G: Gate, R: Wait>(
@@ -179,18 +116,7 @@ fn write<J: Opening, D: Disk, G: Gate, R: Wait>(
     Ok(told(store.pass_write(rt, alloc, proc, low(fd), &bytes)))
 }
 
-fn tag<J: Opening, D: Disk, G: Gate, R: Wait>(
-    rt: &R,
-    alloc: Global,
-    store: &Store<'_, J, D, G>,
-    proc: &mut Proc<J>,
-    fd: u8,
-) -> Result<Answer, Fail> {
-    let name = name_of(alloc, b'k')?;
-    Ok(told(store.tag(rt, alloc, proc, low(fd), &name, &name)))
-}
-
-/// A call on what the process holds.
+/// A call on what the process holds, or by which it holds something, or a look at it.
 fn on_held<J: Opening, D: Disk, G: Gate, R: Wait>(
     rt: &R,
     alloc: Global,
@@ -199,35 +125,11 @@ fn on_held<J: Opening, D: Disk, G: Gate, R: Wait>(
     call: Call,
 ) -> Answer {
     match call {
-        Call::Close(fd) => told(store.close_fd(rt, alloc, proc, low(fd))),
         Call::Read(fd, len) => told(store.pass_read(rt, alloc, proc, low(fd), few(len))),
-        Call::Seek(fd, at) => told(store.seek(rt, alloc, proc, low(fd), at)),
-        Call::Truncate(fd, size) => told(store.truncate(rt, alloc, proc, low(fd), size)),
-        Call::Sync(fd) => told(store.pass_sync(rt, alloc, proc, low(fd))),
-        Call::Freeze(fd) => told(store.pass_freeze(rt, alloc, proc, low(fd))),
-        Call::Disclose(fd, source) => {
-            told(store.disclose(rt, alloc, proc, low(fd), low(source)))
-        }
-        _ => Answer::Other,
-    }
-}
-
-/// A call by which a process holds a new object or an old one, or waits, or a look at it.
-fn on_objects<J: Opening, D: Disk, G: Gate, R: Wait>(
-    rt: &R,
-    alloc: Global,
-    store: &Store<'_, J, D, G>,
-    proc: &mut Proc<J>,
-    call: Call,
-) -> Answer {
-    match call {
         Call::Pipe(reader, writer) => told(store.pipe(rt, alloc, proc, low(reader), low(writer))),
         Call::MakeObject(fd) => told(store.pass_mkobj(rt, alloc, proc, low(fd))),
-        Call::Revive(fd, pnode) => {
-            told(store.pass_reviveobj(rt, alloc, proc, low(fd), Pnode(pnode)))
-        }
-        Call::Wait(child) => told(store.wait_child(rt, alloc, proc, Pnode(child))),
-        Call::Last => Answer::Letter(proc.last().first().copied()),
+        Call::Freeze(fd) => told(store.pass_freeze(rt, alloc, proc, low(fd))),
+        Call::Sync(fd) => told(store.pass_sync(rt, alloc, proc, low(fd))),
         Call::Number => Answer::Number(proc.number()),
         Call::Seen => Answer::Number(proc.seen()),
         Call::Settle => match store.settle(rt, alloc) {
@@ -247,19 +149,12 @@ fn on_process<J: Opening, D: Disk, G: Gate, R: Wait>(
     call: Call,
 ) -> Result<Answer, Fail> {
     match call {
-        Call::Creat(..) | Call::Open(..) | Call::Exec(_) | Call::Rename(..) | Call::Unlink(_) => {
-            on_names(rt, alloc, store, proc, call)
+        Call::Creat(fd, name) => {
+            let name = name_of(alloc, name)?;
+            Ok(told(store.creat(rt, alloc, proc, low(fd), &name)))
         }
         Call::Write(fd, letter, count) => write(rt, alloc, store, proc, fd, letter, count),
-        Call::Tag(fd) => tag(rt, alloc, store, proc, fd),
-        Call::Close(_)
-        | Call::Read(..)
-        | Call::Seek(..)
-        | Call::Truncate(..)
-        | Call::Freeze(_)
-        | Call::Sync(_)
-        | Call::Disclose(..) => Ok(on_held(rt, alloc, store, proc, call)),
-        _ => Ok(on_objects(rt, alloc, store, proc, call)),
+        _ => Ok(on_held(rt, alloc, store, proc, call)),
     }
 }
 
@@ -357,10 +252,6 @@ pub fn called<J: Opening, D: Disk, G: Gate, R: Wait>(
         return Ok(Answer::Other);
     };
     match call {
-        Call::Exit => {
-            store.exit(rt, alloc, proc);
-            Ok(Answer::Done)
-        }
         Call::Retire(other) => {
             let mut trail = store.retire(rt, alloc, proc);
             Ok(met_ended(rt, store, procs, other, &mut trail))

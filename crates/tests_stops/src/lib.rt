@@ -9,8 +9,8 @@ mod host;
 #[cfg(test)]
 mod recover;
 #[cfg(test)]
-mod run;
-#[cfg(test)]
 mod running;
 #[cfg(test)]
 mod stopping;
+#[cfg(test)]
+mod streams;

@@ -4,7 +4,7 @@ use crate::calls::{Answer, Call};
 use pass_entry::CallFault;
 use std::test::*;
 
-/// How many places a session has behind its first process's own, and what its calls answer.
+/// How many entries a session has room for, and what the calls of its one process answer.
 fn rooms() -> [(u32, [Row; 2]); 3] {
     let many = Answer::Refused(CallFault::TooMany);
     let unheld = Answer::Refused(CallFault::BadFd);

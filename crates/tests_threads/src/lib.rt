@@ -2,6 +2,16 @@
 #![tactic(auto)]
 
 #[cfg(test)]
+mod crowd;
+#[cfg(test)]
 mod entering;
+#[cfg(test)]
+mod inside;
+#[cfg(test)]
+mod judging;
+#[cfg(test)]
+mod running;
+#[cfg(test)]
+mod saving;
 #[cfg(test)]
 mod turns;

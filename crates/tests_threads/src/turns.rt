@@ -24,10 +24,15 @@ impl Meeting {
         self.come.fetch_add(1, Ordering::SeqCst);
     }
 
+    /// Whether so many have come.
+    pub fn has(&self, many: u64) -> bool {
+        self.come.load(Ordering::SeqCst) >= many
+    }
+
     /// Waits until so many have come.
     pub fn wait_for(&self, many: u64) {
         for _ in 0..TURNS {
-            if self.come.load(Ordering::SeqCst) >= many {
+            if self.has(many) {
                 return;
             }
             thread::yield_now();

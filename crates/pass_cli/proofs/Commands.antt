@@ -1,13 +1,13 @@
 -- What the command of the words is, from what was read of them.
 use Rattle.std.proofs.Common.{◌≡◌, ◌∙◌, true, false, refl, sym, ap, subst, List, ℕ}
-use Rattle.std.specs.Prelude.{◌≢◌, Option, Some, None, Result, Ok, Err, IsTrue, option_and_then}
+use Rattle.std.specs.Prelude.{◌≢◌, Option, Some, None, Result, Ok, Err, IsTrue, is_some, option_and_then}
 use Rattle.std.specs.Option.{option_map_or}
 use Rattle.pass_run.specs.declared.status.Status.{Status}
 use Rattle.pass_run.specs.declared.status.Status.TheVariants as status
 use Rattle.pass_cli.specs.Asked.{IsPut, IsQuestionRead, asked_in}
-use Rattle.pass_cli.specs.Words.{Reads, Text, command_of, is_follow, is_follow_command, is_run, is_run_command, question_in, question_of}
+use Rattle.pass_cli.specs.Words.{Reads, Text, command_of, drawn_by, drawn_of, is_gen, is_follow, is_follow_command, is_run, is_run_command, question_in, question_of}
 use Rattle.pass_cli.specs.declared.words.Command.{Command}
-use Rattle.pass_cli.specs.declared.words.Command.TheVariants.{Run, Ask, Follow}
+use Rattle.pass_cli.specs.declared.words.Command.TheVariants.{Run, Gen, Ask, Follow}
 use Rattle.pass_cli.specs.declared.words.Question.{Question}
 
 -- what stands in a value that was read
@@ -24,6 +24,23 @@ module _ (words : List Text) (r : Result Command Status) (read : Reads r (comman
 
   pub not_follow : (c : Option Command) → command_of words ≡ c → option_map_or is_follow_command c false ≡ false → ¬ (IsTrue (is_follow words))
   not_follow c named other follows = let z : true ≡ false = sym follows ∙ ap (λ (o : Option Command). option_map_or is_follow_command o false) named ∙ other in cc
+
+  -- what these words draw
+  pub draws_so : (c : Command) → r ≡ Ok c → drawn_of words ≡ drawn_by c
+  draws_so c is = ap (λ (o : Option Command). option_and_then drawn_by o) (subst (λ (x : Result Command Status). Reads x (command_of words)) is read)
+
+  pub draws : (workers number lines : ℕ) → r ≡ Ok (Gen workers number lines) → (¬ (IsTrue (is_run words))) × IsTrue (is_gen words) × ¬ (IsTrue (is_follow words))
+  draws workers number lines is =
+      let named : command_of words ≡ Some (Gen workers number lines) = subst (λ (x : Result Command Status). Reads x (command_of words)) is read in
+      (not_run (Some (Gen workers number lines)) named refl, ap is_some (draws_so (Gen workers number lines) is), not_follow (Some (Gen workers number lines)) named refl)
+
+  pub refuses_drawn : (s : Status) → r ≡ Err s → s ≢ status.NoMemory → drawn_of words ≡ None
+  refuses_drawn s is known = by s (subst (λ (x : Result Command Status). Reads x (command_of words)) is read) known
+    where
+      by : (t : Status) → Reads {X = Command} (Err t) (command_of words) → t ≢ status.NoMemory → drawn_of words ≡ None
+      by status.BadWords none known = ap (λ (o : Option Command). option_and_then drawn_by o) none
+      by status.NoMemory none known = absurd (known refl)
+      by _ none known = absurd none
 
   pub runs_only : (workers : ℕ) → r ≡ Ok (Run workers) → ¬ (IsTrue (is_follow words))
   runs_only workers is = not_follow (Some (Run workers)) (subst (λ (x : Result Command Status). Reads x (command_of words)) is read) refl

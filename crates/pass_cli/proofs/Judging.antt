@@ -1,6 +1,6 @@
 -- What is judged, from what was read and run.
 use Rattle.std.proofs.Common.{◌≡◌, ℕ, List, [], ◌++◌, refl, ap, sym, ◌∙◌, subst, ◌⊎◌, inl, inr, Bool, true, false, append-nil, arith}
-use Rattle.std.specs.Prelude.{◌≢◌, ◌↔◌, Option, Some, None, IsSome, Result, Ok, Err, IsTrue}
+use Rattle.std.specs.Prelude.{◌≢◌, Option, Some, None, Result, Ok, Err, IsTrue}
 use Rattle.pass_outside.specs.Faults.{HasRisen}
 use Rattle.pass_outside.specs.Moments.{Moment}
 use Rattle.pass_recover.specs.declared.fault.OpenFault.{OpenFault}

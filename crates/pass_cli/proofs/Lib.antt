@@ -8,3 +8,4 @@ pub mod Shown
 pub mod Streams
 pub mod TakenWords
 pub mod Written
+mod DrawnRuns

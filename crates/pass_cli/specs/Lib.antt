@@ -8,3 +8,4 @@ pub mod Matches
 pub mod Numbers
 pub mod Shown
 pub mod Words
+pub mod Drawn

@@ -1,5 +1,5 @@
 -- What the words of the program that shows graphs ask for. This project's own rule.
-use Rattle.std.specs.Prelude.{ℕ, List, [], ◌∷◌, Option, Some, None, codes, if◌then◌else◌}
+use Rattle.std.specs.Prelude.{List, [], ◌∷◌, Option, Some, None, codes, if◌then◌else◌}
 use Rattle.pass_entry.specs.declared.objects.Node.{Node}
 use Rattle.pass_trace.specs.Words.{is_text}
 use Rattle.pass_view.specs.declared.texts.Form.{Form}

@@ -15,9 +15,9 @@ use Rattle.pass_run.specs.declared.status.Status.{Status}
 use Rattle.pass_run.specs.declared.status.Status.TheVariants as status
 use Rattle.pass_trace.specs.Words.{is_text}
 use Rattle.pass_cli.specs.Line.{command_line}
-use Rattle.pass_cli.specs.Numbers.{number_in, node_in}
+use Rattle.pass_cli.specs.Numbers.{number_in, node_in, seed_in}
 use Rattle.pass_cli.specs.declared.words.Command.{Command}
-use Rattle.pass_cli.specs.declared.words.Command.TheVariants.{Run, Ask, Follow}
+use Rattle.pass_cli.specs.declared.words.Command.TheVariants.{Run, Gen, Ask, Follow}
 use Rattle.pass_cli.specs.declared.words.GraphQuestion.{GraphQuestion}
 use Rattle.pass_cli.specs.declared.words.GraphQuestion.TheVariants.{Lineage, Recipe}
 use Rattle.pass_cli.specs.declared.words.Question.{Question}
@@ -35,6 +35,15 @@ workers_in (Some word) = number_in 1 64 word
 abbrev pub run_in : Bool → Option Text → List Text → Option Command
 run_in false workers [] = option_map Run (workers_in workers)
 run_in _ _ _ = None
+
+abbrev pub gen_of : Option ℕ → Option ℕ → Option ℕ → Option Command
+gen_of (Some workers) (Some number) (Some lines) = Some (Gen workers number lines)
+gen_of _ _ _ = None
+
+-- gen NUMBER LINES, --workers N: a trace has 15 to 100,000 lines
+abbrev pub gen_in : Bool → Option Text → List Text → Option Command
+gen_in false workers (number ∷ lines ∷ []) = gen_of (workers_in workers) (seed_in number) (number_in 15 100000 lines)
+gen_in _ _ _ = None
 
 -- check and follow, which take no further word
 abbrev pub alone_in : Command → Bool → Option Text → List Text → Option Command
@@ -98,11 +107,12 @@ graph_in json name words =
     if is_text name (codes "recipe") then recipe_in json words
     else option_map (λ query. Lineage query (form_of json)) (query_in name words)
 
--- The command by whether --json is given, what --workers gives, COMMAND and its words. --workers goes with run alone, --json with the
+-- The command by whether --json is given, what --workers gives, COMMAND and its words. --workers goes with run and gen alone, --json with the
 -- queries alone.
 abbrev pub command_in : Bool → Option Text → Text → List Text → Option Command
 command_in json workers name words =
     if is_text name (codes "run") then run_in json workers words
+    else if is_text name (codes "gen") then gen_in json workers words
     else if is_text name (codes "check") then alone_in (Ask Check) json workers words
     else if is_text name (codes "follow") then alone_in Follow json workers words
     else if is_some workers then None
@@ -135,6 +145,18 @@ is_run_command _ = false
 abbrev pub is_run : List Text → Bool
 is_run words = option_map_or is_run_command (command_of words) false
 
+-- what a command draws: a number and how many lines
+abbrev pub drawn_by : Command → Option (ℕ × ℕ)
+drawn_by (Gen workers number lines) = Some (number, lines)
+drawn_by _ = None
+
+-- the words are those of gen, with this number and so many lines
+abbrev pub drawn_of : List Text → Option (ℕ × ℕ)
+drawn_of words = option_and_then drawn_by (command_of words)
+
+abbrev pub is_gen : List Text → Bool
+is_gen words = is_some (drawn_of words)
+
 abbrev pub is_follow_command : Command → Bool
 is_follow_command Follow = true
 is_follow_command _ = false
@@ -160,4 +182,5 @@ Reads (Err _) read = ⊥
 
 abbrev pub HasWorkers : Command → Type 0
 HasWorkers (Run workers) = (1 ≤ workers) × (workers ≤ 64)
+HasWorkers (Gen workers number lines) = (1 ≤ workers) × (workers ≤ 64) × (15 ≤ lines) × (lines ≤ 100000)
 HasWorkers _ = Unit {0}

@@ -3,6 +3,7 @@
 
 mod asking;
 mod counting;
+mod drawing;
 mod following;
 mod graph;
 mod judged;

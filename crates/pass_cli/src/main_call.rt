@@ -1,13 +1,15 @@
 //! The call that the program makes.
-ghost use Rattle.std.specs.Prelude.{◌≡◌, ◌≢◌, ◌↔◌, ◌⊎◌, ◌≤◌, Err, IsTrue, map, string_bytes};
+ghost use Rattle.std.specs.Prelude.{ℕ, ◌≡◌, ◌≢◌, ◌↔◌, ◌⊎◌, ◌≤◌, Err, IsTrue, Some, map, string_bytes};
 ghost use Rattle.pass_outside.specs.Faults.{HasRisen};
 ghost use Rattle.pass_run.specs.Stored.{IsBackedBy, IsLater, IsLeftAlone};
 ghost use Rattle.pass_cli.specs.Answers.{OfBytes, IsReadInTime, IsAnswer, IsNothing, IsUnrecorded, IsRecorded, outcome_of};
 ghost use Rattle.pass_cli.specs.Asked.{IsAsked, IsPut, IsQuestionRead, asked_in};
 ghost use Rattle.pass_cli.specs.Follows.{IsFollowAnswer, IsFollowedOn, OfRead};
-ghost use Rattle.pass_cli.specs.Words.{is_follow, is_run, question_of};
+ghost use Rattle.pass_cli.specs.Drawn.{IsGenAnswer, drawn_bytes};
+ghost use Rattle.pass_cli.specs.Words.{drawn_of, is_follow, is_gen, is_run, question_of};
 
 use crate::asking::{Asked, ask_for};
+use crate::drawing::judge_drawn;
 use crate::following::{Followed, follow};
 use crate::verdict::judge;
 use crate::words::{Command, Question, read_words};
@@ -58,12 +60,17 @@ pub fn pass_main<R: Threads + Wait + Sync, S: Source, K: Sink, D: Disk + Send, G
         (record { tells = K.tells; before = K.taken sink.old; after = K.taken sink.new }) (D.view disk) (D.view result.disk) result.status }
     ensures followed { IsTrue (is_follow (map string_bytes words.now)) → OfRead S.tells (S.left source.old) (S.left source.new) (D.view disk)
         (λ log bytes. IsFollowedOn log bytes (D.view disk) (D.view result.disk)) }
+    // A drawn trace is run as its text would be, and its four lines are written.
+    ensures drawn { (number lines : ℕ) → drawn_of (map string_bytes words.now) ≡ Some (number, lines) → result.status ≢ Status.NoMemory → IsGenAnswer D.view number lines
+        (record { tells = K.tells; before = K.taken sink.old; after = K.taken sink.new }) disk result.disk (outcome_of result) result.status }
+    ensures drawn_recorded { (number lines : ℕ) → drawn_of (map string_bytes words.now) ≡ Some (number, lines)
+        → IsUnrecorded (D.view disk) (D.view result.disk) (drawn_bytes number lines) (outcome_of result) ⊎ IsRecorded (D.view disk) (D.view result.disk) (drawn_bytes number lines) (outcome_of result) }
     // Every other command is answered as by `ask`, and records nothing.
-    ensures asked { ¬ IsTrue (is_run (map string_bytes words.now)) → ¬ IsTrue (is_follow (map string_bytes words.now)) → result.status ≢ Status.NoMemory → IsAsked (question_of (map string_bytes words.now)) (D.view disk) (D.view result.disk)
+    ensures asked { ¬ IsTrue (is_run (map string_bytes words.now)) → ¬ IsTrue (is_follow (map string_bytes words.now)) → ¬ IsTrue (is_gen (map string_bytes words.now)) → result.status ≢ Status.NoMemory → IsAsked (question_of (map string_bytes words.now)) (D.view disk) (D.view result.disk)
         (record { tells = K.tells; before = K.taken sink.old; after = K.taken sink.new }) result.status }
-    ensures unrecorded { ¬ IsTrue (is_run (map string_bytes words.now)) → IsNothing (outcome_of result) }
-    ensures alone { ¬ IsTrue (is_run (map string_bytes words.now)) → ¬ IsTrue (is_follow (map string_bytes words.now)) → IsLeftAlone (D.view disk) (D.view result.disk) }
-    ensures unopened { ¬ IsTrue (is_run (map string_bytes words.now)) → ¬ IsTrue (is_follow (map string_bytes words.now)) → ¬ IsPut (question_of (map string_bytes words.now)) → result.disk ≡ disk }
+    ensures unrecorded { ¬ IsTrue (is_run (map string_bytes words.now)) → ¬ IsTrue (is_gen (map string_bytes words.now)) → IsNothing (outcome_of result) }
+    ensures alone { ¬ IsTrue (is_run (map string_bytes words.now)) → ¬ IsTrue (is_follow (map string_bytes words.now)) → ¬ IsTrue (is_gen (map string_bytes words.now)) → IsLeftAlone (D.view disk) (D.view result.disk) }
+    ensures unopened { ¬ IsTrue (is_run (map string_bytes words.now)) → ¬ IsTrue (is_follow (map string_bytes words.now)) → ¬ IsTrue (is_gen (map string_bytes words.now)) → ¬ IsPut (question_of (map string_bytes words.now)) → result.disk ≡ disk }
     // What the disk tells stays, and its counts never fall.
     ensures later { IsLater (D.view disk) (D.view result.disk) }
     ensures write_fault { result.status ≢ Status.NoMemory → (result.status ≡ Status.WriteFault
@@ -77,6 +84,13 @@ pub fn pass_main<R: Threads + Wait + Sync, S: Source, K: Sink, D: Disk + Send, G
 {
     match read_words(alloc, words) {
         Ok(Command::Run { workers }) => run_words(rt, alloc, workers, source, sink, disk, gate),
+        Ok(
+            Command::Gen {
+                workers,
+                number,
+                lines,
+            },
+        ) => gen_words(rt, alloc, workers, number, lines, sink, disk, gate),
         Ok(Command::Ask(question)) => answered(alloc, Ok(question), sink, disk),
         Ok(Command::Follow) => follow_words(rt, alloc, source, sink, disk),
         Err(status) => answered(alloc, Err(status), sink, disk),
@@ -118,6 +132,48 @@ fn run_words<R: Threads + Wait + Sync, S: Source, K: Sink, D: Disk + Send, G: Ga
     } = judge(rt, alloc, workers, source, disk, gate);
     Ended {
         status: write_answer(alloc, sink, status, &report),
+        history,
+        syncs,
+        list,
+        start,
+        disk,
+    }
+}
+
+// Runs the trace that the number draws.
+fn gen_words<R: Threads + Wait + Sync, K: Sink, D: Disk + Send, G: Gate + Sync>(
+    rt: &R,
+    alloc: Global,
+    workers: u32,
+    number: u64,
+    lines: u32,
+    sink: &mut K,
+    disk: D,
+    gate: &G,
+) -> Ended<D>
+    requires workers { (1 ≤ workers) × (workers ≤ 64) }
+    requires lines { (15 ≤ lines) × (lines ≤ 100000) }
+    ensures drawn { result.status ≢ Status.NoMemory → IsGenAnswer D.view number lines
+        (record { tells = K.tells; before = K.taken sink.old; after = K.taken sink.new }) disk result.disk (outcome_of result) result.status }
+    ensures recorded { IsUnrecorded (D.view disk) (D.view result.disk) (drawn_bytes number lines) (outcome_of result)
+        ⊎ IsRecorded (D.view disk) (D.view result.disk) (drawn_bytes number lines) (outcome_of result) }
+    ensures backed { IsBackedBy result.history.items result.syncs.items }
+    ensures later { IsLater (D.view disk) (D.view result.disk) }
+    ensures write_fault { result.status ≢ Status.NoMemory → (result.status ≡ Status.WriteFault
+        ↔ HasRisen (K.fault_count sink.old) (K.fault_count sink.new)) }
+    ensures untaken { result.status ≡ Status.NoMemory → sink.new ≡ sink.old }
+{
+    let RunEnd {
+        status: judged,
+        history,
+        syncs,
+        list,
+        start,
+        report: text,
+        disk,
+    } = judge_drawn(rt, alloc, workers, number, lines, disk, gate);
+    Ended {
+        status: write_answer(alloc, sink, judged, &text),
         history,
         syncs,
         list,

@@ -1,8 +1,8 @@
 //! Numbers and nodes among the words.
 ghost use Rattle.std.specs.Prelude.{◌≡◌, ◌≤◌, ◌<◌, ◌==◌, IfSome, length, min};
 ghost use Rattle.std.specs.List.{list_all, position};
-ghost use Rattle.pass_trace.specs.Words.{is_digit, is_number, value_of};
-ghost use Rattle.pass_cli.specs.Numbers.{last_number, number_in, node_in, node_of};
+ghost use Rattle.pass_trace.specs.Words.{is_digit, value_of};
+ghost use Rattle.pass_cli.specs.Numbers.{is_number_to, last_number, number_in, node_in, node_of, seed_in};
 
 use pass_entry::{NUMBER_LIMIT, Node, Pnode};
 
@@ -15,19 +15,23 @@ fn are_digits(word: &[u8]) -> bool
     word.iter().all(|byte| (b'0'..=b'9').contains(byte))
 }
 
-fn is_number(word: &[u8]) -> bool
-    ensures { result ≡ is_number word.now }
+// The word is a number of at most so many digits, without leading zeros.
+fn is_number(word: &[u8], most: usize) -> bool
+    ensures { result ≡ is_number_to most word.now }
 {
-    !word.is_empty() && word.len() <= 19 && are_digits(word) && (word.len() == 1 || word[0] > b'0')
+    !word.is_empty()
+        && word.len() <= most
+        && are_digits(word)
+        && (word.len() == 1 || word[0] > b'0')
 }
 
 // The number that decimal digits write, or the greatest one where it is greater.
-fn value_of(word: &[u8]) -> u64
-    ensures { result ≡ min (value_of word.now) u64.MAX }
+fn value_of(word: &[u8]) -> u128
+    ensures { result ≡ min (value_of word.now) u128.MAX }
 {
-    let mut value: u64 = 0;
+    let mut value: u128 = 0;
     for byte in word {
-        let digit = u64::from(byte.saturating_sub(b'0'));
+        let digit = u128::from(byte.saturating_sub(b'0'));
         value = value.saturating_mul(10).saturating_add(digit);
     }
     value
@@ -35,16 +39,30 @@ fn value_of(word: &[u8]) -> u64
 
 /// The number that the word writes in decimal digits without leading zeros, where it is from `low` to `high`.
 pub fn number_in(word: &[u8], low: u64, high: u64) -> Option<u64>
-    requires { high < u64.MAX }
     ensures value { result ≡ number_in low high word.now }
     ensures within { IfSome result (λ n. (low ≤ n) × (n ≤ high)) }
 {
-    if !is_number(word) {
+    if !is_number(word, 19) {
         return None;
     }
     let value = value_of(word);
-    if low <= value && value <= high {
-        Some(value)
+    if u128::from(low) <= value && value <= u128::from(high) {
+        Some(value as u64)
+    } else {
+        None
+    }
+}
+
+/// The number below 2^64 that the word writes in decimal digits without leading zeros.
+pub fn seed_in(word: &[u8]) -> Option<u64>
+    ensures { result ≡ seed_in word.now }
+{
+    if !is_number(word, 20) {
+        return None;
+    }
+    let value = value_of(word);
+    if value <= u128::from(u64::MAX) {
+        Some(value as u64)
     } else {
         None
     }

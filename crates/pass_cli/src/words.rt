@@ -1,15 +1,15 @@
 //! The commands of the program, and how its words name them.
 ghost use Rattle.std.specs.Prelude.{◌≡◌, ◌≢◌, ◌⊎◌, ◌≤◌, Option, IfOk, IfSome, IsSome, IsTrue, map, option_map, string_bytes};
 ghost use Rattle.clap.specs.Words.{found_of, kind_of, rows_of};
-ghost use Rattle.pass_cli.specs.Words.{Reads, HasWorkers, alone_in, command_found, command_in, command_of, form_of, graph_in, match_in, match_of, question_of, is_set, path_on, query_in, query_on, name_in, recipe_in, run_in, send_in, last_place, workers_in};
-ghost use Rattle.pass_cli.specs.Numbers.{node_in, number_in};
+ghost use Rattle.pass_cli.specs.Words.{Reads, HasWorkers, alone_in, command_found, command_in, command_of, form_of, gen_in, gen_of, graph_in, match_in, match_of, question_of, is_set, path_on, query_in, query_on, name_in, recipe_in, run_in, send_in, last_place, workers_in};
+ghost use Rattle.pass_cli.specs.Numbers.{node_in, number_in, seed_in};
 ghost use Rattle.pass_query.specs.declared.question.Query.{Query};
 ghost use Rattle.pass_cli.specs.declared.words.GraphQuestion.{GraphQuestion};
 ghost use Rattle.pass_cli.specs.declared.words.Question.{Question};
 ghost use Rattle.pass_cli.specs.declared.words.Command.TheVariants.{Ask};
 
 use crate::line::command_line;
-use crate::numbers::{node_in, number_in};
+use crate::numbers::{node_in, number_in, seed_in};
 use crate::pattern_text::PatternText;
 use clap::error::ErrorKind;
 use clap::{ArgMatches, Error};
@@ -23,6 +23,11 @@ const WORKERS: u32 = 4;
 
 /// How many workers may take turns.
 const MOST_WORKERS: u64 = 64;
+
+/// The fewest and the most lines of a trace that is drawn.
+const LEAST_LINES: u64 = 15;
+
+const MOST_LINES: u64 = 100_000;
 
 /// The greatest number of 19 digits: no longer one is read.
 const LAST_PLACE: u64 = 9_999_999_999_999_999_999;
@@ -65,7 +70,15 @@ pub enum Question {
 #[derive(Debug, Drop)]
 pub enum Command {
     /// To run the trace of the source.
-    Run { workers: u32 },
+    Run {
+        workers: u32,
+    },
+    /// To run the trace that a number draws, with so many lines.
+    Gen {
+        workers: u32,
+        number: u64,
+        lines: u32,
+    },
     /// To answer a question.
     Ask(Question),
     /// To keep what comes of another store's log.
@@ -148,6 +161,9 @@ fn command_in(
     if name == b"run".as_slice() {
         return or_bad(run_in(json, workers, words));
     }
+    if name == b"gen".as_slice() {
+        return or_bad(gen_in(json, workers, words));
+    }
     if name == b"check".as_slice() {
         return or_bad(alone_in(Command::Ask(Question::Check), json, workers, words));
     }
@@ -198,6 +214,36 @@ fn run_in(json: bool, workers: Option<&str>, words: &[&str]) -> Option<Command>
     }
     let workers = workers_in(workers)?;
     Some(Command::Run { workers })
+}
+
+#[tactic(auto, using(crate::proofs::Listed::drawn_too_short, crate::proofs::Listed::drawn_too_long))]
+fn gen_in(json: bool, workers: Option<&str>, words: &[&str]) -> Option<Command>
+    ensures command { result ≡ gen_in json (option_map (λ w. w.now) workers.entry) (map (λ w. w.now) words.now) }
+    ensures workers { IfSome result HasWorkers }
+{
+    if json {
+        return None;
+    }
+    match words {
+        [] => None,
+        [_] => None,
+        [number, lines] => gen_of(workers, number.as_bytes(), lines.as_bytes()),
+        [_, _, _, ..] => None,
+    }
+}
+
+fn gen_of(workers: Option<&str>, number: &[u8], lines: &[u8]) -> Option<Command>
+    ensures command { result ≡ gen_of (workers_in (option_map (λ w. w.now) workers.entry)) (seed_in number.now) (number_in 15 100000 lines.now) }
+    ensures workers { IfSome result HasWorkers }
+{
+    let workers = workers_in(workers)?;
+    let number = seed_in(number)?;
+    let lines = number_in(lines, LEAST_LINES, MOST_LINES)?;
+    Some(Command::Gen {
+        workers,
+        number,
+        lines: lines as u32,
+    })
 }
 
 fn workers_in(workers: Option<&str>) -> Option<u32>

@@ -1,9 +1,12 @@
-use Rattle.std.proofs.Common.{refl, sym, ap, subst, inl}
-use Rattle.std.specs.Prelude.{Option, Err, map, string_bytes}
+use Rattle.std.proofs.Common.{◌≡◌, ◌⊎◌, ◌∙◌, refl, sym, ap, subst, inl}
+use Rattle.std.specs.Prelude.{ℕ, Option, Some, None, Err, map, string_bytes}
+use Rattle.pass_plain.proofs.Lists.{some_is}
+use Rattle.pass_cli.specs.Answers.{IsUnrecorded, IsRecorded, outcome_of}
+use Rattle.pass_cli.specs.Drawn.{IsGenAnswer, drawn_bytes}
 use Rattle.pass_cli.specs.Asked.{IsAsked, IsPut}
 use Rattle.pass_cli.specs.declared.words.Question.{Question}
-use Rattle.pass_cli.specs.declared.words.Command.TheVariants.{Run, Ask, Follow}
-use Rattle.pass_cli.proofs.Commands.{ok_same, runs, runs_only, follows, asks, refuses, refusal_read}
+use Rattle.pass_cli.specs.declared.words.Command.TheVariants.{Run, Gen, Ask, Follow}
+use Rattle.pass_cli.proofs.Commands.{ok_same, runs, runs_only, follows, asks, refuses, refusal_read, draws, draws_so, refuses_drawn}
 use Rattle.pass_cli.proofs.Streams.{untouched_on_disk}
 use Rattle.pass_cli.proofs.main_call.pass_main.Goals as goal
 
@@ -32,7 +35,7 @@ pub returns-in-Ok-Ask-clause-stops : goal.returns-in-Ok-Ask-clause-stops
 returns-in-Ok-Ask-clause-stops g c = λ tells run. absurd ((asks (map string_bytes c.args.words.now) c.read_words.result c.read_words.ensures.command c.in-Ok-Ask.question (ok_same c.read_words.result c.in-Ok-Ask.field-0 (Ask c.in-Ok-Ask.question) c.in-Ok-Ask.is c.in-Ok-Ask.field-0-is)).0 run)
 
 pub returns-in-Ok-Ask-clause-asked : goal.returns-in-Ok-Ask-clause-asked
-returns-in-Ok-Ask-clause-asked g c = λ other plain known.
+returns-in-Ok-Ask-clause-asked g c = λ other plain undrawn known.
     let words = map string_bytes c.args.words.now in
     subst (λ (asked : Option Question). IsAsked asked (g.D.Disk.view c.args.disk) (g.D.Disk.view c.answered.result.disk)
     (record { tells = g.K.Sink.tells; before = g.K.Sink.taken c.args.sink.now; after = g.K.Sink.taken c.answered.new.sink }) c.answered.result.status)
@@ -40,7 +43,7 @@ returns-in-Ok-Ask-clause-asked g c = λ other plain known.
     (c.answered.ensures.answer known)
 
 pub returns-in-Ok-Ask-clause-unopened : goal.returns-in-Ok-Ask-clause-unopened
-returns-in-Ok-Ask-clause-unopened g c = λ other plain lost.
+returns-in-Ok-Ask-clause-unopened g c = λ other plain undrawn lost.
     let words = map string_bytes c.args.words.now in
     let asked = (asks words c.read_words.result c.read_words.ensures.command c.in-Ok-Ask.question (ok_same c.read_words.result c.in-Ok-Ask.field-0 (Ask c.in-Ok-Ask.question) c.in-Ok-Ask.is c.in-Ok-Ask.field-0-is)).1 in
     c.answered.ensures.unopened (λ put. lost (subst IsPut (sym asked) put))
@@ -60,7 +63,7 @@ returns-in-Err-clause-stops g c = λ tells run known.
     absurd ((refuses (map string_bytes c.args.words.now) c.read_words.result c.read_words.ensures.command c.in-Err.status c.in-Err.is (λ starved. known (c.answered-in-Err.ensures.starved (ap Err starved)))).0 run)
 
 pub returns-in-Err-clause-asked : goal.returns-in-Err-clause-asked
-returns-in-Err-clause-asked g c = λ other plain known.
+returns-in-Err-clause-asked g c = λ other plain undrawn known.
     let words = map string_bytes c.args.words.now in
     subst (λ (asked : Option Question). IsAsked asked (g.D.Disk.view c.args.disk) (g.D.Disk.view c.answered-in-Err.result.disk)
     (record { tells = g.K.Sink.tells; before = g.K.Sink.taken c.args.sink.now; after = g.K.Sink.taken c.answered-in-Err.new.sink }) c.answered-in-Err.result.status)
@@ -68,7 +71,7 @@ returns-in-Err-clause-asked g c = λ other plain known.
     (c.answered-in-Err.ensures.answer known)
 
 pub returns-in-Err-clause-unopened : goal.returns-in-Err-clause-unopened
-returns-in-Err-clause-unopened g c = λ other plain lost. c.answered-in-Err.ensures.unopened (λ put. put)
+returns-in-Err-clause-unopened g c = λ other plain undrawn lost. c.answered-in-Err.ensures.unopened (λ put. put)
 
 pub returns-in-Ok-Run-clause-follow : goal.returns-in-Ok-Run-clause-follow
 returns-in-Ok-Run-clause-follow g c = λ is. absurd (runs_only (map string_bytes c.args.words.now) c.read_words.result c.read_words.ensures.command c.in-Ok-Run.workers (ok_same c.read_words.result c.in-Ok-Run.field-0 (Run c.in-Ok-Run.workers) c.in-Ok-Run.is c.in-Ok-Run.field-0-is) is)
@@ -110,3 +113,78 @@ returns-in-Ok-Follow-clause-unopened g c = λ other plain. absurd (plain (follow
 
 pub returns-in-Ok-Follow-clause-unread : goal.returns-in-Ok-Follow-clause-unread
 returns-in-Ok-Follow-clause-unread g c = λ other plain. absurd (plain (follows (map string_bytes c.args.words.now) c.read_words.result c.read_words.ensures.command (ok_same c.read_words.result c.in-Ok-Follow.field-0 Follow c.in-Ok-Follow.is c.in-Ok-Follow.field-0-is)).0)
+
+-- words that draw nothing
+nothing_drawn : (o : Option (ℕ × ℕ)) (n l : ℕ) → o ≡ None → o ≡ Some (n, l) → ⊥
+nothing_drawn o n l none some = let z : ◌≡◌ {A = Option (ℕ × ℕ)} None (Some (n, l)) = sym none ∙ some in cc
+
+pub returns-in-Ok-Run-clause-drawn : goal.returns-in-Ok-Run-clause-drawn
+returns-in-Ok-Run-clause-drawn g c = λ number lines is. absurd (nothing_drawn _ number lines (draws_so (map string_bytes c.args.words.now) c.read_words.result c.read_words.ensures.command (Run c.in-Ok-Run.workers) (ok_same c.read_words.result c.in-Ok-Run.field-0 (Run c.in-Ok-Run.workers) c.in-Ok-Run.is c.in-Ok-Run.field-0-is)) is)
+
+pub returns-in-Ok-Run-clause-drawn_recorded : goal.returns-in-Ok-Run-clause-drawn_recorded
+returns-in-Ok-Run-clause-drawn_recorded g c = λ number lines is. absurd (nothing_drawn _ number lines (draws_so (map string_bytes c.args.words.now) c.read_words.result c.read_words.ensures.command (Run c.in-Ok-Run.workers) (ok_same c.read_words.result c.in-Ok-Run.field-0 (Run c.in-Ok-Run.workers) c.in-Ok-Run.is c.in-Ok-Run.field-0-is)) is)
+
+pub returns-in-Ok-Ask-clause-drawn : goal.returns-in-Ok-Ask-clause-drawn
+returns-in-Ok-Ask-clause-drawn g c = λ number lines is. absurd (nothing_drawn _ number lines (draws_so (map string_bytes c.args.words.now) c.read_words.result c.read_words.ensures.command (Ask c.in-Ok-Ask.question) (ok_same c.read_words.result c.in-Ok-Ask.field-0 (Ask c.in-Ok-Ask.question) c.in-Ok-Ask.is c.in-Ok-Ask.field-0-is)) is)
+
+pub returns-in-Ok-Ask-clause-drawn_recorded : goal.returns-in-Ok-Ask-clause-drawn_recorded
+returns-in-Ok-Ask-clause-drawn_recorded g c = λ number lines is. absurd (nothing_drawn _ number lines (draws_so (map string_bytes c.args.words.now) c.read_words.result c.read_words.ensures.command (Ask c.in-Ok-Ask.question) (ok_same c.read_words.result c.in-Ok-Ask.field-0 (Ask c.in-Ok-Ask.question) c.in-Ok-Ask.is c.in-Ok-Ask.field-0-is)) is)
+
+pub returns-in-Ok-Follow-clause-drawn : goal.returns-in-Ok-Follow-clause-drawn
+returns-in-Ok-Follow-clause-drawn g c = λ number lines is. absurd (nothing_drawn _ number lines (draws_so (map string_bytes c.args.words.now) c.read_words.result c.read_words.ensures.command Follow (ok_same c.read_words.result c.in-Ok-Follow.field-0 Follow c.in-Ok-Follow.is c.in-Ok-Follow.field-0-is)) is)
+
+pub returns-in-Ok-Follow-clause-drawn_recorded : goal.returns-in-Ok-Follow-clause-drawn_recorded
+returns-in-Ok-Follow-clause-drawn_recorded g c = λ number lines is. absurd (nothing_drawn _ number lines (draws_so (map string_bytes c.args.words.now) c.read_words.result c.read_words.ensures.command Follow (ok_same c.read_words.result c.in-Ok-Follow.field-0 Follow c.in-Ok-Follow.is c.in-Ok-Follow.field-0-is)) is)
+
+pub returns-in-Err-clause-drawn : goal.returns-in-Err-clause-drawn
+returns-in-Err-clause-drawn g c = λ number lines is known.
+    absurd (nothing_drawn _ number lines (refuses_drawn (map string_bytes c.args.words.now) c.read_words.result c.read_words.ensures.command c.in-Err.status c.in-Err.is (λ starved. known (c.answered-in-Err.ensures.starved (ap Err starved)))) is)
+
+pub returns-in-Err-clause-drawn_recorded : goal.returns-in-Err-clause-drawn_recorded
+returns-in-Err-clause-drawn_recorded g c = λ number lines is. inl (c.answered-in-Err.ensures.nothing, inl c.answered-in-Err.ensures.alone)
+
+pub returns-in-Ok-Gen-clause-run : goal.returns-in-Ok-Gen-clause-run
+returns-in-Ok-Gen-clause-run g c = λ run. absurd ((draws (map string_bytes c.args.words.now) c.read_words.result c.read_words.ensures.command c.in-Ok-Gen.workers c.in-Ok-Gen.number c.in-Ok-Gen.lines (ok_same c.read_words.result c.in-Ok-Gen.field-0 (Gen c.in-Ok-Gen.workers c.in-Ok-Gen.number c.in-Ok-Gen.lines) c.in-Ok-Gen.is c.in-Ok-Gen.field-0-is)).0 run)
+
+pub returns-in-Ok-Gen-clause-recorded : goal.returns-in-Ok-Gen-clause-recorded
+returns-in-Ok-Gen-clause-recorded g c = λ run. absurd ((draws (map string_bytes c.args.words.now) c.read_words.result c.read_words.ensures.command c.in-Ok-Gen.workers c.in-Ok-Gen.number c.in-Ok-Gen.lines (ok_same c.read_words.result c.in-Ok-Gen.field-0 (Gen c.in-Ok-Gen.workers c.in-Ok-Gen.number c.in-Ok-Gen.lines) c.in-Ok-Gen.is c.in-Ok-Gen.field-0-is)).0 run)
+
+pub returns-in-Ok-Gen-clause-stops : goal.returns-in-Ok-Gen-clause-stops
+returns-in-Ok-Gen-clause-stops g c = λ tells run. absurd ((draws (map string_bytes c.args.words.now) c.read_words.result c.read_words.ensures.command c.in-Ok-Gen.workers c.in-Ok-Gen.number c.in-Ok-Gen.lines (ok_same c.read_words.result c.in-Ok-Gen.field-0 (Gen c.in-Ok-Gen.workers c.in-Ok-Gen.number c.in-Ok-Gen.lines) c.in-Ok-Gen.is c.in-Ok-Gen.field-0-is)).0 run)
+
+pub returns-in-Ok-Gen-clause-follow : goal.returns-in-Ok-Gen-clause-follow
+returns-in-Ok-Gen-clause-follow g c = λ is. absurd ((draws (map string_bytes c.args.words.now) c.read_words.result c.read_words.ensures.command c.in-Ok-Gen.workers c.in-Ok-Gen.number c.in-Ok-Gen.lines (ok_same c.read_words.result c.in-Ok-Gen.field-0 (Gen c.in-Ok-Gen.workers c.in-Ok-Gen.number c.in-Ok-Gen.lines) c.in-Ok-Gen.is c.in-Ok-Gen.field-0-is)).2 is)
+
+pub returns-in-Ok-Gen-clause-followed : goal.returns-in-Ok-Gen-clause-followed
+returns-in-Ok-Gen-clause-followed g c = λ is. absurd ((draws (map string_bytes c.args.words.now) c.read_words.result c.read_words.ensures.command c.in-Ok-Gen.workers c.in-Ok-Gen.number c.in-Ok-Gen.lines (ok_same c.read_words.result c.in-Ok-Gen.field-0 (Gen c.in-Ok-Gen.workers c.in-Ok-Gen.number c.in-Ok-Gen.lines) c.in-Ok-Gen.is c.in-Ok-Gen.field-0-is)).2 is)
+
+pub returns-in-Ok-Gen-clause-asked : goal.returns-in-Ok-Gen-clause-asked
+returns-in-Ok-Gen-clause-asked g c = λ other plain undrawn. absurd (undrawn (draws (map string_bytes c.args.words.now) c.read_words.result c.read_words.ensures.command c.in-Ok-Gen.workers c.in-Ok-Gen.number c.in-Ok-Gen.lines (ok_same c.read_words.result c.in-Ok-Gen.field-0 (Gen c.in-Ok-Gen.workers c.in-Ok-Gen.number c.in-Ok-Gen.lines) c.in-Ok-Gen.is c.in-Ok-Gen.field-0-is)).1)
+
+pub returns-in-Ok-Gen-clause-alone : goal.returns-in-Ok-Gen-clause-alone
+returns-in-Ok-Gen-clause-alone g c = λ other plain undrawn. absurd (undrawn (draws (map string_bytes c.args.words.now) c.read_words.result c.read_words.ensures.command c.in-Ok-Gen.workers c.in-Ok-Gen.number c.in-Ok-Gen.lines (ok_same c.read_words.result c.in-Ok-Gen.field-0 (Gen c.in-Ok-Gen.workers c.in-Ok-Gen.number c.in-Ok-Gen.lines) c.in-Ok-Gen.is c.in-Ok-Gen.field-0-is)).1)
+
+pub returns-in-Ok-Gen-clause-unopened : goal.returns-in-Ok-Gen-clause-unopened
+returns-in-Ok-Gen-clause-unopened g c = λ other plain undrawn. absurd (undrawn (draws (map string_bytes c.args.words.now) c.read_words.result c.read_words.ensures.command c.in-Ok-Gen.workers c.in-Ok-Gen.number c.in-Ok-Gen.lines (ok_same c.read_words.result c.in-Ok-Gen.field-0 (Gen c.in-Ok-Gen.workers c.in-Ok-Gen.number c.in-Ok-Gen.lines) c.in-Ok-Gen.is c.in-Ok-Gen.field-0-is)).1)
+
+pub returns-in-Ok-Gen-clause-unrecorded : goal.returns-in-Ok-Gen-clause-unrecorded
+returns-in-Ok-Gen-clause-unrecorded g c = λ other undrawn. absurd (undrawn (draws (map string_bytes c.args.words.now) c.read_words.result c.read_words.ensures.command c.in-Ok-Gen.workers c.in-Ok-Gen.number c.in-Ok-Gen.lines (ok_same c.read_words.result c.in-Ok-Gen.field-0 (Gen c.in-Ok-Gen.workers c.in-Ok-Gen.number c.in-Ok-Gen.lines) c.in-Ok-Gen.is c.in-Ok-Gen.field-0-is)).1)
+
+-- the two numbers are those that were read
+drawn_same : (o : Option (ℕ × ℕ)) (a b n l : ℕ) → o ≡ Some (a, b) → o ≡ Some (n, l) → (P : ℕ → ℕ → Type 0) → P a b → P n l
+drawn_same o a b n l one other P p =
+    let same : ◌≡◌ {A = ℕ × ℕ} (a, b) (n, l) = some_is {X = ℕ × ℕ} (a, b) (n, l) (sym one ∙ other) in subst (λ (x : ℕ × ℕ). P x.0 x.1) same p
+
+pub returns-in-Ok-Gen-clause-drawn : goal.returns-in-Ok-Gen-clause-drawn
+returns-in-Ok-Gen-clause-drawn g c = λ number lines is known.
+    drawn_same _ c.in-Ok-Gen.number c.in-Ok-Gen.lines number lines (draws_so (map string_bytes c.args.words.now) c.read_words.result c.read_words.ensures.command (Gen c.in-Ok-Gen.workers c.in-Ok-Gen.number c.in-Ok-Gen.lines) (ok_same c.read_words.result c.in-Ok-Gen.field-0 (Gen c.in-Ok-Gen.workers c.in-Ok-Gen.number c.in-Ok-Gen.lines) c.in-Ok-Gen.is c.in-Ok-Gen.field-0-is)) is
+    (λ n l. IsGenAnswer g.D.Disk.view n l (record { tells = g.K.Sink.tells; before = g.K.Sink.taken c.args.sink.now; after = g.K.Sink.taken c.gen_words.new.sink }) c.args.disk c.gen_words.result.disk (outcome_of c.gen_words.result) c.gen_words.result.status)
+    (c.gen_words.ensures.drawn known)
+
+pub returns-in-Ok-Gen-clause-drawn_recorded : goal.returns-in-Ok-Gen-clause-drawn_recorded
+returns-in-Ok-Gen-clause-drawn_recorded g c = λ number lines is.
+    let old = g.D.Disk.view c.args.disk in
+    let new = g.D.Disk.view c.gen_words.result.disk in
+    drawn_same _ c.in-Ok-Gen.number c.in-Ok-Gen.lines number lines (draws_so (map string_bytes c.args.words.now) c.read_words.result c.read_words.ensures.command (Gen c.in-Ok-Gen.workers c.in-Ok-Gen.number c.in-Ok-Gen.lines) (ok_same c.read_words.result c.in-Ok-Gen.field-0 (Gen c.in-Ok-Gen.workers c.in-Ok-Gen.number c.in-Ok-Gen.lines) c.in-Ok-Gen.is c.in-Ok-Gen.field-0-is)) is
+    (λ n l. IsUnrecorded old new (drawn_bytes n l) (outcome_of c.gen_words.result) ⊎ IsRecorded old new (drawn_bytes n l) (outcome_of c.gen_words.result))
+    c.gen_words.ensures.recorded

@@ -3,4 +3,4 @@ use Rattle.pass_trace.specs.Words.{value_of}
 use Rattle.pass_cli.proofs.numbers.value_of.Given as goal
 
 abbrev pub invariant-loop-byte : goal.invariant-loop-byte
-invariant-loop-byte l = l.value ≡ min (value_of (take l.byte-index l.word)) (2 ^ 64 - 1)
+invariant-loop-byte l = l.value ≡ min (value_of (take l.byte-index l.word)) (2 ^ 128 - 1)

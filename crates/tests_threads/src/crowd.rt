@@ -9,7 +9,7 @@ use std::alloc::{AllocError, Global};
 use std::test::*;
 
 /// How often each of the eight processes makes its six calls.
-const ROUNDS: u32 = 209;
+const ROUNDS: u32 = 1_667;
 
 /// The first process makes what all hold, and the eight others.
 const FIRST: &[u8] =

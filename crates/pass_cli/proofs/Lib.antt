@@ -1,5 +1,6 @@
 pub mod Answering
 pub mod Commands
+mod Completed
 pub mod Counted
 pub mod Judging
 pub mod Listed

@@ -7,6 +7,7 @@ mod drawing;
 mod following;
 mod graph;
 mod judged;
+pub mod laws;
 mod line;
 mod listing;
 mod main_call;

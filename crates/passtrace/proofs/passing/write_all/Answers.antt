@@ -1,0 +1,11 @@
+use Rattle.std.proofs.Common.{length, ap, refl, ◌∙◌, arith, length-drop}
+use Rattle.std.proofs.lemmas.List.{take_rest}
+use Rattle.passtrace.proofs.Pieces.{one_piece_more}
+use Rattle.passtrace.proofs.passing.write_all.Goals as goal
+
+pub pieces-preserved : goal.pieces-preserved
+pieces-preserved g c = record {
+  within = omega (arith, c.in_ok-count.ensures.within, ap length (take_rest c.args.text.now c.pieces.written), length-drop c.pieces.written c.args.text.now);
+  taken = λ tells. one_piece_more _ _ _ c.args.text.now c.pieces.written c.in_ok-count.count (c.pieces.invariant.taken tells) (c.in_ok-count.ensures.taken tells);
+  same = (c.in_ok-count.ensures.faults.ok refl).0 ∙ c.pieces.invariant.same;
+}

@@ -17,7 +17,7 @@ use crate::ended::Living;
 use crate::proc::Proc;
 use crate::taking::slip_of;
 use pass_book::{Desk, Last, Line, Slip};
-use pass_entry::{Act, CallName, Descriptors, Entry, Node, Pnode, Reply};
+use pass_entry::{Act, CallName, Descriptors, Entry, Inherited, Node, Pnode, Reply};
 use pass_hold::{Caller, Shelf, Whose};
 use pass_version::{Taken, Versions};
 use std::alloc::{AllocError, Global};
@@ -27,7 +27,7 @@ use std::marker::Model;
 #[derive(Drop)]
 pub struct ChildRoom {
     versions: Versions,
-    given: Descriptors,
+    given: Inherited,
     held: Descriptors,
 }
 
@@ -58,7 +58,7 @@ impl ChildRoom {
     {
         let mut versions = Versions::new(alloc, child, 1, false);
         versions.reserve(1)?;
-        let given = descriptors.clone()?;
+        let given = Inherited::of(alloc, descriptors)?;
         let held = descriptors.clone()?;
         Ok(ChildRoom {
             versions,
@@ -69,7 +69,7 @@ impl ChildRoom {
 
     /// The child's first version, which has taken from its parent's, with the records of that, and its descriptors, once for the
     /// entry and once for the child.
-    fn linked(self, alloc: Global, source: &Node) -> (Versions, Slip, Descriptors, Descriptors)
+    fn linked(self, alloc: Global, source: &Node) -> (Versions, Slip, Inherited, Descriptors)
         ensures version { IsAlike result.0.lineage (with_source (first_lineage self.child) source.now) }
         ensures slip { result.1 ≡ taken_records taken.Linked result.0.lineage.node source.now [] }
         ensures descriptors { (result.2 ≡ self.descriptors) × (result.3 ≡ self.descriptors) }

@@ -1,11 +1,9 @@
 -- A process's last call, and what it is judged by, after one more entry of a legal history.
-use Rattle.std.proofs.Common.{◌≡◌, ◌<◌, ◌+◌, ℕ, List, [], ◌∷◌, ◌++◌, length, take, refl, ap, sym, ◌∙◌, subst, arith, ◌⊎◌, inl, inr, Bool, true, false, ◌&&◌, ◌||◌, ◌==◌, cond, get_or}
+use Rattle.std.proofs.Common.{◌≡◌, ◌<◌, ℕ, List, [], ◌∷◌, ◌++◌, length, refl, ap, sym, ◌∙◌, subst, arith, ◌⊎◌, inl, inr, Bool, true, false, ◌&&◌, ◌||◌, ◌==◌, cond}
 use Rattle.std.specs.Prelude.{Option, Some, None, IfSome, fold, ◌^◌, if◌then◌else◌}
 use Rattle.std.specs.List.{list_any, before_first}
 use Rattle.std.proofs.lemmas.Bool.Decides.{nat_tests}
 use Rattle.std.proofs.lemmas.List.Folds.{list_any-append}
-use Rattle.std.proofs.lemmas.List.{length-take-le}
-use Rattle.std.proofs.lemmas.Option.{slice_get_read}
 use Rattle.std.specs.FinMap as finite_map
 use Rattle.pass_entry.specs.declared.objects.Descriptor.{Descriptor}
 use Rattle.pass_plain.specs.Registries.{Registry, registry_after}
@@ -21,8 +19,8 @@ use Rattle.pass_plain.specs.Calls.{Made, Step}
 use Rattle.pass_plain.specs.Legal.{IsLegal, MayFollow, before_call, last_number}
 use Rattle.pass_plain.specs.States.{Call, noted, IsLastCall, IsLawful}
 use Rattle.pass_plain.proofs.Lists.{both_true, same_itself, same_numbers}
-use Rattle.pass_plain.proofs.Replays.{append-nil, take-next}
-use Rattle.pass_plain.proofs.Calling.{legal_take, numbered, next_number, last_number-append, call_entries-append, row}
+use Rattle.pass_plain.proofs.Replays.{append-nil}
+use Rattle.pass_plain.proofs.Calling.{numbered, next_number, last_number-append, call_entries-append, row}
 use Rattle.pass_plain.proofs.TwoPrefixes.{first_hit, first_miss}
 use Rattle.pass_plain.proofs.Playing.{before_hit, before_new, no_calls}
 use Rattle.pass_plain.proofs.Rows.{Row}
@@ -162,32 +160,3 @@ offsets_fit history who (session, sound, legal) = λ fd.
     let p = process_after history who in
     let good = good_processes session sound history legal who in
     fits_if p fd (λ d at. offset_fits (registry_after session history) fd d (good.held fd d at) (is_file d) refl) (finite_map.get p.descriptors fd) refl
-
--- a lawful history up to an entry of it
-module _ (history : List Entry) (lawful : IsLawful history) (i : ℕ) (e : Entry) (within : i < length history) (is : e ≡ get_or history i e) (who : ℕ) where
-  legal_before : IsLegal lawful.0 (take i history)
-  legal_before = legal_take lawful.0 history i lawful.2
-
-  pub lawful_take : IsLawful (take i history)
-  lawful_take = (lawful.0, lawful.1, legal_before)
-
-  may_follow : MayFollow lawful.0 (take i history) e
-  may_follow = lawful.2 i e (slice_get_read history (length history) i e refl within is)
-
-  one_more : take (i + 1) history ≡ take i history ++ e ∷ []
-  one_more = take-next history i e within is
-
-  size : length (take i history) ≡ i
-  size = length-take-le i history (omega arith)
-
-  pub numbers_below_at : AllBelow64 e.act
-  numbers_below_at = numbers_below lawful.0 (take i history) e legal_before may_follow
-
-  pub begun_at : has_begun (take (i + 1) history) who ≡ (has_begun (take i history) who || begins who e.call e.act e.what e.reply)
-  begun_at = ap (λ h. has_begun h who) one_more ∙ begun_next (take i history) e who
-
-  pub noted_at : (call : Call) → IsLastCall (take i history) who call → IsLastCall (take (i + 1) history) who (noted call (process_after (take i history) who) i who e)
-  noted_at call last =
-      subst (λ h. IsLastCall h who (noted call (process_after (take i history) who) i who e)) (sym one_more)
-      (subst (λ n. IsLastCall (take i history ++ e ∷ []) who (noted call (process_after (take i history) who) n who e)) size
-      (noted_is lawful.0 (take i history) e legal_before may_follow who call last))

@@ -21,9 +21,7 @@ pub mod Flows
 pub mod Graphs
 pub mod Joined
 pub mod WellLogged
-pub mod PipeEnds
 pub mod NextSteps
 pub mod CallLaws
 pub mod States
-pub mod Cache
 pub mod Lineages

@@ -1,5 +1,5 @@
 -- What a walk over a history keeps, so that it can give the records of the next entry.
-use Rattle.std.specs.Prelude.{ℕ, ◌≡◌, ◌<◌, ◌≤◌, ◌+◌, ◌*◌, ◌^◌, ◌==◌, Bool, true, false, not, ◌&&◌, ◌||◌, List, [], ◌∷◌, ◌++◌, Option, None, length, map, filter, zip, codes, nat_lt, if◌then◌else◌}
+use Rattle.std.specs.Prelude.{ℕ, ◌≡◌, ◌≤◌, ◌*◌, ◌==◌, Bool, true, false, not, ◌&&◌, ◌||◌, List, [], ◌∷◌, ◌++◌, Option, None, length, map, filter, zip, codes, nat_lt, if◌then◌else◌}
 use Rattle.std.specs.Option.{MatchOption, option_map_or}
 use Rattle.std.specs.List.{list_any, range_with_len}
 use Rattle.std.specs.Ordering.{nat_cmp}
@@ -17,7 +17,7 @@ use Rattle.pass_plain.specs.Histories.{is_fault, is_own, pnode_of}
 use Rattle.pass_plain.specs.Registries.{Names, registry_after}
 use Rattle.pass_plain.specs.States.{registry_of}
 use Rattle.pass_plain.specs.Sessions.{opening_bytes, opening_rows, is_opened, opening_version}
-use Rattle.pass_plain.specs.Versions.{same_node, version_in, same_source, source_in, is_used, is_in, is_exec, always_freezes, is_fresh, is_freeze, node_at_entry, nodes_of}
+use Rattle.pass_plain.specs.Versions.{same_node, same_source, source_in, is_used, is_in, is_exec, always_freezes, is_fresh, is_freeze, node_at_entry}
 use Rattle.pass_plain.specs.Legal.{session_of}
 use Rattle.pass_plain.specs.Files.{file_after, file_act}
 use Rattle.pass_plain.specs.Records.{block_size, range_len, has_row, is_written, digest_of, move_records, file_named, args_records, records_of}
@@ -25,7 +25,6 @@ use Rattle.pass_plain.specs.declared.start.Start.{Start}
 use Rattle.pass_plain.specs.declared.contents.Content.{Content}
 use Rattle.pass_plain.specs.declared.nodes.VersionStep.{VersionStep}
 use Rattle.pass_plain.specs.declared.records.Recording.{Recording}
-use Rattle.pass_plain.specs.declared.records.Walk.{Walk}
 
 -- how many blocks a file has at most
 unfoldable pub block_count : ℕ
@@ -138,13 +137,3 @@ pub record IsRecording (start : Start) (history : List Entry) (r : Recording) : 
   pub made : r.registry.made ≤ length history
   pub files : AreKept start history r.files
   pub list : r.list.items ≡ records_of (session_of start 0) history
-
--- what a walk over a history has: the nodes of the entries, and their records
-pub record IsWalk (start : Start) (history : List Entry) (w : Walk) : Type 0 where
-  pub nodes : w.nodes.items ≡ nodes_of (session_of start 0) history
-  pub recording : IsRecording start history w.recording
-  pub versions : (object : ℕ) → version_in (session_of start 0) (nodes_of (session_of start 0) history) object ≤ limit.number_limit + length history
-
--- each object begins with a version that a record can have
-abbrev pub HasVersions : Start → Type 0
-HasVersions start = (object : ℕ) → opening_version start object < limit.number_limit

@@ -1,5 +1,5 @@
 -- Which starts a session may begin with. This project's own rule.
-use Rattle.std.specs.Prelude.{ℕ, List, ◌+◌, ◌*◌, ◌^◌, ◌==◌, ◌≡◌, ◌≤◌, ◌<◌, true, false, Some, IfSome, slice_get, length}
+use Rattle.std.specs.Prelude.{ℕ, List, ◌+◌, ◌*◌, ◌==◌, ◌≡◌, ◌≤◌, ◌<◌, true, false, Some, IfSome, slice_get, length}
 use Rattle.std.specs.List.{list_any}
 use Rattle.pass_entry.specs.declared.objects.Kind.{Kind}
 use Rattle.pass_entry.specs.declared.objects.Node.{Node}

@@ -1,13 +1,10 @@
 //! The content of a file.
 ghost use Rattle.std.specs.Prelude.{◌≡◌, ◌≤◌, ◌+◌, ◌++◌, IfOk, OnOk, length, take, drop, option_copied};
-ghost use Rattle.pass_entry.specs.Limits.{transfer_limit};
 ghost use Rattle.pass_plain.specs.Sessions.{opening_bytes, opened_file as opened_file_of};
 ghost use Rattle.pass_plain.specs.Files.{extended, written, resized, file_act};
-ghost use Rattle.pass_plain.specs.Recording.{bytes_after};
 
-use crate::registry::is_own;
 use crate::start::{Start, StartFile};
-use pass_entry::{Act, Bytes, Entry, Pnode};
+use pass_entry::{Act, Pnode};
 use std::alloc::{AllocError, Global};
 
 /// Makes a content at least this long, with zeros behind it.
@@ -62,6 +59,7 @@ pub fn apply(content: &mut Vec<u8>, act: &Act) -> Result<(), AllocError>
     }
 }
 
+/// The file of this number as it was opened, if it was.
 pub fn opened_file(start: &Start, object: Pnode) -> Option<&StartFile>
     ensures { option_copied result ≡ opened_file_of start.now object }
 {
@@ -83,50 +81,4 @@ pub fn opening_content(alloc: Global, start: &Start, object: Pnode) -> Result<Ve
     ensures { IfOk result (λ v. v.items ≡ opening_bytes start.now object) }
 {
     Vec::from_slice(alloc, opened_bytes(start, object))
-}
-
-/// The content of a file after a history.
-pub fn content_after(
-    alloc: Global,
-    start: &Start,
-    history: &[Entry],
-    object: Pnode,
-) -> Result<Vec<u8>, AllocError>
-    ensures { IfOk result (λ v. v.items ≡ bytes_after start.now history.now object) }
-{
-    let mut content = opening_content(alloc, start, object)?;
-    for i in 0..history.len() {
-        let e = &history[i];
-        if is_own(object, e) {
-            apply(&mut content, &e.act)?;
-        }
-    }
-    Ok(content)
-}
-
-fn bytes_of(alloc: Global, bytes: &[u8]) -> Result<Bytes, AllocError>
-    requires { length bytes.now ≤ transfer_limit }
-    ensures { IfOk result (λ b. b ≡ bytes.now) }
-{
-    match Bytes::of(alloc, bytes) {
-        Ok(bytes) => Ok(bytes),
-        Err(_) => Err(AllocError),
-    }
-}
-
-/// The bytes of a content from a place, at most so many.
-pub fn bytes_from(alloc: Global, content: &[u8], at: u64, len: u32) -> Result<Bytes, AllocError>
-    requires { len ≤ transfer_limit }
-    ensures { IfOk result (λ b. b ≡ take len (drop at content.now)) }
-{
-    if at >= content.len() as u64 {
-        return bytes_of(alloc, &[]);
-    }
-    let rest = &content[at as usize..];
-    let len = len as usize;
-    if len < rest.len() {
-        bytes_of(alloc, &rest[..len])
-    } else {
-        bytes_of(alloc, rest)
-    }
 }

@@ -52,6 +52,7 @@ impl Names {
         Ok(Names { log })
     }
 
+    /// The file of this name.
     pub fn get(&self, name: &Text) -> Option<Pnode>
         ensures { result ≡ finite_map.get self.now name.now }
     {
@@ -63,6 +64,7 @@ impl Names {
         None
     }
 
+    /// No file has the name any more.
     pub fn remove(&mut self, name: &Text)
         ensures { self.new ≡ finite_map.remove self.old name.now }
     {

@@ -70,15 +70,8 @@ impl ProcessState {
         &self.descriptors
     }
 
-    /// The bytes of its last answered read.
-    pub fn last_read(&self) -> &[u8]
-        ensures { result.now ≡ self.now.last_read }
-    {
-        self.last_read.as_slice()
-    }
-
     /// It made this child and has not waited for it.
-    pub fn has_child(&self, child: Pnode) -> bool
+    fn has_child(&self, child: Pnode) -> bool
         ensures { result ≡ finite_set.contains self.now.children child }
     {
         self.children.contains(&child)
@@ -197,7 +190,7 @@ impl ProcessState {
             Act::Spawn { child } => {
                 let _ = self.children.insert(*child)?;
             }
-            Act::Born { descriptors, .. } => self.descriptors = descriptors.clone()?,
+            Act::Born { descriptors, .. } => self.descriptors = descriptors.descriptors(),
             Act::Gain { fd, .. } => {
                 self.last_read = Vec::from_slice(alloc, gained)?;
                 raise(&mut self.descriptors, *fd, gained.len() as u64);

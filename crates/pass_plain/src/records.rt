@@ -1,5 +1,5 @@
-//! The records of a history, by one walk over it.
-ghost use Rattle.std.specs.Prelude.{◌≡◌, ◌<◌, ◌^◌, ◌++◌, ◌∷◌, [], List, IfOk, OnOk, codes, bytes_eq};
+//! The records of a history, entry by entry.
+ghost use Rattle.std.specs.Prelude.{◌≡◌, ◌++◌, ◌∷◌, [], List, IfOk, OnOk, codes, bytes_eq};
 ghost use Rattle.pass_entry.specs.Texts.{IsLine};
 ghost use Rattle.pass_entry.specs.declared.entry.Entry.{Entry as AnyEntry};
 ghost use Rattle.pass_entry.specs.declared.objects.Kind.TheVariants as kind_of;
@@ -8,15 +8,16 @@ ghost use Rattle.pass_plain.specs.Histories.{is_fault as is_fault_of};
 ghost use Rattle.pass_plain.specs.declared.start.Start.{Start as AnyStart};
 ghost use Rattle.pass_plain.specs.Legal.{session_of};
 ghost use Rattle.pass_plain.specs.Registries.{registry_after};
-ghost use Rattle.pass_plain.specs.Records.{file_named as file_named_of, move_records, args_records, entry_records, records_of as records_of_session};
+ghost use Rattle.pass_plain.specs.Records.{file_named as file_named_of, move_records, args_records, entry_records};
 ghost use Rattle.pass_plain.specs.Versions.{nodes_of};
-ghost use Rattle.pass_plain.specs.Recording.{is_change as is_change_of, version_record, input_record, step_records, plain_records, AreKept, IsVersionStep, IsRecording, IsWalk, HasVersions};
+ghost use Rattle.pass_plain.specs.Recording.{is_change as is_change_of, version_record, input_record, step_records, plain_records, AreKept, IsVersionStep, IsRecording};
 
 use crate::contents::{Content, change_file};
 use crate::names::Names;
-use crate::nodes::{VersionStep, version_step};
-use crate::registry::{RegistryState, is_fault, pnode_of};
+use crate::nodes::VersionStep;
+use crate::registry::{RegistryState, is_fault};
 use crate::start::Start;
+use crate::steps::pnode_of;
 use pass_entry::{Act, Entry, Kind, Node, Pnode, Record, Text};
 use std::alloc::{AllocError, Global};
 use std::collections::BTreeMap;
@@ -29,13 +30,6 @@ pub struct Recording {
     /// The changed files by number.
     pub files: BTreeMap<u64, Content>,
     pub list: Vec<Record>,
-}
-
-/// A walk over the first entries of a history, with the node of each.
-#[derive(Drop)]
-pub struct Walk {
-    pub nodes: Vec<Node>,
-    pub recording: Recording,
 }
 
 fn line(alloc: Global, bytes: &[u8]) -> Result<Text, AllocError>
@@ -284,51 +278,4 @@ impl Recording {
     {
         &self.registry.objects
     }
-}
-
-impl Walk {
-    fn new(alloc: Global, start: &Start) -> Result<Walk, AllocError>
-        requires { HasVersions start.now }
-        ensures { IfOk result (IsWalk start.now []) }
-    {
-        Ok(Walk {
-            nodes: Vec::new(alloc),
-            recording: Recording::new(alloc, start)?,
-        })
-    }
-
-    /// Goes on with the entry behind a history.
-    fn note(
-        &mut self,
-        alloc: Global,
-        start: &Start,
-        history: &[Entry],
-        e: &Entry,
-    ) -> Result<(), AllocError>
-        requires { IsWalk start.now history.now self.old }
-        ensures { OnOk result (IsWalk start.now (history.now ++ e.now ∷ []) self.new) }
-    {
-        let step = version_step(start, history, &self.nodes, e);
-        self.recording.note(alloc, start, history, e, &step)?;
-        self.nodes.push(step.node)?;
-        Ok(())
-    }
-}
-
-/// The records of the entries of a history, in order.
-pub fn records_of(
-    alloc: Global,
-    start: &Start,
-    history: &[Entry],
-) -> Result<Vec<Record>, AllocError>
-    requires { HasVersions start.now }
-    ensures { IfOk result (λ v. v.items ≡ records_of_session (session_of start.now 0) history.now) }
-{
-    let mut walk = Walk::new(alloc, start)?;
-    for i in 0..history.len() {
-        walk.note(alloc, start, &history[..i], &history[i])?;
-    }
-    let Walk { recording, .. } = walk;
-    let Recording { list, .. } = recording;
-    Ok(list)
 }

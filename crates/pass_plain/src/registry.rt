@@ -1,18 +1,14 @@
 //! The names and objects of a store.
-ghost use Rattle.std.specs.Prelude.{◌≡◌, ◌<◌, ◌≤◌, ◌+◌, ◌^◌, ◌++◌, OnOk, IfOk, map, length, count_by, false, take, ◌==◌, ◌&&◌};
-ghost use Rattle.std.specs.List.{list_any};
-ghost use Rattle.pass_entry.specs.Limits.{number_limit};
+ghost use Rattle.std.specs.Prelude.{◌≡◌, ◌<◌, ◌≤◌, ◌+◌, ◌^◌, ◌++◌, OnOk, IfOk, map};
 ghost use Rattle.pass_entry.specs.declared.objects.Kind.TheVariants as kind_of;
-ghost use Rattle.pass_plain.specs.declared.start.Start.{Start as AnyStart};
-ghost use Rattle.pass_plain.specs.Histories.{is_fault as is_fault_of, is_own as is_own_of, pnode_of as pnode_in};
-ghost use Rattle.pass_plain.specs.Legal.{session_of};
-ghost use Rattle.pass_plain.specs.Registries.{Registry as AnyRegistry, opening_registry, registry_act, with_object, same_kind as same_kind_of, count_of_kind, is_full as is_full_of, kind_number as kind_number_of};
-ghost use Rattle.pass_plain.specs.Replies.{minted as minted_of, is_app_object as is_app_object_of};
-ghost use Rattle.pass_plain.specs.States.{registry_of, registry_step, IsRegistry};
+ghost use Rattle.pass_plain.specs.Histories.{is_fault as is_fault_of, is_own as is_own_of};
+ghost use Rattle.pass_plain.specs.Registries.{opening_registry, registry_act, with_object};
+ghost use Rattle.pass_plain.specs.States.{registry_of, registry_step};
 
 use crate::names::Names;
 use crate::start::{Start, StartFile};
-use pass_entry::{Act, CallFault, Entry, KIND_LIMIT, Kind, Node, Pnode, Reply};
+use crate::steps::pnode_of;
+use pass_entry::{Act, Entry, Kind, Node, Pnode, Reply};
 use std::alloc::{AllocError, Global};
 
 /// The registry of a store after some entries: the files' names, the objects in the order in which they were made, and how
@@ -24,6 +20,7 @@ pub struct RegistryState {
     pub made: u64,
 }
 
+/// The reply is a fault.
 pub fn is_fault(reply: &Reply) -> bool
     ensures { result ≡ is_fault_of reply.now }
 {
@@ -35,33 +32,6 @@ pub fn is_own(object: Pnode, e: &Entry) -> bool
     ensures { result ≡ is_own_of object e.now }
 {
     e.what == object && !is_fault(&e.reply)
-}
-
-/// The object that a reply gives, 0 where it gives none.
-pub fn pnode_of(reply: &Reply) -> Pnode
-    ensures { result ≡ pnode_in reply.now }
-{
-    match reply {
-        Reply::Made(pnode) => *pnode,
-        _ => Pnode(0),
-    }
-}
-
-fn kind_number(kind: Kind) -> u8
-    ensures { result ≡ kind_number_of kind }
-{
-    match kind {
-        Kind::Process => 1,
-        Kind::File => 2,
-        Kind::Pipe => 3,
-        Kind::App => 4,
-    }
-}
-
-fn same_kind(a: Kind, b: Kind) -> bool
-    ensures { result ≡ same_kind_of a b }
-{
-    kind_number(a) == kind_number(b)
 }
 
 fn file_objects(alloc: Global, files: &[StartFile]) -> Result<Vec<(Pnode, Kind)>, AllocError>
@@ -80,14 +50,6 @@ fn add_apps(objects: &mut Vec<(Pnode, Kind)>, apps: &[Node]) -> Result<(), Alloc
         objects.push((app.pnode, Kind::App))?;
     }
     Ok(())
-}
-
-fn has_app(objects: &[(Pnode, Kind)], pnode: Pnode) -> bool
-    ensures { result ≡ list_any (λ o. o.0 == pnode && same_kind_of o.1 kind_of.App) objects.now }
-{
-    objects
-        .iter()
-        .any(|o| o.0 == pnode && same_kind(o.1, Kind::App))
 }
 
 impl RegistryState {
@@ -148,59 +110,5 @@ impl RegistryState {
             self.apply(&e.act, &e.reply)?;
         }
         Ok(())
-    }
-
-    /// The registry after a history.
-    pub fn after(
-        alloc: Global,
-        start: &Start,
-        history: &[Entry],
-    ) -> Result<RegistryState, AllocError>
-        ensures { IfOk result (IsRegistry start.now history.now) }
-    {
-        let mut state = RegistryState::opened(alloc, start)?;
-        for i in 0..history.len() {
-            state.follow(&history[i])?;
-        }
-        Ok(state)
-    }
-
-    fn count(&self, kind: Kind) -> usize
-        ensures { result ≡ count_of_kind kind (registry_of self.now) }
-    {
-        self.objects.iter().filter(|o| same_kind(o.1, kind)).count()
-    }
-
-    /// No object of this kind may be made any more, in a session that may make so many.
-    fn is_full(&self, objects: u32, kind: Kind) -> bool
-        ensures full { (start : AnyStart) → result ≡ is_full_of (session_of start objects) (registry_of self.now) kind }
-        ensures room { result ≡ false → self.now.made < objects }
-    {
-        if self.made >= u64::from(objects) {
-            return true;
-        }
-        match kind {
-            Kind::File | Kind::App => self.count(kind) >= KIND_LIMIT as usize,
-            _ => false,
-        }
-    }
-
-    /// The answer to the making of an object: its number, or that there are too many.
-    pub fn minted(&self, start: &Start, objects: u32, kind: Kind) -> Reply
-        requires { start.now.ceiling + objects < number_limit }
-        ensures { result ≡ minted_of (session_of start.now objects) (registry_of self.now) kind }
-    {
-        if self.is_full(objects, kind) {
-            Reply::Fault(CallFault::TooMany)
-        } else {
-            Reply::Made(Pnode(start.ceiling + self.made + 1))
-        }
-    }
-
-    /// An app object has this number.
-    pub fn is_app(&self, pnode: Pnode) -> bool
-        ensures { result ≡ is_app_object_of (registry_of self.now) pnode }
-    {
-        has_app(&self.objects, pnode)
     }
 }

@@ -3,11 +3,12 @@ ghost use Rattle.pass_plain.specs.Legal.{session_of};
 ghost use Rattle.pass_plain.specs.Sound.{IsSound};
 
 use pass_entry::{
-    Act, Bytes, CallName, Descriptor, Descriptors, Entry, Kind, Mode, Node, Pnode, Record, Reply,
-    Text,
+    Act, Bytes, CallName, Descriptor, Descriptors, Entry, Inherited, Kind, Mode, Node, Pnode,
+    Record, Reply, Text,
 };
 use pass_graph::check;
-use pass_plain::{Plain, Start};
+use pass_plain::Start;
+use pass_reference::Plain;
 use std::alloc::{AllocError, Global};
 use std::test::Fail;
 
@@ -61,14 +62,14 @@ fn file(pnode: u64) -> Descriptor {
     }
 }
 
-/// What a child holds.
-fn held(has_second: bool) -> Descriptors {
+/// What a child begins with.
+fn held(alloc: Global, has_second: bool) -> Result<Inherited, AllocError> {
     let mut held = Descriptors::new();
     held.put(3, file(2));
     if has_second {
         held.put(4, file(3));
     }
-    held
+    Inherited::of(alloc, &held)
 }
 
 fn act_of(alloc: Global, step: Step) -> Result<Act, Fail> {
@@ -80,6 +81,10 @@ fn act_of(alloc: Global, step: Step) -> Result<Act, Fail> {
             out,
             at: 0,
             bytes: Bytes::of(alloc, b"x")?,
+        },
+        Step::Born(out, has_second) => Act::Born {
+            out,
+            descriptors: held(alloc, has_second)?,
         },
         other => plain_act(other),
     })
@@ -96,10 +101,6 @@ fn plain_act(step: Step) -> Act {
         },
         Step::Spawn(child) => Act::Spawn {
             child: Pnode(child),
-        },
-        Step::Born(out, has_second) => Act::Born {
-            out,
-            descriptors: held(has_second),
         },
         Step::Give => Act::Give { at: 0, len: 1 },
         Step::Gain(out, fd) => Act::Gain { out, fd },

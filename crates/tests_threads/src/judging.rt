@@ -5,7 +5,8 @@ ghost use Rattle.pass_plain.specs.Legal.{session_of};
 ghost use Rattle.pass_plain.specs.Sound.{IsSound};
 
 use pass_entry::Entry;
-use pass_plain::{Plain, Start};
+use pass_plain::Start;
+use pass_reference::Plain;
 use std::alloc::Global;
 use std::process::Abort;
 use std::test::*;

@@ -1,6 +1,0 @@
-use Rattle.std.proofs.Common.{take}
-use Rattle.pass_plain.specs.States.{IsCaller}
-use Rattle.pass_plain.proofs.callers.Caller.after.Given as goal
-
-abbrev pub invariant-loop-i : goal.invariant-loop-i
-invariant-loop-i l = IsCaller (take l.i l.history) l.who l.caller

@@ -1,6 +1,0 @@
-use Rattle.std.proofs.Common.{take}
-use Rattle.pass_plain.specs.States.{IsPipe}
-use Rattle.pass_plain.proofs.pipe.PipeState.after.Given as goal
-
-abbrev pub invariant-loop-i : goal.invariant-loop-i
-invariant-loop-i l = IsPipe (take l.i l.history) l.object l.state

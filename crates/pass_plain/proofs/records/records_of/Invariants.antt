@@ -1,6 +1,0 @@
-use Rattle.std.proofs.Common.{take}
-use Rattle.pass_plain.specs.Recording.{IsWalk}
-use Rattle.pass_plain.proofs.records.records_of.Given as goal
-
-abbrev pub invariant-loop-i : goal.invariant-loop-i
-invariant-loop-i l = IsWalk l.start (take l.i l.history) l.walk

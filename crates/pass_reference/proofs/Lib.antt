@@ -1,0 +1,4 @@
+pub mod States
+pub mod Allowing
+pub mod Caching
+pub mod Walking

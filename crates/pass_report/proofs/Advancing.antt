@@ -173,7 +173,7 @@ module _ (session : Session) (history : List Entry) (legal : IsLegal session his
       ∙ ap (λ text. if not (is_start e.call) && ended then text else [])
       (call_same history nodes known e n (λ out names. let (before, given) = source_law session history legal place e out at names in same_node_at out (omega (arith, before)))))
 
-pub next_of : (start : Start) (session : Session) (history : List Entry) → IsLegalFrom start history session → length history < 2 ^ 52
+pub next_of : (start : Start) (session : Session) (history : List Entry) → IsLegalFrom start history session → length history < 2 ^ 57
     → (place : ℕ) (e : Entry) → slice_get history place ≡ Some e → IsNext start session (take place history) e
 next_of start session history from short place e at = record {
   same = from.same;

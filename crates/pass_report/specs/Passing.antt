@@ -13,4 +13,4 @@ pub record IsNext (start : Start) (session : Session) (past : List Entry) (e : E
   pub sound : IsSound session
   pub legal : IsLegal session past
   pub next : MayFollow session past e
-  pub short : length past < 2 ^ 52
+  pub short : length past < 2 ^ 57

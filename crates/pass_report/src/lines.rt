@@ -120,7 +120,7 @@ pub fn write_end(
     text: &mut String,
     stuck: bool,
     entries: usize,
-    records: u64,
+    records: u128,
 ) -> Result<(), AllocError>
     ensures { OnOk result (string_bytes text.new ≡ string_bytes text.old ++ (codes "end " ++ (if stuck then codes "stuck " else codes "done ") ++ decimal entries ++ codes " entries " ++ decimal records ++ codes " records" ++ 10 ∷ [])) }
 {

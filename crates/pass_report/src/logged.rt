@@ -22,7 +22,7 @@ use std::collections::BTreeSet;
 /// The records of the entries so far: how many there are, and their edges in order.
 #[derive(Drop)]
 pub struct Logged {
-    pub records: u64,
+    pub records: u128,
     pub edges: BTreeSet<Edge>,
     files: Files,
     names: Names,
@@ -109,7 +109,7 @@ impl Logged {
         let own = own_records(&self.names, &entry.act, turn);
         let content = self.files.note(start, entry)?;
         self.names.note(entry)?;
-        self.records += own + content;
+        self.records += u128::from(own + content);
         join(&mut self.edges, turn)
     }
 }

@@ -14,7 +14,7 @@ use Rattle.pass_report.proofs.Advancing.{next_of, one_further}
 use Rattle.pass_report.proofs.recording.recorded.Goals as goal
 
 -- the entry at a place may come next in a session with this very start
-next_at : (start : Start) (objects : ℕ) (history : List Entry) → IsSound (session_of start objects) → IsLegal (session_of start objects) history → length history < 2 ^ 52
+next_at : (start : Start) (objects : ℕ) (history : List Entry) → IsSound (session_of start objects) → IsLegal (session_of start objects) history → length history < 2 ^ 57
     → (place : ℕ) (e : Entry) → slice_get history place ≡ Some e → IsNext start (session_of start objects) (take place history) e
 next_at start objects history sound legal short place e at =
     let from : IsLegalFrom start history (session_of start objects) = record { same = record { ceiling = refl; files = refl; apps = refl }; sound = sound; legal = legal } in

@@ -1,5 +1,5 @@
 -- The vault's list of syncs, and the entries that it backs.
-use Rattle.std.specs.Prelude.{◌≡◌, ℕ, ◌<◌, ◌≤◌, List, [], ◌∷◌, Some, None, slice_get, take}
+use Rattle.std.specs.Prelude.{◌≡◌, ℕ, ◌<◌, ◌≤◌, Bool, true, false, List, [], ◌∷◌, Option, Some, None, map, slice_get, take}
 use Rattle.pass_entry.specs.declared.entry.Entry.{Entry}
 use Rattle.pass_entry.specs.declared.entry.Act.TheVariants as act
 use Rattle.pass_book.specs.declared.view.FileMark.{FileMark}
@@ -22,6 +22,15 @@ called_from c (s ∷ ss) = called_from s.calls ss
 
 abbrev pub called : List VaultSync → ℕ
 called ss = called_from 0 ss
+
+-- the places of blocks that are given with their bytes
+abbrev pub numbers_of : List (ℕ × List ℕ) → List ℕ
+numbers_of blocks = map (λ b. b.0) blocks
+
+-- of a staging these places; of a sync none
+abbrev pub staged_as : Bool → List (ℕ × List ℕ) → Option (List ℕ)
+staged_as true blocks = Some (numbers_of blocks)
+staged_as false blocks = None
 
 -- neither number falls
 abbrev pub rising_from : ℕ → ℕ → List VaultSync → Type 0

@@ -6,7 +6,7 @@ ghost use Rattle.pass_plain.specs.Sound.{IsSound};
 ghost use Rattle.pass_book.specs.declared.view.Role.TheVariants as role;
 ghost use Rattle.pass_book.specs.Names.{name, Among};
 ghost use Rattle.pass_book.specs.Numbers.{IsFileNumber};
-ghost use Rattle.pass_book.specs.Syncs.{called, durable, IsRising, AreNumbered};
+ghost use Rattle.pass_book.specs.Syncs.{called, durable, numbers_of, staged_as, IsRising, AreNumbered};
 ghost use Rattle.pass_book.specs.Tokens.{HasMet};
 ghost use Rattle.pass_book.specs.Tokens as tokens;
 ghost use Rattle.pass_book.specs.Views as views;
@@ -16,6 +16,7 @@ use crate::steps::{Place, hear, leave_now, note, seated, taken};
 use crate::tokens::Desk;
 use crate::vault_steps::{give_desk, note_file, note_flush, take_desk};
 use crate::view::Role;
+use pass_entry::Bytes;
 use std::alloc::Global;
 use std::marker::Model;
 use std::snapshot::Snapshot;
@@ -124,11 +125,63 @@ impl VaultSeat {
         ensures met { HasMet (name role.Desk desk.old.what) desk.old.seen desk.old.syncs self.old.seen self.old.syncs desk.new.seen self.old.syncs }
         ensures vault_met { IsPrefix self.old.seen self.new.seen }
     {
+        self.noted_file(desk, number, false, &[], calls, entries);
+    }
+
+    /// The same of these blocks of the desk's file, which wait to be written later. It takes no memory.
+    pub fn staged_file(
+        &mut self,
+        desk: &mut Desk,
+        number: u32,
+        blocks: &[(u32, Bytes)],
+        calls: u64,
+        entries: u64,
+    )
+        requires one { desk.old.book ≡ self.old.book }
+        requires number { IsFileNumber self.old.book.session desk.old.seen desk.old.what number }
+        requires calls { called self.old.syncs ≤ calls }
+        requires entries { (durable self.old.syncs ≤ entries) × (entries ≤ length self.old.seen) }
+        ensures vault { self.new ≡ record self.old { seen = desk.new.seen; syncs = self.old.syncs ++ record { calls = calls; entries = entries; file = Some (record { pnode = desk.old.what; number = number }); staged = Some (numbers_of blocks.now) } ∷ [] } }
+        ensures desk { desk.new ≡ record desk.old { seen = desk.new.seen; syncs = self.new.syncs } }
+        ensures met { HasMet (name role.Desk desk.old.what) desk.old.seen desk.old.syncs self.old.seen self.old.syncs desk.new.seen self.old.syncs }
+        ensures vault_met { IsPrefix self.old.seen self.new.seen }
+    {
+        self.noted_file(desk, number, true, blocks, calls, entries);
+    }
+
+    // The same of a sync or a staging of the desk's file.
+    fn noted_file(
+        &mut self,
+        desk: &mut Desk,
+        number: u32,
+        waits: bool,
+        blocks: &[(u32, Bytes)],
+        calls: u64,
+        entries: u64,
+    )
+        requires one { desk.old.book ≡ self.old.book }
+        requires number { IsFileNumber self.old.book.session desk.old.seen desk.old.what number }
+        requires calls { called self.old.syncs ≤ calls }
+        requires entries { (durable self.old.syncs ≤ entries) × (entries ≤ length self.old.seen) }
+        ensures vault { self.new ≡ record self.old { seen = desk.new.seen; syncs = self.old.syncs ++ record { calls = calls; entries = entries; file = Some (record { pnode = desk.old.what; number = number }); staged = staged_as waits blocks.now } ∷ [] } }
+        ensures desk { desk.new ≡ record desk.old { seen = desk.new.seen; syncs = self.new.syncs } }
+        ensures met { HasMet (name role.Desk desk.old.what) desk.old.seen desk.old.syncs self.old.seen self.old.syncs desk.new.seen self.old.syncs }
+        ensures vault_met { IsPrefix self.old.seen self.new.seen }
+    {
         let seat = taken(&mut desk.sight.badge);
         let old = Snapshot::of(&seat);
         let table = &self.table.shared;
         take_desk(table, &mut self.seat, seat);
-        note_file(table, &mut self.seat, &old, number, calls, entries);
+        note_file(
+            table,
+            &mut self.seat,
+            &old,
+            number,
+            waits,
+            blocks,
+            calls,
+            entries,
+        );
         desk.sight.badge = give_desk(table, &mut self.seat, &old).into_badge();
         desk.sight.len = greater(desk.sight.len, self.len);
         self.len = desk.sight.len;

@@ -4,12 +4,13 @@ ghost use Rattle.pass_plain.specs.Legal.{IsLegal};
 ghost use Rattle.pass_book.specs.declared.view.Role.TheVariants.{Desk, Vault};
 ghost use Rattle.pass_book.specs.Names.{name, Among};
 ghost use Rattle.pass_book.specs.Numbers.{IsFileNumber};
-ghost use Rattle.pass_book.specs.Syncs.{durable, called};
+ghost use Rattle.pass_book.specs.Syncs.{durable, called, staged_as};
 ghost use Rattle.pass_book.specs.Tokens as tokens;
 ghost use Rattle.pass_book.specs.Views as views;
 
 use crate::rule::{Lends, Naming, Noting, Returns, Syncing, Takes};
 use crate::steps::{Desks, Place, hear, note};
+use pass_entry::Bytes;
 use std::marker::Brand;
 use std::snapshot::Snapshot;
 
@@ -51,28 +52,33 @@ fn note_data<Y: Syncing>(
     vault: &mut Place,
     desk: &Snapshot<Place>,
     number: u32,
+    waits: bool,
+    blocks: &[(u32, Bytes)],
     calls: u64,
     entries: u64,
 )
     requires at { tokens.At (name Vault 0) table.now.table_id vault.old.table_id vault.old.me.0 }
-    requires sync { Y.sync ≡ record { calls = calls; entries = entries; file = Some (record { pnode = desk.now.value.me.0.name.number; number = number }); staged = None } }
+    requires sync { Y.sync ≡ record { calls = calls; entries = entries; file = Some (record { pnode = desk.now.value.me.0.name.number; number = number }); staged = staged_as waits blocks.now } }
     requires calls { called vault.old.me.0.syncs ≤ calls }
     requires entries { (durable vault.old.me.0.syncs ≤ entries) × (entries ≤ length vault.old.me.0.seen) }
     requires desk { Among (name Desk desk.now.value.me.0.name.number) vault.old.me.0.away }
     requires number { IsFileNumber (views.session_in vault.old.me.0.opened) vault.old.me.0.seen desk.now.value.me.0.name.number number }
-    ensures { (vault.new.table_id ≡ vault.old.table_id) × (vault.new.me ≡ (views.syncing (record { calls = calls; entries = entries; file = Some (record { pnode = desk.now.value.me.0.name.number; number = number }); staged = None }) vault.old.me.0, vault.old.me.1)) }
+    ensures { (vault.new.table_id ≡ vault.old.table_id) × (vault.new.me ≡ (views.syncing (record { calls = calls; entries = entries; file = Some (record { pnode = desk.now.value.me.0.name.number; number = number }); staged = staged_as waits blocks.now }) vault.old.me.0, vault.old.me.1)) }
 {
     let _ = desk;
-    let _ = (number, calls);
+    let _ = blocks;
+    let _ = (number, waits, calls);
     note_sync::<Y>(table, vault, entries)
 }
 
-/// The vault notes that the data of the file was synced whose desk it has.
+/// The vault notes a sync of the file whose desk it has, or a staging of these blocks.
 pub(crate) fn note_file(
     table: &Desks,
     vault: &mut Place,
     desk: &Snapshot<Place>,
     number: u32,
+    waits: bool,
+    blocks: &[(u32, Bytes)],
     calls: u64,
     entries: u64,
 )
@@ -82,10 +88,10 @@ pub(crate) fn note_file(
     requires entries { (durable vault.old.me.0.syncs ≤ entries) × (entries ≤ length vault.old.me.0.seen) }
     requires desk { Among (name Desk desk.now.value.me.0.name.number) vault.old.me.0.away }
     requires number { IsFileNumber (views.session_in vault.old.me.0.opened) vault.old.me.0.seen desk.now.value.me.0.name.number number }
-    ensures vault { (vault.new.table_id ≡ vault.old.table_id) × (vault.new.me ≡ (views.syncing (record { calls = calls; entries = entries; file = Some (record { pnode = desk.now.value.me.0.name.number; number = number }); staged = None }) vault.old.me.0, vault.old.me.1)) }
+    ensures vault { (vault.new.table_id ≡ vault.old.table_id) × (vault.new.me ≡ (views.syncing (record { calls = calls; entries = entries; file = Some (record { pnode = desk.now.value.me.0.name.number; number = number }); staged = staged_as waits blocks.now }) vault.old.me.0, vault.old.me.1)) }
     ensures past { tokens.IsVaultPast (views.session_in vault.new.me.0.opened) vault.new.me.0.seen vault.new.me.0.syncs }
 {
-    note_data::<Brand>(table, vault, desk, number, calls, entries)
+    note_data::<Brand>(table, vault, desk, number, waits, blocks, calls, entries)
 }
 
 // A desk goes to the vault, which then has seen what the desk had seen.

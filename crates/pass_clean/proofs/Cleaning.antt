@@ -1,6 +1,6 @@
 -- What syncs leave clean.
 use Rattle.std.proofs.Common.{◌≡◌, ◌∙◌, ℕ, ◌<◌, ◌≤◌, ◌==◌, ◌&&◌, max, if◌then◌else◌, Bool, true, false, cond, List, [], ◌∷◌, ◌++◌, length, filter, refl, sym, ap, arith}
-use Rattle.std.specs.Prelude.{Option, Some, None, nat_le}
+use Rattle.std.specs.Prelude.{Option, Some, None, nat_le, not}
 use Rattle.std.specs.Option.{option_map_or}
 use Rattle.std.specs.List.{list_any}
 use Rattle.pass_plain.proofs.Lists.{same_itself}
@@ -10,7 +10,7 @@ use Rattle.pass_book.specs.declared.view.Role.TheVariants as role
 use Rattle.pass_book.specs.declared.view.VaultSync.{VaultSync}
 use Rattle.pass_book.specs.Names.{name, concerns, Listed}
 use Rattle.pass_book.specs.Syncs.{durable_from, durable, rising_from, IsRising}
-use Rattle.pass_clean.specs.Cleaned.{covers, cleaned, is_dirty_from, ListedLaw, DurableLaw, SyncedLaw}
+use Rattle.pass_clean.specs.Cleaned.{covers, cleaned, is_dirty_from, ListedLaw, DurableLaw, SyncedLaw, StagedLaw}
 use Rattle.pass_range.specs.Dirtied.{dirtied_at}
 use Rattle.pass_range.proofs.Dirtying.{below_law}
 
@@ -75,3 +75,40 @@ synced_law session history ss s number file block mark whole all = by_place (dir
       where
         not_dirty : (c a : ℕ) → a < c → nat_le c a ≡ false
         not_dirty c a less = grind (arith, nat_tests)
+
+-- one more sync cleans what it covers, and leaves the rest
+cleaned_more : (file block : ℕ) (ss : List VaultSync) (s : VaultSync) → cleaned file block (ss ++ s ∷ []) ≡ max (cleaned file block ss) (if concerns (name role.Desk file) s && covers block s then s.entries else 0)
+cleaned_more file block [] s = flip (if concerns (name role.Desk file) s && covers block s then s.entries else 0)
+  where
+    flip : (m : ℕ) → max m 0 ≡ max 0 m
+    flip m = omega arith
+cleaned_more file block (t ∷ ss) s =
+    let more = cleaned_more file block ss s in
+    turn (if concerns (name role.Desk file) t && covers block t then t.entries else 0) (cleaned file block (ss ++ s ∷ [])) (cleaned file block ss) (if concerns (name role.Desk file) s && covers block s then s.entries else 0) more
+  where
+    turn : (m c k n : ℕ) → c ≡ max k n → max m c ≡ max (max m k) n
+    turn m c k n is = omega (arith, is)
+
+-- a staging of the file covers its own blocks
+staged_covers : (number file block : ℕ) (s : VaultSync) (blocks : List ℕ) → s.file ≡ Some (record { pnode = file; number = number }) → s.staged ≡ Some blocks
+    → (concerns (name role.Desk file) s && covers block s) ≡ list_any (λ b. b == block) blocks
+staged_covers number file block s blocks mark staged =
+    (λ i. option_map_or (λ (f : FileMark). f.pnode == file) (mark i) false && option_map_or (λ blocks. list_any (λ b. b == block) blocks) (staged i) true)
+    ∙ ap (λ b. b && list_any (λ b. b == block) blocks) (same_itself file)
+
+dirty_after : (low now entries at : ℕ) (among : Bool) → at < entries → now ≡ max low (if among then entries else 0) → nat_le now at ≡ (nat_le low at && not among)
+dirty_after low now entries at true less is = grind (arith, nat_tests, less, is)
+dirty_after low now entries at false less is = grind (arith, nat_tests, less, is)
+
+pub staged_law : StagedLaw
+staged_law session history ss s number file block blocks mark staged all = by_place (dirtied_at session history file block) refl
+  where
+    more : cleaned file block (ss ++ s ∷ []) ≡ max (cleaned file block ss) (if list_any (λ b. b == block) blocks then s.entries else 0)
+    more = cleaned_more file block ss s ∙ ap (λ t. max (cleaned file block ss) (if t then s.entries else 0)) (staged_covers number file block s blocks mark staged)
+
+    by_place : (o : Option ℕ) → dirtied_at session history file block ≡ o
+        → option_map_or (is_dirty_from (cleaned file block (ss ++ s ∷ []))) o false ≡ (option_map_or (is_dirty_from (cleaned file block ss)) o false && not (list_any (λ b. b == block) blocks))
+    by_place None is = refl
+    by_place (Some at) is =
+        let low = below_law session history file block at is in
+        dirty_after (cleaned file block ss) (cleaned file block (ss ++ s ∷ [])) s.entries at (list_any (λ b. b == block) blocks) (omega (arith, low, all)) more

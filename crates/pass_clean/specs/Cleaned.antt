@@ -1,5 +1,5 @@
 -- Which blocks of a file its syncs leave dirty.
-use Rattle.std.specs.Prelude.{◌≡◌, ℕ, ◌≤◌, ◌==◌, ◌&&◌, Bool, true, false, max, nat_le, if◌then◌else◌, List, [], ◌∷◌, ◌++◌, Some, None, length}
+use Rattle.std.specs.Prelude.{◌≡◌, ℕ, ◌≤◌, ◌==◌, ◌&&◌, Bool, true, false, max, nat_le, not, if◌then◌else◌, List, [], ◌∷◌, ◌++◌, Some, None, length}
 use Rattle.std.specs.Option.{option_map_or}
 use Rattle.std.specs.List.{list_any}
 use Rattle.pass_entry.specs.declared.entry.Entry.{Entry}
@@ -40,3 +40,8 @@ DurableLaw = (file block : ℕ) (ss : List VaultSync) → IsRising ss → cleane
 abbrev pub SyncedLaw : Type 0
 SyncedLaw = (session : Session) (history : List Entry) (ss : List VaultSync) (s : VaultSync) (number file block : ℕ) → s.file ≡ Some (record { pnode = file; number = number }) → s.staged ≡ None
     → length history ≤ s.entries → is_dirty session history (ss ++ s ∷ []) file block ≡ false
+
+-- a staging of blocks with all entries of a history leaves dirty what was so but for these
+abbrev pub StagedLaw : Type 0
+StagedLaw = (session : Session) (history : List Entry) (ss : List VaultSync) (s : VaultSync) (number file block : ℕ) (blocks : List ℕ) → s.file ≡ Some (record { pnode = file; number = number }) → s.staged ≡ Some blocks
+    → length history ≤ s.entries → is_dirty session history (ss ++ s ∷ []) file block ≡ (is_dirty session history ss file block && not (list_any (λ b. b == block) blocks))

@@ -1,4 +1,5 @@
-use Rattle.std.proofs.Common.{◌≡◌, None, Some, ap, subst}
+use Rattle.std.proofs.Common.{◌≡◌, Some, ap, subst}
+use Rattle.pass_book.specs.Syncs.{staged_as}
 use Rattle.pass_book.specs.declared.view.FileMark.{FileMark}
 use Rattle.pass_book.specs.Numbers.{IsFileNumber}
 use Rattle.pass_book.specs.Views.{session_in}
@@ -13,4 +14,4 @@ returns-clause-past c =
     let mark : FileMark = record { pnode = n; number = c.args.number } in
     let marked : (f : FileMark) → Some mark ≡ Some f → IsFileNumber (session_in v.opened) v.seen f.pnode f.number = λ f e.
     subst (λ (g : FileMark). IsFileNumber (session_in v.opened) v.seen g.pnode g.number) (some_same mark f e) c.requires.number in
-    past_noted v _ (record { calls = c.args.calls; entries = c.args.entries; file = Some mark; staged = None }) c.requires.past (ap (λ m. m.0) c.note_data.ensures.1) c.requires.calls c.requires.entries.0 c.requires.entries.1 marked
+    past_noted v _ (record { calls = c.args.calls; entries = c.args.entries; file = Some mark; staged = staged_as c.args.waits c.args.blocks.now }) c.requires.past (ap (λ m. m.0) c.note_data.ensures.1) c.requires.calls c.requires.entries.0 c.requires.entries.1 marked

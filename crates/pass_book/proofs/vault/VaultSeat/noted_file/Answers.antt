@@ -12,7 +12,7 @@ use Rattle.pass_book.specs.Tokens.{BookId, DeskState, VaultState, IsVaultPast, v
 use Rattle.pass_book.proofs.Backed.{number_stays}
 use Rattle.pass_book.proofs.Badges.{past_legal, length-longer, is_held, desk_unlike}
 use Rattle.pass_book.proofs.Meetings.{vault_now, without_self}
-use Rattle.pass_book.proofs.vault.VaultSeat.synced_file.Goals as goal
+use Rattle.pass_book.proofs.vault.VaultSeat.noted_file.Goals as goal
 
 -- the desk's history is legal in the vault's session
 pub take_desk-requires-clause-legal : goal.take_desk-requires-clause-legal

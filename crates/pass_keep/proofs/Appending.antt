@@ -12,7 +12,8 @@ use Rattle.pass_entry.specs.declared.record.Record.{Record}
 use Rattle.pass_outside.specs.Areas.{Image}
 use Rattle.pass_outside.specs.Moments.{Moment, IsAtEnd, Adds, AfterStep, Follows}
 use Rattle.pass_log.specs.declared.log.Log.{Log}
-use Rattle.pass_log.specs.Log.{IsSettled, IsFrameOf, SameStore}
+use Rattle.pass_outside.specs.Runs.{adds_nothing, adds_steps, follows_both}
+use Rattle.pass_log.specs.Log.{IsSettled, IsFrameOf, SameStore, LeavesStore}
 use Rattle.pass_log.specs.Records.{image_of, with_batch, IsOldOrBoth, spellings}
 use Rattle.pass_keep.specs.Kept.{Story, IsStory, Noted, IsKept, AreParts}
 use Rattle.pass_keep.specs.Parts.{lists_of, frames_length, bytes_length, AreFrames, KeepsMore, KeepsStill}
@@ -139,6 +140,20 @@ partly_all frames old new first log i high partly = λ s noted durable upto part
     let p = partly s noted durable upto parts is kept within cut are in
     let rest = subst (AreParts s p.upto_here upto) (none_left parts frames i high are) p.rest in
     more_without_records s is new log p.upto_here noted p.kept upto rest.0 within rest.1
+
+-- the store area stays while frames are appended
+pub leaves_none : (m : Moment) → LeavesStore m m
+leaves_none m = record { reads = λ told. refl; at_once = λ c may. (c, may, refl); moments = adds_nothing m (AfterStep SameStore m) }
+
+pub leaves_more : (old mid new : Moment) → mid.tells ≡ old.tells → LeavesStore old mid → LeavesStore mid new → LeavesStore old new
+leaves_more old mid new tells one two = record {
+  reads = λ told. two.reads (subst IsTrue (sym tells) told) ∙ one.reads told;
+  at_once = follows_both SameStore old mid new same_two one.at_once two.at_once;
+  moments = adds_steps SameStore old mid new same_two one.at_once one.moments two.moments;
+}
+  where
+    same_two : (a b c : Image) → SameStore a b → SameStore b c → SameStore a c
+    same_two a b c first then_ = then_ ∙ first
 
 -- the end of the log when a frame more is appended
 pub place_more : (frames : List (Vec ℕ Global)) (i : ℕ) (v : Vec ℕ Global) → i < length frames → (before after all : ℕ) → before + bytes_length (drop i frames) ≡ all

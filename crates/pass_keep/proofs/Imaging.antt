@@ -60,7 +60,8 @@ last_of P (y ∷ xs) x h = last_of P xs x h.1
 -- entries, and no range whose row comes from one of them is unmatched.
 pub settled : (s : Story) → IsStory s → (m : Moment) (log : Log) (durable : ℕ) (front : List Noted) (last : Noted) → IsKept s m log durable (front ++ last ∷ []) → IsTrue m.tells
     → ((t u : ℕ) (c : Image) → t ≤ u → m.left_since u c → m.left_since t c) → last.entries ≡ length s.history → Every (λ x. x.calls ≤ last.calls) (front ++ last ∷ [])
-    → ((p b number k : ℕ) → source_to s (length s.history) p b ≡ Some k → number_of (list_to s (length s.history)) p ≡ Some number → k < covered (front ++ last ∷ []) number)
+    → ((p b number k : ℕ) → source_to s (length s.history) p b ≡ Some k → number_of (list_to s (length s.history)) p ≡ Some number
+    → (k < covered (front ++ last ∷ []) number) ⊎ ((c : Image) → m.left_since last.calls c → Holds (place number b) (range_to s (length s.history) p b) c.store))
     → (c : Image) → m.left_since last.calls c
     → HasRecords (list_to s (length s.history)) c.log
     × ((p b k : ℕ) → source_to s (length s.history) p b ≡ Some k → IsUnmatched (list_to s (length s.history)) c.store p b → ⊥)
@@ -71,11 +72,15 @@ settled s is m log durable front last kept told less whole ordered clean c since
     let records : HasRecords (list_to s (length s.history)) c.log = subst (λ (n : ℕ). HasRecords (list_to s n) c.log) all left.records in (
       records,
       λ p b k from unmatched.
-          let known = number_known s is (length s.history) p b k from in
-          let x = covering (λ y. IsKeptSince s m durable y × (y.calls ≤ last.calls)) known.0 k (front ++ last ∷ []) (clean p b known.0 k from known.1)
+          let known = number_known s is (length s.history) p b k from in ⊎_elim
+          (λ (low : k < covered (front ++ last ∷ []) known.0).
+          let x = covering (λ y. IsKeptSince s m durable y × (y.calls ≤ last.calls)) known.0 k (front ++ last ∷ []) low
           (every_both (IsKeptSince s m durable) (λ y. y.calls ≤ last.calls) (front ++ last ∷ []) kept.past ordered) in
           let reached = bound_some x.0 known.0 k x.2 in
-          (range_matched s is m durable x.0 x.1.0 told c (less x.0.calls last.calls c x.1.1 since) (length s.history) (omega arith) records p b known.0 k reached.0 known.1 from reached.1).1 unmatched,
+          (range_matched s is m durable x.0 x.1.0 told c (less x.0.calls last.calls c x.1.1 since) (length s.history) (omega arith) records p b known.0 k reached.0 known.1 from reached.1).1 unmatched)
+          (λ (held : (c : Image) → m.left_since last.calls c → Holds (place known.0 b) (range_to s (length s.history) p b) c.store).
+          matched s is (length s.history) p b k known.0 from known.1 c.store (held c since) unmatched)
+          (clean p b known.0 k from known.1),
     )
 
 -- A longer history: what is kept of a session is kept of it with more entries.

@@ -1,5 +1,5 @@
 -- The laws of a keeper's images, each as it is stated.
-use Rattle.std.proofs.Common.{◌≡◌, ℕ, zero, suc, ◌<◌, ◌≤◌, List, [], ◌∷◌, ◌++◌, length, IsTrue, true, Some, refl, sym, subst, arith}
+use Rattle.std.proofs.Common.{◌≡◌, ◌⊎◌, ℕ, zero, suc, ◌<◌, ◌≤◌, List, [], ◌∷◌, ◌++◌, length, IsTrue, true, Some, refl, sym, subst, arith}
 use Rattle.std.specs.Prelude.{slice_get}
 use Rattle.pass_entry.specs.declared.entry.Entry.{Entry}
 use Rattle.pass_entry.specs.declared.entry.Synced.{Synced}
@@ -38,14 +38,16 @@ module _ {D : Type 0} (view : D → Moment) (past : Past) (k : Keeper D) (keeper
   pub settled_shown : ((t u : ℕ) (c : Image) → t ≤ u → (view k.disk).left_since u c → (view k.disk).left_since t c) → IsTrue (view k.disk).tells
       → (front : List Noted) (last : Noted) → past.noted ≡ front ++ last ∷ [] → last.entries ≡ length past.story.history
       → ((i : ℕ) (x : Noted) → slice_get past.noted i ≡ Some x → x.calls ≤ last.calls)
-      → ((p b number at : ℕ) → source_to past.story (length past.story.history) p b ≡ Some at → number_of (list_to past.story (length past.story.history)) p ≡ Some number → at < covered past.noted number)
+      → ((p b number at : ℕ) → source_to past.story (length past.story.history) p b ≡ Some at → number_of (list_to past.story (length past.story.history)) p ≡ Some number
+      → (at < covered past.noted number) ⊎ ((c : Image) → (view k.disk).left_since last.calls c → Holds (place number b) (range_to past.story (length past.story.history) p b) c.store))
       → (c : Image) → (view k.disk).left_since last.calls c
       → HasRecords (list_to past.story (length past.story.history)) c.log
       × ((p b at : ℕ) → source_to past.story (length past.story.history) p b ≡ Some at → IsUnmatched (list_to past.story (length past.story.history)) c.store p b → ⊥)
   settled_shown less told front last split whole ordered clean c since =
       settled past.story keeper.story (view k.disk) k.log k.durable front last (subst (IsKept past.story (view k.disk) k.log k.durable) split keeper.kept) told less whole
       (subst (Every (λ x. x.calls ≤ last.calls)) split (every_from (λ x. x.calls ≤ last.calls) past.noted ordered))
-      (λ p b number at from numbered. subst (λ (l : List Noted). at < covered l number) split (clean p b number at from numbered)) c since
+      (λ p b number at from numbered.
+      subst (λ (l : List Noted). (at < covered l number) ⊎ ((c : Image) → (view k.disk).left_since last.calls c → Holds (place number b) (range_to past.story (length past.story.history) p b) c.store)) split (clean p b number at from numbered)) c since
 
   pub timed_shown : AreTimed (view k.disk) (length past.story.history) k.syncs.items
   timed_shown =

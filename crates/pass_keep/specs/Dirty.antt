@@ -8,7 +8,7 @@ use Rattle.pass_range.specs.Places.{place, Holds, IsApart}
 use Rattle.pass_range.specs.Dirtied.{dirtied_at}
 use Rattle.pass_range.specs.Rows.{number_of}
 use Rattle.pass_keep.specs.declared.block.Block.{Block}
-use Rattle.pass_keep.specs.Kept.{Story, Noted, list_to, range_to, covered}
+use Rattle.pass_keep.specs.Kept.{Story, Noted, list_to, source_to, range_to, covered}
 
 -- A block of the file of that number is dirty after the first n entries: an act made it so that no sync covers.
 pub record IsDirty (s : Story) (noted : List Noted) (n number block : ℕ) : Type 0 where
@@ -35,6 +35,41 @@ pub record IsAmong (blocks : List Block) (number block : ℕ) : Type 0 where
 pub record AreDirty (s : Story) (noted : List Noted) (n : ℕ) (files : ℕ → Bool) (blocks : List Block) : Type 0 where
   pub each : (i : ℕ) (x : Block) → slice_get blocks i ≡ Some x → IsDirtyBlock s noted n x
   pub all : (number block : ℕ) → files number ≡ true → IsDirty s noted n number block → IsAmong blocks number block
+
+-- The place of a block is free after the first n entries: an earlier act wrote it so that no sync covers, and whatever row it
+-- has after them comes from there or later. Any bytes may stand there.
+pub record IsFree (s : Story) (noted : List Noted) (n number block : ℕ) : Type 0 where
+  pub count : ℕ
+  pub within : count ≤ n
+  pub pnode : ℕ
+  pub numbered : number_of (list_to s count) pnode ≡ Some number
+  pub at : ℕ
+  pub source : source_to s count pnode block ≡ Some at
+  pub uncovered : covered noted number ≤ at
+
+-- the block is one of these, with these bytes
+pub record HasBlock (blocks : List Block) (number block : ℕ) (bytes : List ℕ) : Type 0 where
+  pub i : ℕ
+  pub x : Block
+  pub is : slice_get blocks i ≡ Some x
+  pub of_file : x.number ≡ number
+  pub at_block : x.block ≡ block
+  pub same : x.bytes.now ≡ bytes
+
+-- it is none of these
+abbrev pub IsElsewhere : List Block → ℕ → ℕ → Type 0
+IsElsewhere blocks number block = (i : ℕ) (x : Block) → slice_get blocks i ≡ Some x → x.number ≡ number → x.block ≡ block → ⊥
+
+-- The places of these are free, and each dirty block of the files with these numbers is one of them with its bytes, or its
+-- bytes stand in the store area already.
+pub record AreWritten (s : Story) (noted : List Noted) (n : ℕ) (files : ℕ → Bool) (blocks : List Block) (store : List ℕ) : Type 0 where
+  pub each : (i : ℕ) (x : Block) → slice_get blocks i ≡ Some x → IsFree s noted n x.number x.block
+  pub all : (number block : ℕ) → files number ≡ true → (d : IsDirty s noted n number block)
+      → HasBlock blocks number block (range_to s n d.pnode block) ⊎ (IsElsewhere blocks number block × Holds (place number block) (range_to s n d.pnode block) store)
+
+-- each dirty block of the files with these numbers has its bytes in the store area
+abbrev pub AreThere : Story → List Noted → ℕ → (ℕ → Bool) → List ℕ → Type 0
+AreThere s noted n files store = (number block : ℕ) → files number ≡ true → (d : IsDirty s noted n number block) → Holds (place number block) (range_to s n d.pnode block) store
 
 -- by file, and by block in a file
 abbrev pub IsAscending : List Block → Type 0
@@ -67,3 +102,4 @@ pub record IsWriting (blocks : List Block) (old mid : Moment) (n : ℕ) : Type 0
   pub adds : Adds old mid (AfterStep (Beside blocks) old)
   pub log : IsTrue old.tells → mid.seen.log ≡ old.seen.log
   pub held : IsTrue old.tells → AreHeld blocks n mid.seen.store
+  pub seen : IsTrue old.tells → Beside blocks old.seen mid.seen

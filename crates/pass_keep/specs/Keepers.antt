@@ -1,9 +1,10 @@
 -- A keeper, and what it has kept (this project's own rule).
-use Rattle.std.specs.Prelude.{◌≡◌, ◌⊎◌, ℕ, ◌+◌, ◌<◌, ◌≤◌, Bool, false, List, [], ◌∷◌, ◌++◌, length, map, Vec}
+use Rattle.std.specs.Prelude.{◌≡◌, ◌⊎◌, ℕ, ◌+◌, ◌<◌, ◌≤◌, Bool, false, List, [], ◌∷◌, ◌++◌, length, map, slice_get, Some, IsTrue, Vec}
 use Rattle.std.specs.Vec.{vec_len, vec_capacity}
 use Rattle.std.specs.declared.alloc.Global.{Global}
 use Rattle.pass_entry.specs.declared.entry.Synced.{Synced}
 use Rattle.pass_entry.specs.declared.record.Record.{Record}
+use Rattle.pass_outside.specs.Areas.{Image}
 use Rattle.pass_outside.specs.Moments.{Moment, IsAtEnd}
 use Rattle.pass_log.specs.declared.log.Log.{Log}
 use Rattle.pass_keep.specs.declared.block.Block.{Block}
@@ -11,7 +12,7 @@ use Rattle.pass_keep.specs.declared.fault.KeepFault.{KeepFault}
 use Rattle.pass_keep.specs.declared.fault.KeepFault.TheVariants.{DiskFault}
 use Rattle.pass_keep.specs.declared.keeper.Keeper.{Keeper}
 use Rattle.pass_keep.specs.Kept.{Story, IsStory, Noted, synced_of, IsKept, AreParts}
-use Rattle.pass_keep.specs.Dirty.{AreDirty}
+use Rattle.pass_keep.specs.Dirty.{IsFree, AreWritten, AreThere}
 use Rattle.pass_keep.specs.Parts.{AreFrames}
 
 -- its disk
@@ -83,11 +84,19 @@ abbrev pub KeptUnflushed : {D : Type 0} → (D → Moment) → List (Vec ℕ Glo
 KeptUnflushed view frames upto k new = (past : Past) (parts : List (List Record)) → IsKeeper view past k → upto ≤ length past.story.history
     → AreParts past.story k.durable upto parts → AreFrames parts frames → IsKeeper view past new
 
--- of each session that has these dirty blocks: no other block of these files was dirty, and now none is
+-- Of each session in which the places of these blocks are free, and each dirty block of some files is one of them, or has its
+-- bytes in the store area already: now none of these files is dirty.
 abbrev pub KeptSynced : {D : Type 0} → (D → Moment) → List Block → Keeper D → Keeper D → Type 0
-KeptSynced view blocks k new = (past : Past) (files : ℕ → Bool) → IsKeeper view past k → AreDirty past.story past.noted k.durable files blocks
+KeptSynced view blocks k new = (past : Past) (files : ℕ → Bool) → IsKeeper view past k → (IsTrue (view k.disk).tells → AreWritten past.story past.noted k.durable files blocks (view k.disk).seen.store)
     → IsKeeper view (with_sync past (view new.disk).calls k.durable files) new
 
 -- or what was clean is clean
 abbrev pub KeptUnsynced : {D : Type 0} → (D → Moment) → List Block → Keeper D → Keeper D → Type 0
-KeptUnsynced view blocks k new = (past : Past) (files : ℕ → Bool) → IsKeeper view past k → AreDirty past.story past.noted k.durable files blocks → IsKeeper view past new
+KeptUnsynced view blocks k new = (past : Past) → IsKeeper view past k
+    → (IsTrue (view k.disk).tells → (i : ℕ) (x : Block) → slice_get blocks i ≡ Some x → IsFree past.story past.noted k.durable x.number x.block) → IsKeeper view past new
+
+-- of each session of whose files each crash leaves the bytes of the dirty blocks: none is dirty
+abbrev pub KeptClean : {D : Type 0} → (D → Moment) → Keeper D → Keeper D → Type 0
+KeptClean view k new = (past : Past) (files : ℕ → Bool) → IsKeeper view past k
+    → (IsTrue (view k.disk).tells → (c : Image) → (view k.disk).may_leave c → AreThere past.story past.noted k.durable files c.store)
+    → IsKeeper view (with_sync past (view new.disk).calls k.durable files) new

@@ -5,7 +5,7 @@ ghost use Rattle.std.specs.declared.alloc.Global.{Global as AnyGlobal};
 ghost use Rattle.pass_entry.specs.declared.record.Record.{Record as AnyRecord};
 ghost use Rattle.pass_entry.specs.Ranges.{IsInRange};
 ghost use Rattle.pass_outside.specs.Moments.{IsAtEnd};
-ghost use Rattle.pass_log.specs.Log.{log_end, log_opened, IsSettled, IsFrameOf};
+ghost use Rattle.pass_log.specs.Log.{log_end, log_opened, IsSettled, IsFrameOf, LeavesStore};
 ghost use Rattle.pass_log.specs.Records.{spellings};
 ghost use Rattle.pass_keep.specs.Parts.{lists_of, frames_length, bytes_length, AreFrames, KeepsMore, KeepsStill};
 
@@ -43,6 +43,7 @@ pub fn append_frames<D: Disk>(
     requires room { log_end log.old + bytes_length frames.now < 2 ^ 39 }
     ensures kept { OnOk result (KeepsMore frames.now (D.view disk.old) log.old (D.view disk.new) log.new) }
     ensures err { OnErr result (KeepsStill frames.now (D.view disk.old) log.old (D.view disk.new) log.new) }
+    ensures store { LeavesStore (D.view disk.old) (D.view disk.new) }
     ensures failed { IfErr result (λ e. (e ≡ LogFault.DiskFault) × (((D.view disk.old).faults < (D.view disk.new).faults) ⊎ IsAtEnd (D.view disk.new))) }
     ensures healthy { OnOk result ((D.view disk.new).faults ≡ (D.view disk.old).faults) }
     ensures opened { log_opened log.new ≡ log_opened log.old }

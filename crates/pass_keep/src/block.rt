@@ -20,6 +20,8 @@ pub fn write_blocks<D: Disk>(disk: &mut D, blocks: &[Block<'_>]) -> Result<(), F
     requires ascending { IsAscending blocks.now }
     requires sized { AreSized blocks.now }
     ensures held { OnOk result (IsTrue (D.view disk.old).tells → (c : Image) → (D.view disk.new).may_leave c → AreHeld blocks.now (length blocks.now) c.store) }
+    ensures seen { OnOk result (IsTrue (D.view disk.old).tells → Beside blocks.now (D.view disk.old).seen (D.view disk.new).seen) }
+    ensures durable { OnOk result ((c : Image) → (D.view disk.new).may_leave c → c.store ≡ (D.view disk.new).seen.store) }
     ensures beside { Follows (Beside blocks.now) (D.view disk.old) (D.view disk.new) }
     ensures run { IsDeviceRun (D.view disk.old) (D.view disk.new) result (AfterStep (Beside blocks.now) (D.view disk.old)) }
     ensures log { IsTrue (D.view disk.old).tells → (D.view disk.new).seen.log ≡ (D.view disk.old).seen.log }

@@ -3,7 +3,7 @@ use crate::Keeper;
 use pass_outside::Disk;
 
 impl<D: Disk> Keeper<D> {
-    ghost use Rattle.std.specs.Prelude.{◌≡◌, ◌++◌, ◌∷◌, ◌<◌, ◌≤◌, ℕ, List, [], length, slice_get, true, Some, IsTrue};
+    ghost use Rattle.std.specs.Prelude.{◌≡◌, ◌⊎◌, ◌++◌, ◌∷◌, ◌<◌, ◌≤◌, ℕ, List, [], length, slice_get, true, Some, IsTrue};
     ghost use Rattle.pass_entry.specs.declared.entry.Entry.{Entry};
     ghost use Rattle.pass_outside.specs.Areas.{Image};
     ghost use Rattle.pass_range.specs.Places.{place, Holds};
@@ -26,10 +26,12 @@ impl<D: Disk> Keeper<D> {
             → (c : Image) → (D.view (disk_of self.now)).left_since x.calls c → (n : ℕ) → n ≤ length past.story.history → HasRecords (list_to past.story n) c.log
             → (pnode block number at : ℕ) → x.files number ≡ true → number_of (list_to past.story n) pnode ≡ Some number → source_to past.story n pnode block ≡ Some at → at < x.entries
             → Holds (place number block) (range_to past.story n pnode block) c.store × (IsUnmatched (list_to past.story n) c.store pnode block → ⊥) }
-        // Where the last sync has all entries, and no block is dirty behind it, no range of this history is unmatched since then.
+        // Where the last sync has all entries, and each block that is dirty behind it has its bytes on each image since then, no range of
+        // this history is unmatched since then.
         ensures settled { IsTrue (D.view (disk_of self.now)).tells → (front : List Noted) (last : Noted) → past.noted ≡ front ++ last ∷ [] → last.entries ≡ length past.story.history
             → ((i : ℕ) (x : Noted) → slice_get past.noted i ≡ Some x → x.calls ≤ last.calls)
-            → ((pnode block number at : ℕ) → source_to past.story (length past.story.history) pnode block ≡ Some at → number_of (list_to past.story (length past.story.history)) pnode ≡ Some number → at < covered past.noted number)
+            → ((pnode block number at : ℕ) → source_to past.story (length past.story.history) pnode block ≡ Some at → number_of (list_to past.story (length past.story.history)) pnode ≡ Some number
+            → (at < covered past.noted number) ⊎ ((c : Image) → (D.view (disk_of self.now)).left_since last.calls c → Holds (place number block) (range_to past.story (length past.story.history) pnode block) c.store))
             → (c : Image) → (D.view (disk_of self.now)).left_since last.calls c
             → HasRecords (list_to past.story (length past.story.history)) c.log
             × ((pnode block at : ℕ) → source_to past.story (length past.story.history) pnode block ≡ Some at → IsUnmatched (list_to past.story (length past.story.history)) c.store pnode block → ⊥) }

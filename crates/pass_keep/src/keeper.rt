@@ -7,6 +7,7 @@ use crate::{Block, KeepFault};
 use pass_entry::{Pnode, Record, Synced};
 use pass_log::{Log, LogImage};
 use pass_outside::Disk;
+use pass_range::write_range;
 use std::alloc::Global;
 
 /// Keeps a session on a disk: it alone writes there. It knows how many entries are durable, and each sync that came.
@@ -30,13 +31,16 @@ impl<D: Disk> Keeper<D> {
     ghost use Rattle.pass_entry.specs.Ranges.{IsInRange};
     ghost use Rattle.pass_outside.specs.Areas.{Image};
     ghost use Rattle.pass_outside.specs.Moments.{IsAtEnd};
-    ghost use Rattle.pass_log.specs.Log.{log_end, log_opened, IsSettled, IsFrameOf};
+    ghost use Rattle.pass_log.specs.Log.{log_end, log_opened, IsSettled, IsFrameOf, LeavesStore};
     ghost use Rattle.pass_log.specs.LogImage.{IsRead};
     ghost use Rattle.pass_log.specs.Records.{spellings};
     ghost use Rattle.pass_keep.specs.Kept.{Story, IsStory, IsUnwritten, IsBegun, AreParts};
-    ghost use Rattle.pass_keep.specs.Dirty.{AreDirty, AreSized, IsAscending};
+    ghost use Rattle.pass_keep.specs.Dirty.{AreDirty, AreSized, IsAscending, Beside};
+    ghost use Rattle.pass_entry.specs.Limits.{block_count};
+    ghost use Rattle.pass_plain.specs.Records.{block_size};
+    ghost use Rattle.pass_range.specs.Places.{place, Holds};
     ghost use Rattle.pass_keep.specs.Parts.{lists_of, frames_length, bytes_length};
-    ghost use Rattle.pass_keep.specs.Keepers.{disk_of, log_of, durable_of, syncs_of, Past, with_sync, no_file, IsKeeper, HasSpare, TakesSpare, GoesOn, Made, Failed, KeptStill, KeptFlushed, KeptUnflushed, KeptSynced, KeptUnsynced};
+    ghost use Rattle.pass_keep.specs.Keepers.{disk_of, log_of, durable_of, syncs_of, Past, with_sync, no_file, IsKeeper, HasSpare, TakesSpare, GoesOn, Made, Failed, KeptStill, KeptFlushed, KeptUnflushed, KeptSynced, KeptUnsynced, KeptClean};
 
     /// Begins a session on a disk of which that log image was read, with nothing written since the session's start, and
     /// appends the session's ceiling as one frame. After a fault the disk is handed back.
@@ -171,6 +175,7 @@ impl<D: Disk> Keeper<D> {
         ensures made { OnOk result (Made (4 * length frames.now) (D.view (disk_of self.old)) (D.view (disk_of self.new))) }
         ensures opened { log_opened (log_of self.new) ≡ log_opened (log_of self.old) }
         ensures place { log_end (log_of self.new) ≤ log_end (log_of self.old) + bytes_length frames.now }
+        ensures store { LeavesStore (D.view (disk_of self.old)) (D.view (disk_of self.new)) }
         // A disk of which a count stands at its end takes no frame.
         ensures stands { IsAtEnd (D.view (disk_of self.old)) → log_of self.new ≡ log_of self.old }
         ensures spare { TakesSpare self.old self.new }
@@ -190,6 +195,10 @@ impl<D: Disk> Keeper<D> {
         requires sized { AreSized blocks.now }
         ensures kept { OnOk result (KeptSynced D.view blocks.now self.old self.new) }
         ensures err { OnErr result (KeptUnsynced D.view blocks.now self.old self.new) }
+        ensures seen { OnOk result (IsTrue (D.view (disk_of self.old)).tells → Beside blocks.now (D.view (disk_of self.old)).seen (D.view (disk_of self.new)).seen) }
+        // A disk of which a count stands at its end takes no sync.
+        ensures going { OnOk result (IsAtEnd (D.view (disk_of self.old)) → ⊥) }
+        ensures whole { OnOk result ((c : Image) → (D.view (disk_of self.new)).left_since (D.view (disk_of self.new)).calls c → c.store ≡ (D.view (disk_of self.new)).seen.store) }
         ensures sync { IfOk result (λ s. s ≡ record { calls = (D.view (disk_of self.new)).calls; entries = durable_of self.old }) }
         ensures durable { durable_of self.new ≡ durable_of self.old }
         ensures log { log_of self.new ≡ log_of self.old }
@@ -204,10 +213,36 @@ impl<D: Disk> Keeper<D> {
         Ok(self.note())
     }
 
-    /// Notes a sync of files of which no block is dirty. It makes no device call and takes no memory.
+    /// Writes a block by one device call, without a sync. It takes no memory.
+    pub fn put(&mut self, block: Block<'_>) -> Result<(), KeepFault>
+        requires sized { (block.block < block_count) × (length block.bytes.now ≤ block_size) }
+        ensures kept { KeptUnsynced D.view (block.entry ∷ []) self.old self.new }
+        ensures held { OnOk result (IsTrue (D.view (disk_of self.old)).tells → Holds (place block.entry.number block.entry.block) block.entry.bytes.now (D.view (disk_of self.new)).seen.store) }
+        ensures seen { OnOk result (IsTrue (D.view (disk_of self.old)).tells → Beside (block.entry ∷ []) (D.view (disk_of self.old)).seen (D.view (disk_of self.new)).seen) }
+        ensures durable { durable_of self.new ≡ durable_of self.old }
+        ensures log { log_of self.new ≡ log_of self.old }
+        ensures failed { IfErr result (Failed (log_opened (log_of self.old)) (D.view (disk_of self.old)) (D.view (disk_of self.new))) }
+        ensures made { OnOk result (Made 1 (D.view (disk_of self.old)) (D.view (disk_of self.new))) }
+        ensures goes_on { GoesOn (D.view (disk_of self.old)) (D.view (disk_of self.new)) }
+    {
+        if write_range(&mut self.disk, block.number, block.block, block.bytes).is_err() {
+            return Err(self.failed());
+        }
+        Ok(())
+    }
+
+    /// The count of the disk's calls.
+    pub fn calls(&self) -> u64
+        ensures { result ≡ (D.view (disk_of self.now)).calls }
+    {
+        self.disk.calls()
+    }
+
+    /// Notes a sync of files of which each crash leaves the bytes of the dirty blocks. It makes no device call and takes no
+    /// memory.
     pub fn clean(&mut self) -> Synced
         requires spare { HasSpare 1 self.old }
-        ensures kept { KeptSynced D.view [] self.old self.new }
+        ensures kept { KeptClean D.view self.old self.new }
         ensures sync { result ≡ record { calls = (D.view (disk_of self.old)).calls; entries = durable_of self.old } }
         ensures disk { disk_of self.new ≡ disk_of self.old }
         ensures log { log_of self.new ≡ log_of self.old }

@@ -12,7 +12,7 @@ use Rattle.pass_book.proofs.Backed.{durable_last}
 use Rattle.pass_keep.specs.declared.keeper.Keeper.{Keeper}
 use Rattle.pass_keep.specs.Kept.{Story, Noted, Every, IsKeptSince, records_to, AreParts}
 use Rattle.pass_log.specs.Log.{log_end}
-use Rattle.pass_keep.specs.Keepers.{Past, with_sync, no_file, disk_of, log_of, durable_of, IsKeeper, KeptSynced}
+use Rattle.pass_keep.specs.Keepers.{Past, with_sync, no_file, disk_of, log_of, durable_of, IsKeeper, KeptClean}
 use Rattle.pass_vault.specs.Batches.{parts_of}
 use Rattle.pass_vault.specs.declared.opening.Opening.{Opening}
 use Rattle.pass_vault.specs.Vaulted.{Vaulted, story_of, noted_of}
@@ -66,11 +66,11 @@ abbrev mark : ℕ → ℕ → Noted
 mark calls entries = record { calls = calls; entries = entries; files = no_file }
 
 pub vault_opened : {D : Type 0} (view : D → Moment) (k new : Keeper D) (seat : VaultState) (o : Opening D) → seat.syncs ≡ [] → IsKeeper view (past_at (story_of (valued view k seat o)) []) k → durable_of k ≡ 0
-    → KeptSynced view [] k new → o.ready ≡ (view (disk_of new)).calls → durable_of new ≡ durable_of k → log_end (log_of new) ≤ first_place
+    → KeptClean view k new → o.ready ≡ (view (disk_of new)).calls → durable_of new ≡ durable_of k → log_end (log_of new) ≤ first_place
     → IsVault view (valued view new seat o) new
 vault_opened view k new seat o fresh keeper none kept ready same place =
     let s = story_of (valued view k seat o) in
-    let noted = kept (past_at s []) no_file keeper (record { each = λ i x at. absurd (cc at); all = λ number block reached dirty. absurd (cc reached) }) in
+    let noted = kept (past_at s []) no_file keeper (λ told c may number block reached dirty. absurd (cc reached)) in
     let first : mark (view (disk_of new)).calls (durable_of k) ∷ [] ≡ opening o.ready ∷ map noted_of seat.syncs =
     ap (λ (n : ℕ). mark n (durable_of k) ∷ []) (sym ready) ∙ ap (λ (n : ℕ). mark o.ready n ∷ []) none ∙ ap (λ (ss : List VaultSync). opening o.ready ∷ map noted_of ss) (sym fresh) in
     record {

@@ -26,12 +26,11 @@ use Rattle.pass_keep.specs.declared.keeper.Keeper.{Keeper}
 use Rattle.pass_keep.specs.Kept.{Story, records_to, AreParts}
 use Rattle.pass_keep.specs.Dirty.{AreDirty as AreAllDirty, AreSized}
 use Rattle.pass_keep.specs.Parts.{bytes_length, AreFrames}
-use Rattle.pass_keep.specs.Keepers.{with_sync, no_file, disk_of, log_of, durable_of, IsKeeper, GoesOn, KeptFlushed, KeptUnflushed, KeptSynced, KeptUnsynced}
-use Rattle.pass_keep.proofs.Keeping.{covered_le}
-use Rattle.pass_keep.proofs.Writing.{sized}
+use Rattle.pass_keep.specs.Keepers.{with_sync, no_file, disk_of, log_of, durable_of, IsKeeper, GoesOn, KeptFlushed, KeptUnflushed, KeptUnsynced}
+use Rattle.pass_keep.proofs.Writing.{sized, dirty_free}
 use Rattle.pass_vault.specs.declared.opening.Opening.{Opening}
 use Rattle.pass_vault.specs.Vaulted.{story_of, story_with, is_number, noted_of, flushed, file_synced}
-use Rattle.pass_vault.specs.Vaults.{opening, past_of, valued, IsVault}
+use Rattle.pass_vault.specs.Vaults.{opening, past_of, valued, IsVault, KeptSaved}
 use Rattle.pass_clean.specs.Blocks.{AreDirty}
 use Rattle.pass_clean.proofs.Cleaning.{listed_law}
 use Rattle.pass_vault.specs.Blocks.{AreBlocks}
@@ -147,7 +146,7 @@ module _ {D : Type 0} (view : D → Moment) (k : Keeper D) (seat : VaultState) (
     file_sized =
         let s = story_of (valued view k more o) in
         let xs = (past_of (valued view k more o)).noted in
-        sized s met.keeper.story xs (durable_of k) files blocks met.keeper.kept.within (λ n. covered_le s (view (disk_of k)) (durable_of k) xs n met.keeper.kept.past) all_dirty
+        sized s xs (durable_of k) files blocks all_dirty
 
     -- what its write says
     module _ (new : Keeper D) (goes : GoesOn (view (disk_of k)) (view (disk_of new))) (log : log_of new ≡ log_of k) where
@@ -164,14 +163,15 @@ module _ {D : Type 0} (view : D → Moment) (k : Keeper D) (seat : VaultState) (
 
       pub file_lost : KeptUnsynced view blocks k new → durable_of new ≡ durable_of k → IsVault view (valued view new more o) new
       file_lost kept same = record {
-        keeper = kept (past_of (valued view k more o)) files met.keeper all_dirty;
+        keeper = kept (past_of (valued view k more o)) met.keeper
+            (λ told i x at. dirty_free (story_of (valued view k more o)) (past_of (valued view k more o)).noted (durable_of k) x.number x.block (all_dirty.each i x at).0);
         durable = same ∙ is.durable;
         late = is.late;
         unstaged = is.unstaged;
         roomy = record { bounded = still_bounded; room = still_room (durable seat.syncs) refl };
       }
 
-      pub file_kept : KeptSynced view blocks k new → durable_of new ≡ durable_of k → (next : VaultState) (calls entries : ℕ)
+      pub file_kept : KeptSaved view blocks k new → durable_of new ≡ durable_of k → (next : VaultState) (calls entries : ℕ)
           → calls ≡ (view (disk_of new)).calls → entries ≡ durable_of k → next ≡ record more { syncs = seat.syncs ++ file_synced file number calls entries ∷ [] } → IsVault view (valued view new next o) new
       file_kept kept same next calls entries at_calls at_entries is_next =
           let keeper = kept (past_of (valued view k more o)) files met.keeper all_dirty in

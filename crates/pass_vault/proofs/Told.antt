@@ -1,5 +1,5 @@
 -- What a vault says of images, each as it is stated.
-use Rattle.std.proofs.Common.{◌≡◌, ◌<◌, ◌≤◌, ℕ, zero, suc, true, List, [], ◌∷◌, ◌++◌, length, map, IsTrue, Some, ⊎_elim, refl, sym, ◌∙◌, ap, subst, arith, false}
+use Rattle.std.proofs.Common.{◌≡◌, ◌<◌, ◌≤◌, ℕ, zero, suc, true, List, [], ◌∷◌, ◌++◌, length, map, IsTrue, Some, inl, ⊎_elim, refl, sym, ◌∙◌, ap, subst, arith, false}
 use Rattle.std.specs.Prelude.{slice_get}
 use Rattle.std.proofs.lemmas.List.{map-append}
 use Rattle.pass_outside.specs.Areas.{Image}
@@ -131,7 +131,7 @@ module _ {D : Type 0} (view : D → Moment) (v : Vaulted D) (k : Keeper D) (is :
         (λ p block number at source known.
         let file = number_from s story p number known in
         let same = covered_all s story v.ready p number block file v.syncs numbered is.unstaged in
-        let low = all_clean s v.syncs clean p block at source in omega (arith, low, same))
+        let low = all_clean s v.syncs clean p block at source in inl (omega (arith, low, same)))
         c left
       where
         last_at : (xs : List VaultSync) → slice_get (xs ++ last ∷ []) (length xs) ≡ Some last

@@ -1,5 +1,5 @@
 -- What a vault keeps between two calls (this project's own rule).
-use Rattle.std.specs.Prelude.{◌≡◌, ℕ, ◌≤◌, List, ◌∷◌, map, None}
+use Rattle.std.specs.Prelude.{◌≡◌, ℕ, ◌≤◌, Bool, List, ◌∷◌, map, None}
 use Rattle.std.specs.List.{All}
 use Rattle.pass_entry.specs.declared.entry.Synced.{Synced}
 use Rattle.pass_entry.specs.declared.record.Record.{Record}
@@ -8,9 +8,11 @@ use Rattle.pass_log.specs.Log.{log_end, log_opened}
 use Rattle.pass_book.specs.declared.view.VaultSync.{VaultSync}
 use Rattle.pass_book.specs.Syncs.{durable}
 use Rattle.pass_book.specs.Tokens.{VaultState}
+use Rattle.pass_keep.specs.declared.block.Block.{Block}
 use Rattle.pass_keep.specs.declared.keeper.Keeper.{Keeper}
+use Rattle.pass_keep.specs.Dirty.{AreDirty}
 use Rattle.pass_keep.specs.Kept.{Story, Noted}
-use Rattle.pass_keep.specs.Keepers.{Past, no_file, disk_of, log_of, durable_of, IsKeeper}
+use Rattle.pass_keep.specs.Keepers.{Past, with_sync, no_file, disk_of, log_of, durable_of, IsKeeper}
 use Rattle.pass_vault.specs.declared.opening.Opening.{Opening}
 use Rattle.pass_vault.specs.Vaulted.{Vaulted, story_of, noted_of}
 use Rattle.pass_vault.specs.Rooms.{IsRoomy}
@@ -53,3 +55,8 @@ begun_with before store ceiling seat since = record { before = before; ceiling =
 -- a sync as it is handed out
 abbrev pub handed_of : VaultSync → Synced
 handed_of s = record { calls = s.calls; entries = s.entries }
+
+-- of each session whose dirty blocks of some files these are all: now none of these files is dirty
+abbrev pub KeptSaved : {D : Type 0} → (D → Moment) → List Block → Keeper D → Keeper D → Type 0
+KeptSaved view blocks k new = (past : Past) (files : ℕ → Bool) → IsKeeper view past k → AreDirty past.story past.noted (durable_of k) files blocks
+    → IsKeeper view (with_sync past (view (disk_of new)).calls (durable_of k) files) new

@@ -15,12 +15,12 @@ ghost use Rattle.pass_book.specs.Numbers.{IsFileNumber};
 ghost use Rattle.pass_book.specs.Syncs.{durable};
 ghost use Rattle.pass_book.specs.Tokens.{HasMet};
 ghost use Rattle.pass_keep.specs.Kept.{Story, IsStory, IsBegun, AreParts};
-ghost use Rattle.pass_keep.specs.Keepers.{disk_of, log_of, durable_of, IsKeeper, HasSpare, GoesOn, Made, Failed, KeptSynced, KeptUnsynced};
+ghost use Rattle.pass_keep.specs.Keepers.{disk_of, log_of, durable_of, IsKeeper, HasSpare, GoesOn, Made, Failed, KeptUnsynced};
 ghost use Rattle.pass_keep.specs.Dirty.{IsAscending, AreSized};
 ghost use Rattle.pass_keep.specs.Parts.{bytes_length, AreFrames};
 ghost use Rattle.pass_vault.specs.Vaulted.{story_of, story_with, flushed, file_synced};
 ghost use Rattle.pass_vault.specs.Rooms.{most_entries};
-ghost use Rattle.pass_vault.specs.Vaults.{valued, begun_with, IsVault};
+ghost use Rattle.pass_vault.specs.Vaults.{valued, begun_with, IsVault, KeptSaved};
 ghost use Rattle.pass_clean.specs.Blocks.{AreDirty, IsRisingBy};
 ghost use Rattle.pass_vault.specs.Blocks.{AreBlocks, write_calls};
 
@@ -135,7 +135,7 @@ fn put<D: Disk>(keeper: &mut Keeper<D>, blocks: &[Block<'_>]) -> Result<Synced, 
     requires spare { HasSpare 1 keeper.old }
     requires ascending { IsAscending blocks.now }
     requires sized { AreSized blocks.now }
-    ensures kept { OnOk result (KeptSynced D.view blocks.now keeper.old keeper.new) }
+    ensures kept { OnOk result (KeptSaved D.view blocks.now keeper.old keeper.new) }
     ensures err { OnErr result (KeptUnsynced D.view blocks.now keeper.old keeper.new) }
     ensures sync { IfOk result (λ s. s ≡ record { calls = (D.view (disk_of keeper.new)).calls; entries = durable_of keeper.old }) }
     ensures durable { durable_of keeper.new ≡ durable_of keeper.old }

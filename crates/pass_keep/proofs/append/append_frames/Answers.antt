@@ -3,7 +3,7 @@ use Rattle.std.specs.declared.alloc.Global.{Global}
 use Rattle.pass_outside.specs.Moments.{IsAtEnd}
 use Rattle.pass_log.specs.Log.{IsFrameOf}
 use Rattle.pass_keep.specs.Parts.{bytes_length, KeepsStill}
-use Rattle.pass_keep.proofs.Appending.{partly_more, partly_failed, partly_all, place_more, on_err}
+use Rattle.pass_keep.proofs.Appending.{partly_more, partly_failed, partly_all, place_more, leaves_more, on_err}
 use Rattle.pass_keep.proofs.append.append_frames.Goals as goal
 
 pub returns-in_err-append_frame-clause-err : goal.returns-in_err-append_frame-clause-err
@@ -25,6 +25,12 @@ returns-in_err-append_frame-clause-err g c =
     e.work.tells e.store.moments e.settled (λ batch is told. e.any_moment batch (subst (IsFrameOf batch) same is) told)
     c.in_err-append_frame.ensures.err healthy (λ ended. ap view (e.stands ended)) (c.in_err-append_frame.ensures.unbroken healthy).1 in
     on_err (KeepsStill frames old c.args.log.now (view disk) c.append_frame.new.self) c.from_residual.result whole
+
+pub returns-in_err-append_frame-clause-store : goal.returns-in_err-append_frame-clause-store
+returns-in_err-append_frame-clause-store g c =
+    let view = g.D.Disk.view in
+    let inv = c.loop-frame.invariant in
+    leaves_more (view c.args.disk.now) (view c.loop-frame.disk) (view c.append_frame.new.disk) inv.tells inv.store c.append_frame.ensures.store
 
 pub loop-frame-preserved : goal.loop-frame-preserved
 loop-frame-preserved g c =
@@ -53,6 +59,7 @@ loop-frame-preserved g c =
           (done.end ∙ ap (λ l. log.end + length l) (sym same));
       calls = omega (arith, done.calls, inv.calls);
       stands = λ ended. absurd (done.healthy.2 (subst (λ d. IsAtEnd (view d)) (sym (inv.stands ended).0) ended));
+      store = leaves_more old mid (view disk) inv.tells inv.store e.store;
       tells = e.work.tells ∙ inv.tells;
     }
 

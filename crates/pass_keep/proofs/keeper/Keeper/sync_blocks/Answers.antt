@@ -1,4 +1,7 @@
-use Rattle.pass_keep.proofs.Keeping.{covered_le}
+use Rattle.std.proofs.Common.{ℕ, IsTrue, sym, subst}
+use Rattle.pass_keep.specs.Dirty.{IsFree}
+use Rattle.pass_keep.specs.Keepers.{KeptUnsynced}
+use Rattle.pass_keep.proofs.Appending.{on_err}
 use Rattle.pass_keep.proofs.Writing.{sized}
 use Rattle.pass_keep.proofs.keeper.Keeper.sync_blocks.Goals as goal
 
@@ -8,4 +11,11 @@ write-requires-clause-sized g c =
     let given = c.requires.dirty in
     let s = given.0.story in
     let xs = given.0.noted in
-    sized s given.2.story xs k.durable given.1 c.args.blocks.now given.2.kept.within (λ number. covered_le s (g.D.Disk.view k.disk) k.durable xs number given.2.kept.past) given.3
+    sized s xs k.durable given.1 c.args.blocks.now given.3
+
+pub returns-in_err-write-clause-err : goal.returns-in_err-write-clause-err
+returns-in_err-write-clause-err g c =
+    let view = g.D.Disk.view in
+    on_err (KeptUnsynced view c.args.blocks.now c.args.self.now c.write.new.self) c.from_residual-in_err-write.result (λ past keeper free.
+    c.in_err-write.ensures.err past (c.ready.ensures.kept past keeper)
+    (λ told i x at. subst (λ (n : ℕ). IsFree past.story past.noted n x.number x.block) (sym c.ready.ensures.durable) (free (subst (λ d. IsTrue (view d).tells) c.ready.ensures.disk told) i x at)))

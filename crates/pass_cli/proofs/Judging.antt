@@ -14,8 +14,8 @@ use Rattle.pass_run.specs.declared.status.Status.{Status}
 use Rattle.pass_run.specs.declared.status.Status.TheVariants as status
 use Rattle.pass_trace.specs.Lines.{is_too_long}
 use Rattle.pass_run.specs.Stored.{session_fault, IsStoreJudged, IsEnd, IsOfDisk, IsHeldBack, IsOverStore, HasEnded}
-use Rattle.pass_cli.specs.Answers.{OfBytes, IsTraced, IsRefusal, IsTraceRead, HasFailed, IsRunJudged, Outcome, IsNothing, IsRefused, HasRun, comes_before, ends_run}
-use Rattle.pass_run.proofs.Moved.{refused_untouched}
+use Rattle.pass_cli.specs.Answers.{OfBytes, IsTraced, IsRefusal, IsTraceRead, HasFailed, IsRunJudged, Outcome, IsNothing, IsRefused, IsUnwritten, HasRun, comes_before, ends_run}
+use Rattle.pass_run.proofs.Moved.{alone_untouched, leaves_untouched, refused_untouched}
 use Rattle.pass_trace.proofs.TooLong.{too_long_is_none, too_long_stays}
 
 -- what was read of a source
@@ -106,6 +106,13 @@ module _ (bytes : List ℕ) (before after : ℕ) (log : List ℕ) (m : Moment) w
           ap (λ n. status.BadTrace n why) both.0 ∙ ap (λ (r : TraceReason). status.BadTrace other r) both.1
   refusal_judged status.NoMemory known is = absurd (known refl)
   refusal_judged _ known is = absurd is
+
+-- the disk is as it was
+pub unwritten : (m : Moment) → IsUnwritten m m
+unwritten m = record { alone = alone_untouched m; since = leaves_untouched m }
+
+pub still_unwritten : {D : Type 0} (view : D → Moment) (old new : D) → new ≡ old → IsUnwritten (view old) (view new)
+still_unwritten view old new same = subst (λ d. IsUnwritten (view old) (view d)) (sym same) (unwritten (view old))
 
 -- a refused run
 pub refusal_run : {D : Type 0} (view : D → Moment) (bytes : List ℕ) (before after : ℕ) (disk : D) (out : Outcome) (judged : Status) (report : List ℕ) → judged ≢ status.NoMemory

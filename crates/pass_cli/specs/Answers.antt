@@ -17,7 +17,7 @@ use Rattle.pass_run.specs.declared.status.Status.TheVariants as status
 use Rattle.pass_run.specs.Statuses.{status_text}
 use Rattle.pass_run.specs.Reading.{StopsInTime}
 use Rattle.pass_trace.specs.Lines.{is_too_long}
-use Rattle.pass_run.specs.Stored.{session_fault, IsEnd, IsUnopened, IsLeftAlone, HasBegun, IsRefusedOpening, IsHeldBack, IsOverStore, HasEnded}
+use Rattle.pass_run.specs.Stored.{session_fault, IsEnd, IsUnopened, IsLeftAlone, LeavesRead, HasBegun, IsRefusedOpening, IsHeldBack, IsOverStore, HasEnded}
 use Rattle.pass_run.specs.Writing.{IsPartOfText}
 use Rattle.pass_cli.specs.declared.main_call.Ended.{Ended}
 
@@ -109,9 +109,14 @@ IsRefused old new judged out = IsRefusedOpening old new judged out.list out.star
 abbrev pub IsHeld : Moment → Moment → List ℕ → Status → Outcome → Type 0
 IsHeld old new bytes judged out = IsHeldBack old new (trace_of bytes) judged out.list out.start out.history out.syncs
 
+-- nothing was written: a crash leaves what it might have left before, and what was read, since both syncs of the store's opening
+pub record IsUnwritten (old new : Moment) : Type 0 where
+  pub alone : IsLeftAlone old new
+  pub since : LeavesRead old new
+
 -- nothing is handed out, and nothing was written but the session's ceiling, if that
 abbrev pub IsUnrecorded : Moment → Moment → List ℕ → Outcome → Type 0
-IsUnrecorded old new bytes out = IsNothing out × (IsLeftAlone old new ⊎ HasBegun old new (objects_of (trace_of bytes)))
+IsUnrecorded old new bytes out = IsNothing out × (IsUnwritten old new ⊎ HasBegun old new (objects_of (trace_of bytes)))
 
 -- the store was opened, and the history is a run of the trace of the bytes, of which a crash leaves a beginning
 abbrev pub IsRecorded : Moment → Moment → List ℕ → Outcome → Type 0

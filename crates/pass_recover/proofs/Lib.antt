@@ -9,3 +9,4 @@ pub mod RowRead
 pub mod Elements
 pub mod Counting
 pub mod Opened
+pub mod Settled

@@ -1,3 +1,4 @@
 pub mod Fills
 pub mod Starts
 pub mod Faults
+pub mod Syncs

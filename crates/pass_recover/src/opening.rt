@@ -15,13 +15,14 @@ ghost use Rattle.pass_record.specs.declared.fault.RecordFault.{RecordFault};
 ghost use Rattle.pass_recover.specs.Faults.{IsCauseOf};
 ghost use Rattle.pass_recover.specs.Fills.{other_ranges};
 ghost use Rattle.pass_recover.specs.Starts.{IsStartOf, HasBytes};
+ghost use Rattle.pass_recover.specs.Syncs.{HasSynced, LeavesRead};
 
 use crate::OpenFault;
 use crate::blank::current_apps;
 use crate::fill::{Filled, read_files};
 use pass_graph::read;
 use pass_log::{LogFault, LogImage, read_image};
-use pass_outside::{Disk, Failed, sync_both};
+use pass_outside::{Area, Disk, Failed};
 use pass_plain::Start;
 use pass_range::{Range, Table};
 use pass_record::RecordFault;
@@ -38,16 +39,18 @@ pub struct Opening {
     pub unmatched: Vec<Range>,
 }
 
-// Syncs both areas. A crash at a moment since then leaves what a read gives.
+// Syncs both areas, the log first. A crash at a moment since then leaves what a read gives.
 fn settle<D: Disk>(disk: &mut D) -> Result<(), Failed>
     ensures durable { OnOk result ((c : Image) → (D.view disk.new).may_leave c → c ≡ (D.view disk.new).seen) }
     ensures since { OnOk result ((c : Image) → (D.view disk.new).left_since (D.view disk.new).calls c → (D.view disk.new).may_leave c) }
     ensures content { OnOk result ((D.view disk.new).seen ≡ (D.view disk.old).seen) }
     ensures two { OnOk result ((D.view disk.new).calls ≡ (D.view disk.old).calls + 2) }
+    ensures early { IsErr result → HasSynced (D.view disk.old) (D.view disk.new) → ⊥ }
     ensures crash { (c : Image) → (D.view disk.new).may_leave c → (D.view disk.old).may_leave c }
     ensures run { IsDeviceRun (D.view disk.old) (D.view disk.new) result (D.view disk.old).may_leave }
 {
-    sync_both(disk)?;
+    disk.sync(Area::Log)?;
+    disk.sync(Area::Store)?;
     // The count marks the moment.
     let _calls = disk.calls();
     Ok(())
@@ -93,11 +96,13 @@ pub fn recover<D: Disk>(alloc: Global, disk: &mut D) -> Result<Opening, OpenFaul
     // Unless a device call failed the disk reads as before.
     ensures stays { (IsErrOf result OpenFault.DiskFault → ⊥) → (D.view disk.new).seen ≡ (D.view disk.old).seen }
 
-    // The log can be opened next; and a crash at a moment since the two syncs leaves what was read.
+    // Unless a device call failed both syncs have come. Whatever the answer, a crash at a moment since then leaves what was read.
+    ensures later { (IsErrOf result OpenFault.DiskFault → ⊥) → (D.view disk.old).calls + 2 ≤ (D.view disk.new).calls }
+    ensures since { LeavesRead (D.view disk.old) (D.view disk.new) }
+
+    // The log can be opened next.
     ensures open_next { IfOk result (λ o. IsRead (D.view disk.new) o.image) }
     ensures synced { OnOk result ((c : Image) → (D.view disk.new).may_leave c → c ≡ (D.view disk.new).seen) }
-    ensures since { OnOk result ((c : Image) → (D.view disk.new).left_since ((D.view disk.old).calls + 2) c → c ≡ (D.view disk.old).seen) }
-    ensures later { OnOk result ((D.view disk.old).calls + 2 ≤ (D.view disk.new).calls) }
     ensures content { OnOk result ((D.view disk.new).seen ≡ (D.view disk.old).seen) }
     ensures crash { (c : Image) → (D.view disk.new).may_leave c → (D.view disk.old).may_leave c }
     ensures run { Adds (D.view disk.old) (D.view disk.new) (D.view disk.old).may_leave }

@@ -84,7 +84,7 @@ module _ {D : Type 0} (view : D → Moment) (old : Moment) (lines : List TraceLi
     quiet_fault quiet failed = quiet (subst IsOfDisk (sym (is ∙ ap (status_of_opening opened now) failed)) tt)
 
     refusal : IsUntouched old (view e.disk) fault → IsRefusedOpening old (view e.disk) e.status e.list.items e.start e.history.items e.syncs.items
-    refusal untouched = record { unended = unended; nothing = none.0; alone = untouched.alone; reads = λ quiet. untouched.reads (quiet_fault quiet) }
+    refusal untouched = record { unended = unended; nothing = none.0; alone = untouched.alone; since = untouched.since; reads = λ quiet. untouched.reads (quiet_fault quiet) }
 
     pub refused_run : IsRunOver view old lines e
     refused_run = record {

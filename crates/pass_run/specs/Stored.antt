@@ -21,6 +21,7 @@ use Rattle.pass_range.specs.Rows.{IsUnmatched}
 use Rattle.pass_recover.specs.declared.fault.OpenFault.{OpenFault}
 use Rattle.pass_recover.specs.Faults.{LogHas}
 use Rattle.pass_recover.specs.Starts.{IsStartOf, HasBytes}
+pub use Rattle.pass_recover.specs.Syncs.{HasSynced, LeavesRead}
 use Rattle.pass_report.specs.Reports.{SameButBytes, report_of}
 use Rattle.pass_trace.specs.TraceLines.{objects_of, plain_trace, session_of_trace}
 use Rattle.pass_trace.specs.declared.trace.TraceLine.{TraceLine}
@@ -66,11 +67,13 @@ pub record IsUnopened (list : List Record) (start : Start) (history : List Entry
   pub no_history : history ≡ []
   pub no_syncs : syncs ≡ []
 
--- The opening was refused: nothing is handed out, and nothing was written. Unless a device call failed the disk reads as before.
+-- The opening was refused: nothing is handed out, and nothing was written. Since both syncs with which it opened a crash leaves what
+-- was read, whatever the status. Unless a device call failed the disk reads as before.
 pub record IsRefusedOpening (old new : Moment) (ended : Status) (list : List Record) (start : Start) (history : List Entry) (syncs : List Synced) : Type 0 where
   pub unended : IsEnd ended → ⊥
   pub nothing : IsUnopened list start history syncs
   pub alone : IsLeftAlone old new
+  pub since : LeavesRead old new
   pub reads : (IsOfDisk ended → ⊥) → new.seen ≡ old.seen
 
 -- The session's ceiling was to be raised, and no entry was made: nothing is handed out, and a crash leaves what was there before, or

@@ -29,6 +29,7 @@ use Rattle.pass_book.specs.Tokens.{BookId, VaultState}
 use Rattle.pass_recover.specs.declared.fault.OpenFault.{OpenFault}
 use Rattle.pass_recover.specs.declared.fault.OpenFault.TheVariants as store
 use Rattle.pass_recover.specs.Faults.{LogHas, IsCauseOf}
+use Rattle.pass_recover.specs.Syncs.{LeavesRead}
 use Rattle.pass_vault.specs.Vaulted.{Vaulted}
 use Rattle.pass_vault.specs.Vaulted as vaults
 use Rattle.pass_vault.specs.Vaults.{begun_with}
@@ -79,13 +80,13 @@ same_error a b same = cc
 -- the store didn't open
 pub refused : {D : Type 0} (view : D → Moment) (old : Moment) (disk : D) (objects : ℕ) (fault : OpenFault) → IsCauseOf old (view disk) fault
     → ((fault ≡ store.DiskFault → ⊥) → (view disk).faults ≡ old.faults) → ((fault ≡ store.DiskFault → ⊥) → (view disk).seen ≡ old.seen)
-    → IsLeftAlone old (view disk) → IsLater old (view disk) → HasRefused view old objects (fault, disk)
-refused view old disk objects fault cause healthy reads alone later = record {
+    → IsLeftAlone old (view disk) → LeavesRead old (view disk) → IsLater old (view disk) → HasRefused view old objects (fault, disk)
+refused view old disk objects fault cause healthy reads alone since later = record {
   disk_fault = disk_cause old (view disk) fault cause;
   healthy = λ of_store. healthy (λ is. subst IsOfStore is of_store);
   judged = judged_fault old (view disk) fault cause;
-  bad_store = λ of_store. record { alone = alone; reads = reads };
-  left = inl (record { alone = alone; reads = reads });
+  bad_store = λ of_store. record { alone = alone; since = since; reads = reads };
+  left = inl (record { alone = alone; since = since; reads = reads });
   later = later;
 }
 
@@ -112,7 +113,11 @@ module _ {D : Type 0} (view : D → Moment) (old : Moment) (disk : D) (f : Found
   later = record { tells = found.tells; faults = omega (arith, found.healthy); calls = omega (arith, found.counted, found.earlier) }
 
   untouched : (fault : OpenFault) → IsUntouched old (view disk) fault
-  untouched fault = record { alone = found.alone; reads = λ _. found.seen }
+  untouched fault = record {
+    alone = found.alone;
+    since = λ _ c left. found.since c (subst (λ (n : ℕ). (view disk).left_since n c) (sym found.counted) left) ∙ found.seen;
+    reads = λ _. found.seen;
+  }
 
   pub no_memory : HasRefused view old objects (store.NoMemory, disk)
   no_memory = record {

@@ -13,6 +13,7 @@ use Rattle.pass_recover.specs.declared.fault.OpenFault.{OpenFault}
 use Rattle.pass_recover.specs.declared.fault.OpenFault.TheVariants.{DiskFault}
 use Rattle.pass_recover.specs.Faults.{LogHas}
 use Rattle.pass_recover.specs.Starts.{IsStartOf, HasBytes}
+use Rattle.pass_recover.specs.Syncs.{LeavesRead}
 use Rattle.pass_session.specs.Judgements.{session_fault}
 
 -- the records are those of a log area's bytes over which a session begins
@@ -44,9 +45,10 @@ pub record IsLeftAlone (old new : Moment) : Type 0 where
   pub crash : (c : Image) → new.may_leave c → old.may_leave c
   pub adds : Adds old new old.may_leave
 
--- the same, and unless a device call failed the disk reads as before
+-- the same, and since both syncs with which it opened it leaves what was read; unless a device call failed the disk reads as before
 pub record IsUntouched (old new : Moment) (fault : OpenFault) : Type 0 where
   pub alone : IsLeftAlone old new
+  pub since : LeavesRead old new
   pub reads : fault ≢ DiskFault → new.seen ≡ old.seen
 
 -- The session that begins over the list, without an entry. Its records are kept since the two syncs with which the store opened,

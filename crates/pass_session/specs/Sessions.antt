@@ -90,7 +90,7 @@ pub record IsFound {D : Type 0} (old now : Moment) (f : Found D) : Type 0 where
   pub continues : (objects : ℕ) → 1 ≤ objects → objects ≤ 8192 → f.start.ceiling + objects < 2 ^ 48 → Continues f.image.list.items (session_of f.start objects)
   pub counted : f.since ≡ old.calls + 2
   pub earlier : f.since ≤ now.calls
-  pub since : IsTrue now.tells → (c : Image) → now.left_since f.since c → c ≡ now.seen
+  pub since : (c : Image) → now.left_since f.since c → c ≡ now.seen
   pub seen : now.seen ≡ old.seen
   pub tells : now.tells ≡ old.tells
   pub healthy : now.faults ≡ old.faults

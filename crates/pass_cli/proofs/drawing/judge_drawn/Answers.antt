@@ -1,12 +1,12 @@
 use Rattle.std.proofs.Common.{◌≡◌, ◌⊎◌, ◌∙◌, sym, subst, inl, ⊎_elim}
 use Rattle.pass_run.specs.declared.status.Status.{Status}
 use Rattle.pass_run.specs.declared.status.Status.TheVariants as status
-use Rattle.pass_run.specs.Stored.{IsBackedBy, IsLater, IsLeftAlone}
-use Rattle.pass_run.proofs.Moved.{alone_untouched, none_backed}
+use Rattle.pass_run.specs.Stored.{IsBackedBy, IsLater}
+use Rattle.pass_run.proofs.Moved.{none_backed}
 use Rattle.pass_cli.specs.Answers.{Outcome, HasRun, IsUnrecorded, IsRecorded, outcome_of_run}
 use Rattle.pass_cli.specs.Drawn.{IsTold, drawn_bytes}
 use Rattle.pass_cli.proofs.DrawnRuns.{drawn_run, still}
-use Rattle.pass_cli.proofs.Judging.{no_write}
+use Rattle.pass_cli.proofs.Judging.{no_write, still_unwritten}
 use Rattle.pass_cli.proofs.drawing.judge_drawn.Goals as goal
 
 pub returns-in-Ok-clause-judged : goal.returns-in-Ok-clause-judged
@@ -57,7 +57,7 @@ returns-in-Err-clause-recorded g c =
     let view = g.D.Disk.view in
     inl (
       record { no_list = e.list; no_start = e.start; no_history = e.history; no_syncs = e.syncs },
-      inl (subst (λ d. IsLeftAlone (view c.args.disk) (view d)) (sym e.disk) (alone_untouched (view c.args.disk))),
+      inl (still_unwritten view c.args.disk c.unopened.result.disk e.disk),
     )
 
 pub returns-in-Err-clause-backed : goal.returns-in-Err-clause-backed

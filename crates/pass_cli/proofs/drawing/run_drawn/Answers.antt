@@ -42,7 +42,7 @@ returns-clause-recorded g c =
     let r = c.run_trace.result in
     let old = g.D.Disk.view c.args.disk in
     let new = g.D.Disk.view r.disk in
-    ⊎_elim (λ (refused : IsRefused old new r.status (outcome_of_run r)). inl (refused.nothing, inl refused.alone))
+    ⊎_elim (λ (refused : IsRefused old new r.status (outcome_of_run r)). inl (refused.nothing, inl (record { alone = refused.alone; since = refused.since })))
     (⊎_elim (λ (held : IsHeldBack old new c.args.trace.now.lines.items r.status r.list.items r.start r.history.items r.syncs.items).
     inl (held.nothing, inr (subst (λ (ls : List TraceLine). HasBegun old new (objects_of ls)) same held.begun)))
     (λ (over : IsOverStore old.calls old new c.args.trace.now.lines.items r.list.items r.start r.history.items r.syncs.items).

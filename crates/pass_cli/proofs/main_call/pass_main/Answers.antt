@@ -7,6 +7,7 @@ use Rattle.pass_cli.specs.Asked.{IsAsked, IsPut}
 use Rattle.pass_cli.specs.declared.words.Question.{Question}
 use Rattle.pass_cli.specs.declared.words.Command.TheVariants.{Run, Gen, Ask, Follow}
 use Rattle.pass_cli.proofs.Commands.{ok_same, runs, runs_only, follows, asks, refuses, refusal_read, draws, draws_so, refuses_drawn}
+use Rattle.pass_cli.proofs.Judging.{still_unwritten}
 use Rattle.pass_cli.proofs.Streams.{untouched_on_disk}
 use Rattle.pass_cli.proofs.main_call.pass_main.Goals as goal
 
@@ -56,7 +57,9 @@ returns-in-Err-clause-run g c = λ run known.
     absurd ((refuses (map string_bytes c.args.words.now) c.read_words.result c.read_words.ensures.command c.in-Err.status c.in-Err.is (λ starved. known (c.answered-in-Err.ensures.starved (ap Err starved)))).0 run)
 
 pub returns-in-Err-clause-recorded : goal.returns-in-Err-clause-recorded
-returns-in-Err-clause-recorded g c = λ run. (g.S.Source.left c.args.source.now, λ tells. refl, inl (c.answered-in-Err.ensures.nothing, inl c.answered-in-Err.ensures.alone))
+returns-in-Err-clause-recorded g c = λ run.
+    let same = c.answered-in-Err.ensures.unopened (λ put. put) in
+    (g.S.Source.left c.args.source.now, λ tells. refl, inl (c.answered-in-Err.ensures.nothing, inl (still_unwritten g.D.Disk.view c.args.disk c.answered-in-Err.result.disk same)))
 
 pub returns-in-Err-clause-stops : goal.returns-in-Err-clause-stops
 returns-in-Err-clause-stops g c = λ tells run known.
@@ -141,7 +144,9 @@ returns-in-Err-clause-drawn g c = λ number lines is known.
     absurd (nothing_drawn _ number lines (refuses_drawn (map string_bytes c.args.words.now) c.read_words.result c.read_words.ensures.command c.in-Err.status c.in-Err.is (λ starved. known (c.answered-in-Err.ensures.starved (ap Err starved)))) is)
 
 pub returns-in-Err-clause-drawn_recorded : goal.returns-in-Err-clause-drawn_recorded
-returns-in-Err-clause-drawn_recorded g c = λ number lines is. inl (c.answered-in-Err.ensures.nothing, inl c.answered-in-Err.ensures.alone)
+returns-in-Err-clause-drawn_recorded g c = λ number lines is.
+    let same = c.answered-in-Err.ensures.unopened (λ put. put) in
+    inl (c.answered-in-Err.ensures.nothing, inl (still_unwritten g.D.Disk.view c.args.disk c.answered-in-Err.result.disk same))
 
 pub returns-in-Ok-Gen-clause-run : goal.returns-in-Ok-Gen-clause-run
 returns-in-Ok-Gen-clause-run g c = λ run. absurd ((draws (map string_bytes c.args.words.now) c.read_words.result c.read_words.ensures.command c.in-Ok-Gen.workers c.in-Ok-Gen.number c.in-Ok-Gen.lines (ok_same c.read_words.result c.in-Ok-Gen.field-0 (Gen c.in-Ok-Gen.workers c.in-Ok-Gen.number c.in-Ok-Gen.lines) c.in-Ok-Gen.is c.in-Ok-Gen.field-0-is)).0 run)

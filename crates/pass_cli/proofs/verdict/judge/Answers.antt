@@ -3,10 +3,10 @@ use Rattle.pass_trace.specs.TraceLines.{objects_of}
 use Rattle.pass_trace.specs.declared.trace.TraceLine.{TraceLine}
 use Rattle.pass_run.specs.declared.status.Status.{Status}
 use Rattle.pass_run.specs.declared.status.Status.TheVariants as status
-use Rattle.pass_run.specs.Stored.{HasBegun, IsLeftAlone, IsHeldBack, IsOverStore}
-use Rattle.pass_run.proofs.Moved.{alone_untouched, none_backed}
+use Rattle.pass_run.specs.Stored.{HasBegun, IsHeldBack, IsOverStore}
+use Rattle.pass_run.proofs.Moved.{none_backed}
 use Rattle.pass_cli.specs.Answers.{IsRefusal, IsRefused, HasRun, outcome_of_run}
-use Rattle.pass_cli.proofs.Judging.{ran_run, refusal_run, same_error, no_write}
+use Rattle.pass_cli.proofs.Judging.{ran_run, refusal_run, same_error, no_write, still_unwritten}
 use Rattle.pass_cli.proofs.verdict.judge.Goals as goal
 
 pub returns-in-Ok-clause-judged : goal.returns-in-Ok-clause-judged
@@ -35,7 +35,7 @@ returns-in-Ok-clause-recorded g c =
     let new = g.D.Disk.view r.disk in (
       bytes,
       told,
-      ⊎_elim (λ (refused : IsRefused old new r.status (outcome_of_run r)). inl (refused.nothing, inl refused.alone))
+      ⊎_elim (λ (refused : IsRefused old new r.status (outcome_of_run r)). inl (refused.nothing, inl (record { alone = refused.alone; since = refused.since })))
           (⊎_elim (λ (held : IsHeldBack old new c.in-Ok.trace.lines.items r.status r.list.items r.start r.history.items r.syncs.items).
           inl (held.nothing, inr (subst (λ (ls : List TraceLine). HasBegun old new (objects_of ls)) same held.begun)))
           (λ (over : IsOverStore old.calls old new c.in-Ok.trace.lines.items r.list.items r.start r.history.items r.syncs.items).
@@ -71,7 +71,7 @@ returns-in-Err-clause-recorded g c =
       told,
       inl (
         record { no_list = e.list; no_start = e.start; no_history = e.history; no_syncs = e.syncs },
-        inl (subst (λ d. IsLeftAlone (view c.args.disk) (view d)) (sym e.disk) (alone_untouched (view c.args.disk))),
+        inl (still_unwritten view c.args.disk c.unopened.result.disk e.disk),
       ),
     )
 

@@ -1,4 +1,5 @@
-use Rattle.std.proofs.Common.{ℕ, ◌∙◌, List, map, IsTrue, inl, inr, refl, sym, ap, subst, arith}
+use Rattle.std.proofs.Common.{ℕ, ◌∙◌, List, map, IsTrue, refl, sym, ap, subst}
+use Rattle.std.specs.Prelude.{IsErr}
 use Rattle.pass_outside.specs.Runs.{adds_both}
 use Rattle.pass_entry.specs.declared.record.Record.{Record}
 use Rattle.pass_outside.specs.Areas.{Image}
@@ -9,6 +10,7 @@ use Rattle.pass_range.specs.Tables.{IsTableOf}
 use Rattle.pass_recover.specs.Starts.{apps_of, current_node}
 use Rattle.pass_recover.specs.Fills.{AreFilled, AreRead}
 use Rattle.pass_recover.proofs.Opened.{start_of, bytes_of, unmatched_of}
+use Rattle.pass_recover.proofs.Settled.{leaves_read, read_on}
 use Rattle.pass_recover.proofs.Sounding.{tells_files, sound, continues}
 use Rattle.pass_recover.proofs.opening.recover.Goals as goal
 
@@ -87,12 +89,38 @@ returns-clause-run g c =
 pub returns-clause-no_fault : goal.returns-clause-no_fault
 returns-clause-no_fault g c = λ never. c.in_ok-files.ensures.no_fault (λ err. absurd (cc (err))) ∙ c.in-Ok.ensures.work.no_fault (λ err. absurd (cc (err))) ∙ (c.in_ok-settle.ensures.run.ok refl).0
 
+pub returns-in_err-settle-clause-since : goal.returns-in_err-settle-clause-since
+returns-in_err-settle-clause-since g c = λ synced. absurd (c.settle.ensures.early (subst IsErr (sym c.in_err-settle.was) refl) synced)
+
+pub returns-in-Err-clause-since : goal.returns-in-Err-clause-since
+returns-in-Err-clause-since g c =
+    let s = c.in_ok-settle.ensures in
+    leaves_read (g.D.Disk.view c.args.disk.now) (g.D.Disk.view c.settle.new.disk) (g.D.Disk.view c.read_image.new.disk) s.two s.content s.durable s.since c.read_image.ensures.run
+
+pub returns-in_err-logged-clause-since : goal.returns-in_err-logged-clause-since
+returns-in_err-logged-clause-since g c =
+    let s = c.in_ok-settle.ensures in
+    leaves_read (g.D.Disk.view c.args.disk.now) (g.D.Disk.view c.settle.new.disk) (g.D.Disk.view c.read_image.new.disk) s.two s.content s.durable s.since c.read_image.ensures.run
+
+pub returns-in_err-table-clause-since : goal.returns-in_err-table-clause-since
+returns-in_err-table-clause-since g c =
+    let s = c.in_ok-settle.ensures in
+    leaves_read (g.D.Disk.view c.args.disk.now) (g.D.Disk.view c.settle.new.disk) (g.D.Disk.view c.read_image.new.disk) s.two s.content s.durable s.since c.read_image.ensures.run
+
+pub returns-in_err-files-clause-since : goal.returns-in_err-files-clause-since
+returns-in_err-files-clause-since g c =
+    let s = c.in_ok-settle.ensures in
+    read_on (g.D.Disk.view c.args.disk.now) (g.D.Disk.view c.settle.new.disk) (g.D.Disk.view c.read_image.new.disk) (g.D.Disk.view c.read_files.new.disk) s.two s.content s.durable s.since
+    c.read_image.ensures.crash c.read_image.ensures.run c.read_files.ensures.run
+
+pub returns-in_err-current_apps-clause-since : goal.returns-in_err-current_apps-clause-since
+returns-in_err-current_apps-clause-since g c =
+    let s = c.in_ok-settle.ensures in
+    read_on (g.D.Disk.view c.args.disk.now) (g.D.Disk.view c.settle.new.disk) (g.D.Disk.view c.read_image.new.disk) (g.D.Disk.view c.read_files.new.disk) s.two s.content s.durable s.since
+    c.read_image.ensures.crash c.read_image.ensures.run c.read_files.ensures.run
+
 pub returns-clause-since : goal.returns-clause-since
-returns-clause-since g c = λ i left.
-    let mid = g.D.Disk.view c.settle.new.disk in
-    let reads = adds_both mid.may_leave mid (g.D.Disk.view c.read_image.new.disk) (g.D.Disk.view c.read_files.new.disk) c.read_image.ensures.run c.read_files.ensures.run (λ i x. x) (λ i x. c.read_image.ensures.crash i x) in
-    let here : mid.may_leave i = elim (reads.nothing_else mid.calls i (omega arith) (subst (λ (n : ℕ). (g.D.Disk.view c.read_files.new.disk).left_since n i) (sym c.in_ok-settle.ensures.two) left)) [
-      | inl at ↦ c.in_ok-settle.ensures.since i at
-      | inr is ↦ is
-    ] in
-    c.in_ok-settle.ensures.durable i here ∙ c.in_ok-settle.ensures.content
+returns-clause-since g c =
+    let s = c.in_ok-settle.ensures in
+    read_on (g.D.Disk.view c.args.disk.now) (g.D.Disk.view c.settle.new.disk) (g.D.Disk.view c.read_image.new.disk) (g.D.Disk.view c.read_files.new.disk) s.two s.content s.durable s.since
+    c.read_image.ensures.crash c.read_image.ensures.run c.read_files.ensures.run

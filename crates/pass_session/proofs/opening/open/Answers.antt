@@ -8,7 +8,8 @@ judge-requires-clause-found g c =
     let view = g.D.Disk.view in
     let e = c.in-Ok.ensures in
     let count = c.calls-calls.ensures.count in
-    let went = e.later in
+    let went = e.later (λ err. absurd (cc)) in
+    let still = e.no_fault (λ err. absurd (cc)) in
     of_disk view c.of-first.result.value c.args.disk (view c.recover.new.disk) _ c.of-first.ensures (record {
       heard = e.image;
       read = e.open_next;
@@ -20,10 +21,10 @@ judge-requires-clause-found g c =
       continues = e.continues;
       counted = ap (λ n. n + 2) count;
       earlier = omega (arith, count, went);
-      since = λ told image left. e.since image (subst (λ n. (view c.recover.new.disk).left_since (n + 2) image) count left) ∙ sym e.content;
+      since = λ image left. e.since (went, λ _. still) image (subst (λ n. (view c.recover.new.disk).left_since (n + 2) image) count left) ∙ sym e.content;
       seen = e.content;
       tells = e.tells;
-      healthy = e.no_fault (λ err. absurd (cc));
+      healthy = still;
       alone = record { crash = e.crash; adds = e.run };
     })
 

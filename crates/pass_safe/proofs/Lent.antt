@@ -21,7 +21,7 @@ use Rattle.pass_vault.proofs.Keeping.{longer_self}
 use Rattle.pass_vault.specs.declared.vault.Receipt.{Receipt}
 use Rattle.pass_file.specs.Desks.{FileDeskView}
 use Rattle.pass_safe.specs.Commits.{flushed_to}
-use Rattle.pass_safe.specs.Syncings.{HasSynced, IsFileSaved, IsSaved}
+use Rattle.pass_safe.specs.Syncings.{HasReceipt, HasSynced, IsFileSaved, IsSaved}
 
 -- both had seen one history
 pub seen_back : (file vault : List Entry) (d : DeskState) (syncs new_syncs : List VaultSync) (seen : List Entry) → file ≡ vault → d.seen ≡ file → HasMet (name role.Desk d.what) d.seen d.syncs vault syncs seen new_syncs → seen ≡ file
@@ -160,3 +160,14 @@ err_on {A} {E} {P} r e is all = subst (λ (o : Result A E). OnErr o P) is all
 pub ok_map : {A E : Type 0} (P Q : A → Type 0) → ((x : A) → P x → Q x) → (r : Result A E) → IfOk r P → IfOk r Q
 ok_map P Q more (Ok x) all = more x all
 ok_map P Q more (Err e) all = tt
+
+-- a receipt of the vault, with the vault's note
+pub told_saved : {D : Type 0} (book : BookId) (v : Vaulted D) (r : Receipt) (told : NoteState) → IsSound book.session → told ≡ record { book = book; seen = v.seen; syncs = v.syncs } → HasReceipt v r
+    → IsSaved book v.seen (record { receipt = r; told = told })
+told_saved book v r told sound note has = record {
+  sound = sound;
+  of_book = ap (λ (n : NoteState). n.book) note;
+  begins = subst (λ (h : List Entry). IsPrefix v.seen h) (sym (ap (λ (n : NoteState). n.seen) note)) (prefix_self v.seen);
+  within = let all = ap (λ (n : NoteState). length n.seen) note in let most = has.within in omega (arith, all, most);
+  synced = subst (λ (ss : List VaultSync). HasSynced r.calls r.entries ss) (sym (ap (λ (n : NoteState). n.syncs) note)) has.synced;
+}

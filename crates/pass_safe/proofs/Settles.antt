@@ -1,6 +1,6 @@
 -- Files whose dirty blocks become durable one after the other.
 use Rattle.std.proofs.Common.{◌≡◌, ◌∙◌, inl, inr, ℕ, ◌<◌, Bool, true, false, List, [], ◌∷◌, ◌++◌, length, refl, sym, ap, subst, arith}
-use Rattle.std.specs.Prelude.{Option, Some, None, IfSome, get_or}
+use Rattle.std.specs.Prelude.{IfSome, Option, Some, None, get_or, slice_get}
 use Rattle.std.specs.List.{All}
 use Rattle.std.proofs.lemmas.List.Elements.{All-append, All-cons, All-nil}
 use Rattle.std.proofs.lemmas.Option.{get_or_from_slice_get, slice_get_within}
@@ -11,6 +11,7 @@ use Rattle.pass_plain.specs.Legal.{IsLegal}
 use Rattle.pass_plain.specs.Sessions.{Session}
 use Rattle.pass_plain.specs.Sound.{IsSound}
 use Rattle.pass_book.proofs.Backed.{durable_last}
+use Rattle.pass_plain.proofs.Appends.{slice_get-last}
 use Rattle.pass_book.proofs.Prefixes.{prefix_length, prefix_self}
 use Rattle.pass_book.specs.Syncs.{called, durable}
 use Rattle.pass_book.specs.declared.view.VaultSync.{VaultSync}
@@ -19,6 +20,7 @@ use Rattle.pass_file.specs.Desks.{FileDeskView}
 use Rattle.pass_vault.specs.Vaulted.{Vaulted, file_synced, flushed}
 use Rattle.pass_vault.specs.declared.vault.Receipt.{Receipt}
 use Rattle.pass_safe.specs.Commits.{flushed_to}
+use Rattle.pass_safe.specs.Syncings.{HasReceipt}
 use Rattle.pass_safe.specs.Settled.{AreAll, AreSettled, EndsWith, IsAmong, IsClean, IsDurable, settled_by}
 use Rattle.pass_safe.proofs.Clean.{stays_clean, untouched_law}
 use Rattle.pass_safe.proofs.Lent.{some_synced}
@@ -122,3 +124,18 @@ module _ {D : Type 0} (history : List Entry) (files : List FileDeskView) (v m w 
         last = record { front = e.front; last = e.last; list = e.list; called = e.called ∙ sym called_is; has = e.has ∙ sym has_is };
         all = has_is ∙ settled_durable (length history) files m.syncs w.syncs are (ap durable noted ∙ durable_last v.syncs (flushed calls (length history)));
       }
+
+-- the sync of a settled file stands in the vault's list
+pub receipt_of : {D : Type 0} (v w : Vaulted D) (f : FileDeskView) (r : Receipt) (calls : ℕ) → f.seen ≡ v.seen → w ≡ record v { disk = w.disk; syncs = settled_by f.what f.number v.syncs (Some r) }
+    → r ≡ record { calls = calls; entries = length f.seen } → HasReceipt w r
+receipt_of {D} v w f r calls seen done is = record {
+  within = let all = ap (λ (r : Receipt). r.entries) is in let same = ap length (ap (λ (u : Vaulted D). u.seen) done ∙ sym seen) in omega (arith, all, same);
+  synced = record {
+    i = length v.syncs;
+    s = file_synced f.what f.number r.calls r.entries;
+    is = ap (λ (u : Vaulted D). slice_get u.syncs (length v.syncs)) done ∙ slice_get-last v.syncs (file_synced f.what f.number r.calls r.entries);
+    whole = refl;
+    called = refl;
+    has = refl;
+  };
+}

@@ -29,6 +29,7 @@ use Rattle.pass_book.specs.Syncs.{durable}
 use Rattle.pass_book.specs.Tokens.{BookId}
 use Rattle.pass_vault.specs.Rooms.{most_entries}
 use Rattle.pass_vault.specs.Vaulted.{Vaulted}
+use Rattle.pass_vault.specs.declared.vault.Receipt.{Receipt}
 use Rattle.pass_safe.specs.declared.fault.SafeFault.{SafeFault}
 use Rattle.pass_safe.specs.declared.fault.SafeFault.TheVariants.{DiskFault, NoMemory}
 use Rattle.pass_safe.specs.declared.saving.Copied.{Copied}
@@ -140,6 +141,11 @@ pub record IsSaved (book : BookId) (seen : List Entry) (s : Saved) : Type 0 wher
   pub begins : IsPrefix seen s.told.seen
   pub within : s.receipt.entries ≤ length s.told.seen
   pub synced : HasSynced s.receipt.calls s.receipt.entries s.told.syncs
+
+-- the vault's list has the sync of a receipt, of no more entries than it has seen
+pub record HasReceipt {D : Type 0} (v : Vaulted D) (r : Receipt) : Type 0 where
+  pub within : r.entries ≤ length v.seen
+  pub synced : HasSynced r.calls r.entries v.syncs
 
 -- which is one of the data of this file
 pub record IsFileSaved (what number : ℕ) (s : Saved) : Type 0 where

@@ -25,6 +25,6 @@ pub use keeping::{Keeping, keep, refused_sync};
 pub use safe::Safe;
 pub use saving::{
     Copied, Saved, commit, commit_entries, copy, copy_all, copy_entries, flush_copied, is_durable,
-    share, share_entries,
+    look_told, share, share_entries,
 };
-pub use settling::{is_seen, settle_copied, settle_shared};
+pub use settling::{is_seen, settle_copied, settle_shared, told};

@@ -13,6 +13,7 @@ ghost use Rattle.pass_vault.specs.Rooms.{most_entries};
 ghost use Rattle.pass_vault.specs.Vaulted.{flushed, file_synced};
 ghost use Rattle.pass_safe.specs.Safes.{SafeView, IsLost, IsLostBy, lost_in};
 ghost use Rattle.pass_safe.specs.Settled.{HasDirty, IsClean, settled_by};
+ghost use Rattle.pass_safe.specs.Syncings.{HasReceipt};
 ghost use Rattle.pass_safe.specs.declared.fault.Lost.{Lost as AnyLost};
 ghost use Rattle.pass_safe.specs.declared.fault.SafeFault.TheVariants.{DiskFault, NoMemory};
 
@@ -197,6 +198,7 @@ impl<J: Whose, D: Disk> Safe<J, D> {
         ensures file { result.0 ≡ record file { syncs = result.0.syncs } }
         ensures done { IfOk result.1 (λ r. self.new.vault ≡ record self.old.vault { disk = self.new.vault.disk; syncs = settled_by file.what file.number self.old.vault.syncs r }) }
         ensures receipt { IfOk result.1 (λ o. IfSome o (λ r. r ≡ record { calls = (D.view self.new.vault.disk).calls; entries = length file.seen })) }
+        ensures synced { IfOk result.1 (λ o. IfSome o (HasReceipt self.new.vault)) }
         ensures idle { result.1 ≡ Ok None → (self.new ≡ self.old) × (result.0 ≡ file) }
         ensures dirty { IfOk result.1 (λ r. IsSome r ↔ HasDirty J.book.session file.seen file.syncs file.what) }
         // By the vault's list, where it has the syncs that the file knows, as `join` tells.

@@ -98,7 +98,7 @@ pub fn copy_all<J: Whose, D: Disk>(
 }
 
 /// A process sees what was told, and then the whole history.
-fn look_told<J: Whose>(proc: &mut Proc<J>, shelf: &mut Shelf<J>, told: Note)
+pub fn look_told<J: Whose>(proc: &mut Proc<J>, shelf: &mut Shelf<J>, told: Note)
     requires { told.book ≡ J.book }
     ensures looked { HasLooked J.book.session proc.old.who proc.old.seen proc.new.seen }
     ensures whole { proc.new.seen ≡ shelf.old.history }

@@ -1,15 +1,15 @@
 //! The data of a file, where a store is settled while its calls go on.
-ghost use Rattle.std.specs.Prelude.{◌≡◌, ◌⊎◌, ◌≤◌, ◌↔◌, Err, true, IfOk, IfErr, OnErr, length};
+ghost use Rattle.std.specs.Prelude.{◌≡◌, ◌⊎◌, ◌≤◌, ◌↔◌, Err, true, IfOk, IfErr, IfSome, OnErr, length};
 ghost use Rattle.pass_book.specs.Syncs.{durable};
 ghost use Rattle.pass_safe.specs.Commits.{HasFlushed, HasStopped};
 ghost use Rattle.pass_safe.specs.Safes.{Leaves};
 ghost use Rattle.pass_safe.specs.Settled.{HasSettled, settled_by};
-ghost use Rattle.pass_safe.specs.Syncings.{HasRisen, IsCopy};
+ghost use Rattle.pass_safe.specs.Syncings.{HasReceipt, HasRisen, IsCopy, IsSaved};
 ghost use Rattle.pass_safe.specs.declared.fault.SafeFault.TheVariants.{NoMemory};
 
 use crate::fault::SafeFault;
 use crate::safe::Safe;
-use crate::saving::{Copied, flush_copied};
+use crate::saving::{Copied, Saved, flush_copied};
 use pass_file::FileDesk;
 use pass_hold::Whose;
 use pass_outside::Disk;
@@ -35,6 +35,7 @@ pub fn settle_shared<J: Whose, D: Disk>(
     requires below { length file.seen ≤ durable safe.old.vault.syncs }
     ensures file { result.0 ≡ record file { seen = safe.old.vault.seen; syncs = result.0.syncs } }
     ensures done { IfOk result.1 (λ r. safe.new.vault ≡ record safe.old.vault { disk = safe.new.vault.disk; syncs = settled_by file.what file.number safe.old.vault.syncs r }) }
+    ensures synced { IfOk result.1 (λ o. IfSome o (HasReceipt safe.new.vault)) }
     ensures undone { OnErr result.1 (safe.new.vault ≡ record safe.old.vault { disk = safe.new.vault.disk }) }
     ensures memory { result.1 ≡ Err NoMemory → safe.new ≡ safe.old }
     ensures risen { IfErr result.1 HasRisen }
@@ -54,6 +55,7 @@ pub fn settle_copied<J: Whose, D: Disk>(
     requires copied { IsCopy J.book safe.old.vault copied file.seen }
     ensures file { result.0 ≡ record file { syncs = result.0.syncs } }
     ensures done { IfOk result.1 (λ r. HasSettled file safe.old.vault safe.new.vault r) }
+    ensures synced { IfOk result.1 (λ o. IfSome o (HasReceipt safe.new.vault)) }
     ensures undone { OnErr result.1 (HasStopped file.seen safe.old.vault safe.new.vault) }
     ensures memory { result.1 ≡ Err NoMemory → ((safe.new ≡ safe.old) ⊎ HasFlushed file.seen safe.old.vault safe.new.vault) × (result.0 ≡ file) }
     ensures risen { IfErr result.1 HasRisen }
@@ -63,4 +65,17 @@ pub fn settle_copied<J: Whose, D: Disk>(
         return (file, Err(fault));
     }
     safe.settle(alloc, file)
+}
+
+#[tactic(auto, using(crate::proofs::Lent::told_saved))]
+/// A receipt of the vault, with what the vault has seen. It takes no memory.
+pub fn told<J: Whose, D: Disk>(safe: &mut Safe<J, D>, receipt: Receipt) -> Saved
+    requires { HasReceipt safe.old.vault receipt }
+    ensures safe { safe.new ≡ safe.old }
+    ensures receipt { result.receipt ≡ receipt }
+    ensures saved { IsSaved J.book safe.old.vault.seen result }
+{
+    let _durable = safe.durable();
+    let told = safe.note();
+    Saved { receipt, told }
 }

@@ -11,6 +11,7 @@ ghost use Rattle.pass_vault.specs.Rooms.{most_entries};
 ghost use Rattle.pass_vault.specs.Vaulted.{flushed, file_synced};
 ghost use Rattle.pass_safe.specs.Safes.{IsSafe, lost_in};
 ghost use Rattle.pass_safe.specs.Settled.{HasDirty, IsClean, settled_by};
+ghost use Rattle.pass_safe.specs.Syncings.{HasReceipt};
 ghost use Rattle.pass_safe.specs.declared.fault.SafeFault.TheVariants.{NoMemory};
 
 use crate::fault::{SafeFault, fault_of};
@@ -127,6 +128,7 @@ pub(crate) fn settle_file<J: Whose, D: Disk>(
     ensures file { result.0 ≡ record file { syncs = result.0.syncs } }
     ensures done { IfOk result.1 (λ r. vault.new ≡ record vault.old { disk = vault.new.disk; syncs = settled_by file.what file.number vault.old.syncs r }) }
     ensures receipt { IfOk result.1 (λ o. IfSome o (λ r. r ≡ record { calls = (D.view vault.new.disk).calls; entries = length file.seen })) }
+    ensures synced { IfOk result.1 (λ o. IfSome o (HasReceipt vault.new)) }
     ensures idle { result.1 ≡ Ok None → (vault.new ≡ vault.old) × (result.0 ≡ file) }
     ensures dirty { IfOk result.1 (λ r. IsSome r ↔ HasDirty J.book.session file.seen file.syncs file.what) }
     ensures clean { OnOk result.1 (IsPrefix file.syncs vault.old.syncs → IsClean J.book.session vault.new.seen vault.new.syncs file.what) }

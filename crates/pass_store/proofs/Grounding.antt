@@ -1,4 +1,4 @@
--- What a vault was opened with stays, whatever a sync does; and what its receipt counts.
+-- What a vault was opened with stays, whatever a sync does.
 use Rattle.std.proofs.Common.{◌≡◌, ℕ, Bool, ◌<◌, ◌≤◌, List, inl, inr, ap, sym, subst, refl, ◌∙◌, ◌++◌, ◌∷◌, [], arith}
 use Rattle.std.specs.Prelude.{Result, Ok, Err, IfOk, OnErr}
 use Rattle.pass_entry.specs.declared.entry.Entry.{Entry}
@@ -32,18 +32,6 @@ pub flushed : {D : Type 0} (ground : Ground) (seen : List Entry) (old new : Vaul
     → IfOk answer (λ s. new ≡ flushed_to old new seen s.receipt.calls) → OnErr answer (HasNotFlushed seen old new) → ground_of new ≡ ground
 flushed ground seen old new (Ok s) was done undone = ap ground_of done ∙ was
 flushed ground seen old new (Err e) was done undone = ap ground_of undone.vault ∙ was
-
--- a sync's first entry is among those that its receipt counts
-above_all : (place n calls : ℕ) (s : Saved) → place < n → s.receipt ≡ record { calls = calls; entries = n } → place < s.receipt.entries
-above_all place n calls s low same = let all = ap (λ (r : Receipt). r.entries) same in omega (arith, low, all)
-
-pub all_above : (place n calls : ℕ) (answer : Result Saved SafeFault) → place < n → IfOk answer (λ s. s.receipt ≡ record { calls = calls; entries = n }) → IfOk answer (λ s. place < s.receipt.entries)
-all_above place n calls (Ok s) low same = above_all place n calls s low same
-all_above place n calls (Err e) low same = tt
-
-pub more_above : (place n : ℕ) (answer : Result Saved SafeFault) → place < n → IfOk answer (λ s. n ≤ s.receipt.entries) → IfOk answer (λ s. place < s.receipt.entries)
-more_above place n (Ok s) low more = omega (arith, low, more)
-more_above place n (Err e) low more = tt
 
 -- a disk that goes on is the one that the store was opened over
 pub gone_on : (tells : Bool) (opened : ℕ) (old new : Moment) → HasGoneOn tells opened old → GoesOn old new → HasGoneOn tells opened new

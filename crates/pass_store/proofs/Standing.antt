@@ -14,11 +14,6 @@ use Rattle.pass_safe.specs.declared.fault.SafeFault.TheVariants.{DiskFault, NoMe
 use Rattle.pass_store.specs.Closings.{IsFaultSince}
 use Rattle.pass_store.specs.Grounds.{Ground, ground_of}
 
-pub entries_stand : {D : Type 0} (ground : Ground) (seen : List Entry) (old new : Vaulted D) (answer : Result Receipt SafeFault) → ground_of old ≡ ground
-    → IfOk answer (λ r. new ≡ flushed_to old new seen r.calls) → OnErr answer (HasNotFlushed seen old new) → ground_of new ≡ ground
-entries_stand ground seen old new (Ok r) was done undone = ap ground_of done ∙ was
-entries_stand ground seen old new (Err e) was done undone = ap ground_of undone.vault ∙ was
-
 pub shared_stand : {D : Type 0} (ground : Ground) (f : FileDeskView) (old new : Vaulted D) (answer : Result (Option Receipt) SafeFault) → ground_of old ≡ ground
     → IfOk answer (λ r. new ≡ record old { disk = new.disk; syncs = settled_by f.what f.number old.syncs r }) → OnErr answer (new ≡ record old { disk = new.disk }) → ground_of new ≡ ground
 shared_stand ground f old new (Ok r) was done undone = ap ground_of done ∙ was

@@ -17,6 +17,11 @@ Has (slots.Living p) sought.Process what = p.who ≡ what
 Has (slots.Ended p) sought.Process what = p.who ≡ what
 Has _ _ what = ⊥
 
+-- a process that has ended lies here, of this number
+abbrev pub KeepsEnded : {J : Type 0} → Slot J → ℕ → Type 0
+KeepsEnded (slots.Ended p) who = p.who ≡ who
+KeepsEnded _ who = ⊥
+
 -- the object of a descriptor lies here: a file, a pipe or an app object, as the descriptor says
 abbrev pub HasObject : {J : Type 0} → Slot J → Descriptor → Type 0
 HasObject (slots.File f) d = (is_file d ≡ true) × (f.what ≡ d.pnode)

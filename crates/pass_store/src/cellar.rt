@@ -1,20 +1,21 @@
 //! The vault of a store, as it lies under its lock.
-ghost use Rattle.std.specs.Prelude.{◌≡◌, ℕ, ◌+◌, ◌<◌, ◌≤◌, List, IfOk, IfErr, length};
+ghost use Rattle.std.specs.Prelude.{◌≡◌, ℕ, ◌+◌, ◌<◌, ◌≤◌, List, IfOk, IfErr, IfSome, length};
 ghost use Rattle.pass_entry.specs.declared.entry.Entry.{Entry as AnyEntry};
 ghost use Rattle.pass_book.specs.Syncs.{durable};
-ghost use Rattle.pass_safe.specs.Syncings.{HasKept, IsCopy, IsFileSaved, IsSaved, KeepingView};
+ghost use Rattle.pass_safe.specs.Syncings.{HasKept, HasReceipt, IsCopy, IsFileSaved, IsSaved, KeepingView};
 ghost use Rattle.pass_store.specs.Closings.{IsFaultSince};
 ghost use Rattle.pass_store.specs.Grounds.{HasGoneOn, ground_of};
+ghost use Rattle.pass_store.specs.Meetings.{HasMet};
+ghost use Rattle.pass_store.specs.Settlings.{IsSavedIn};
 
 use crate::ground::Opening;
 use pass_file::FileDesk;
 use pass_hold::Shelf;
 use pass_outside::Disk;
 use pass_proc::Proc;
-use pass_registry::RegistryDesk;
 use pass_safe::{
-    Copied, Keeping, Safe, SafeFault, Saved, commit, commit_entries, copy, copy_all, copy_entries,
-    flush_copied, is_durable, is_seen, settle_copied, settle_shared, share, share_entries,
+    Copied, Keeping, Safe, SafeFault, Saved, commit, commit_entries, copy, copy_entries,
+    is_durable, is_seen, settle_copied, settle_shared, share, share_entries, told,
 };
 use pass_vault::Receipt;
 use std::alloc::{AllocError, Global};
@@ -82,47 +83,42 @@ impl<J: Opening, D: Disk> Cellar<J, D> {
         copy(&mut self.safe, file, &mut shelf)
     }
 
-    #[tactic(auto, using(crate::proofs::Grounding::left_on, crate::proofs::Grounding::committed, crate::proofs::Grounding::all_above, crate::proofs::Standing::fault_since))]
+    #[tactic(auto, using(crate::proofs::Grounding::left_on, crate::proofs::Grounding::committed, crate::proofs::Receipts::whole_of, crate::proofs::Standing::fault_since))]
     /// Makes the entries that were copied durable, and then the data of the file.
     fn commit_file(
         &mut self,
         alloc: Global,
         file: FileDesk<J>,
         copied: Copied,
-        keeping: &Keeping<J>,
     ) -> (FileDesk<J>, Result<Saved, SafeFault>)
         requires copied { IsCopy J.book self.old.vault copied file.seen }
-        requires place { keeping.now.place < length file.seen }
         ensures what { result.0.what ≡ file.what }
         ensures saved { IfOk result.1 (λ s. IsSaved J.book result.0.seen s) }
         ensures of_file { IfOk result.1 (λ s. IsFileSaved result.0.what result.0.number s) }
-        ensures above { IfOk result.1 (λ s. keeping.now.place < s.receipt.entries) }
+        ensures whole { IfOk result.1 (λ s. length file.seen ≤ s.receipt.entries) }
         ensures fault { IfErr result.1 (IsFaultSince D.view J.ground.opened) }
     {
-        let _ = keeping;
         commit(alloc, &mut self.safe, file, copied)
     }
 
-    #[tactic(auto, using(crate::proofs::Grounding::left_on, crate::proofs::Grounding::shared, crate::proofs::Grounding::more_above, crate::proofs::Standing::fault_since))]
+    #[tactic(auto, using(crate::proofs::Grounding::left_on, crate::proofs::Grounding::shared, crate::proofs::Standing::fault_since))]
     /// Makes the data of a file durable, all of whose entries are so.
     fn share_file(
         &mut self,
         alloc: Global,
         file: FileDesk<J>,
-        keeping: &Keeping<J>,
     ) -> (FileDesk<J>, Result<Saved, SafeFault>)
         requires below { length file.seen ≤ durable self.old.vault.syncs }
-        requires place { keeping.now.place < length file.seen }
         ensures what { result.0.what ≡ file.what }
         ensures saved { IfOk result.1 (λ s. IsSaved J.book result.0.seen s) }
         ensures of_file { IfOk result.1 (λ s. IsFileSaved result.0.what result.0.number s) }
-        ensures above { IfOk result.1 (λ s. keeping.now.place < s.receipt.entries) }
+        ensures whole { IfOk result.1 (λ s. length file.seen ≤ s.receipt.entries) }
         ensures fault { IfErr result.1 (IsFaultSince D.view J.ground.opened) }
     {
-        let _ = keeping;
         share(alloc, &mut self.safe, file)
     }
 
+    #[tactic(auto, using(crate::proofs::Receipts::place_above, crate::proofs::Receipts::place_below))]
     /// Makes the entries durable that a sync of a file waits for, and the file's data. The book is locked while they are copied, and
     /// free while the disk is at work.
     pub(crate) fn save_file<R: Wait>(
@@ -141,17 +137,18 @@ impl<J: Opening, D: Disk> Cellar<J, D> {
         ensures fault { IfErr result.1 (IsFaultSince D.view J.ground.opened) }
     {
         if is_durable(&self.safe, keeping) {
-            return self.share_file(alloc, file, keeping);
+            return self.share_file(alloc, file);
         }
         let mut file = file;
         match self.copy_file(rt, book, &mut file) {
-            Ok(copied) => self.commit_file(alloc, file, copied, keeping),
+            Ok(copied) => self.commit_file(alloc, file, copied),
             Err(_) => (file, Err(SafeFault::NoMemory)),
         }
     }
 }
 
 impl<J: Opening, D: Disk> Cellar<J, D> {
+    #[tactic(auto, using(crate::proofs::Receipts::met_by))]
     /// Copies what is not durable, in one hold of the book. The process sees the whole history.
     fn copy_history<R: Wait>(
         &mut self,
@@ -160,6 +157,7 @@ impl<J: Opening, D: Disk> Cellar<J, D> {
         proc: &mut Proc<J>,
     ) -> Result<Copied, AllocError>
         ensures same { self.new ≡ self.old }
+        ensures met { HasMet J.book.session proc.old proc.new }
         ensures state { proc.new.state ≡ proc.old.state }
         ensures kept { (k : KeepingView) (what : ℕ) → HasKept J.book.session k proc.old what → HasKept J.book.session k proc.new what }
         ensures grows { length proc.old.seen ≤ length proc.new.seen }
@@ -169,26 +167,23 @@ impl<J: Opening, D: Disk> Cellar<J, D> {
         copy_entries(&mut self.safe, proc, &mut shelf)
     }
 
-    #[tactic(auto, using(crate::proofs::Grounding::left_on, crate::proofs::Grounding::flushed, crate::proofs::Grounding::all_above, crate::proofs::Standing::fault_since))]
+    #[tactic(auto, using(crate::proofs::Grounding::left_on, crate::proofs::Grounding::flushed, crate::proofs::Receipts::whole_of, crate::proofs::Standing::fault_since))]
     /// Makes the entries that were copied durable.
     fn commit_history(
         &mut self,
         alloc: Global,
         proc: &Proc<J>,
         copied: Copied,
-        keeping: &Keeping<J>,
     ) -> Result<Saved, SafeFault>
         requires copied { IsCopy J.book self.old.vault copied proc.now.seen }
-        requires place { keeping.now.place < length proc.now.seen }
-        ensures saved { IfOk result (λ s. (seen : List AnyEntry) × IsSaved J.book seen s) }
-        ensures above { IfOk result (λ s. keeping.now.place < s.receipt.entries) }
+        ensures saved { IfOk result (IsSavedIn J.book) }
+        ensures whole { IfOk result (λ s. length proc.now.seen ≤ s.receipt.entries) }
         ensures fault { IfErr result (IsFaultSince D.view J.ground.opened) }
     {
-        let _ = keeping;
         commit_entries(alloc, &mut self.safe, proc, copied)
     }
 
-    #[tactic(auto, using(crate::proofs::Standing::lost_since))]
+    #[tactic(auto, using(crate::proofs::Standing::lost_since, crate::proofs::Receipts::place_above))]
     /// Makes the entries durable that a sync of a pipe or an app object waits for. Where something is to be made durable its process sees
     /// the whole history.
     pub(crate) fn save_history<R: Wait>(
@@ -210,37 +205,32 @@ impl<J: Opening, D: Disk> Cellar<J, D> {
             return share_entries(&mut self.safe, keeping);
         }
         match self.copy_history(rt, book, proc) {
-            Ok(copied) => self.commit_history(alloc, proc, copied, keeping),
+            Ok(copied) => self.commit_history(alloc, proc, copied),
+            Err(_) => Err(SafeFault::NoMemory),
+        }
+    }
+
+    /// Makes every entry durable. The process sees the whole history.
+    pub(crate) fn settle_history<R: Wait>(
+        &mut self,
+        rt: &R,
+        alloc: Global,
+        book: &Mutex<Shelf<J>>,
+        proc: &mut Proc<J>,
+    ) -> Result<Saved, SafeFault>
+        ensures met { HasMet J.book.session proc.old proc.new }
+        ensures saved { IfOk result (IsSavedIn J.book) }
+        ensures whole { IfOk result (λ s. length proc.new.seen ≤ s.receipt.entries) }
+        ensures fault { IfErr result (IsFaultSince D.view J.ground.opened) }
+    {
+        match self.copy_history(rt, book, proc) {
+            Ok(copied) => self.commit_history(alloc, proc, copied),
             Err(_) => Err(SafeFault::NoMemory),
         }
     }
 }
 
 impl<J: Opening, D: Disk> Cellar<J, D> {
-    /// Copies what is not durable, in one hold of the book. The registry sees the whole history.
-    pub(crate) fn copy_all(
-        &mut self,
-        registry: &mut RegistryDesk<J>,
-        shelf: &mut Shelf<J>,
-    ) -> Result<Copied, AllocError>
-        ensures { IfOk result (λ c. (seen : List AnyEntry) × IsCopy J.book self.new.vault c seen) }
-    {
-        copy_all(&mut self.safe, registry, shelf)
-    }
-
-    #[tactic(auto, using(crate::proofs::Grounding::left_on, crate::proofs::Standing::entries_stand, crate::proofs::Standing::fault_since))]
-    /// Makes the entries that were copied durable.
-    pub(crate) fn settle_entries(
-        &mut self,
-        alloc: Global,
-        copied: Copied,
-    ) -> Result<Receipt, SafeFault>
-        requires { (seen : List AnyEntry) × IsCopy J.book self.old.vault copied seen }
-        ensures { IfErr result (IsFaultSince D.view J.ground.opened) }
-    {
-        flush_copied(alloc, &mut self.safe, copied)
-    }
-
     #[tactic(auto, using(crate::proofs::Grounding::left_on, crate::proofs::Standing::shared_stand, crate::proofs::Standing::fault_since))]
     /// Writes the changed blocks of a file, all of whose entries are durable.
     fn settle_seen(
@@ -249,7 +239,8 @@ impl<J: Opening, D: Disk> Cellar<J, D> {
         file: FileDesk<J>,
     ) -> (FileDesk<J>, Result<Option<Receipt>, SafeFault>)
         requires { length file.seen ≤ durable self.old.vault.syncs }
-        ensures { IfErr result.1 (IsFaultSince D.view J.ground.opened) }
+        ensures synced { IfOk result.1 (λ o. IfSome o (HasReceipt self.new.vault)) }
+        ensures fault { IfErr result.1 (IsFaultSince D.view J.ground.opened) }
     {
         settle_shared(alloc, &mut self.safe, file)
     }
@@ -263,21 +254,23 @@ impl<J: Opening, D: Disk> Cellar<J, D> {
         copied: Copied,
     ) -> (FileDesk<J>, Result<Option<Receipt>, SafeFault>)
         requires { IsCopy J.book self.old.vault copied file.seen }
-        ensures { IfErr result.1 (IsFaultSince D.view J.ground.opened) }
+        ensures synced { IfOk result.1 (λ o. IfSome o (HasReceipt self.new.vault)) }
+        ensures fault { IfErr result.1 (IsFaultSince D.view J.ground.opened) }
     {
         settle_copied(alloc, &mut self.safe, file, copied)
     }
 
     /// Writes the changed blocks of a file, once its entries are durable. The book is locked while they are copied, and free while
     /// the disk is at work.
-    pub(crate) fn settle_file<R: Wait>(
+    fn write_file<R: Wait>(
         &mut self,
         rt: &R,
         alloc: Global,
         book: &Mutex<Shelf<J>>,
         file: FileDesk<J>,
     ) -> (FileDesk<J>, Result<Option<Receipt>, SafeFault>)
-        ensures { IfErr result.1 (IsFaultSince D.view J.ground.opened) }
+        ensures synced { IfOk result.1 (λ o. IfSome o (HasReceipt self.new.vault)) }
+        ensures fault { IfErr result.1 (IsFaultSince D.view J.ground.opened) }
     {
         let (file, seen) = is_seen(&self.safe, file);
         if seen {
@@ -288,5 +281,36 @@ impl<J: Opening, D: Disk> Cellar<J, D> {
             Ok(copied) => self.settle_unseen(alloc, file, copied),
             Err(_) => (file, Err(SafeFault::NoMemory)),
         }
+    }
+
+    /// What settling came to, with what the vault has seen.
+    fn told(
+        &mut self,
+        settled: Result<Option<Receipt>, SafeFault>,
+    ) -> Result<Option<Saved>, SafeFault>
+        requires synced { IfOk settled (λ o. IfSome o (HasReceipt self.old.vault)) }
+        requires fault { IfErr settled (IsFaultSince D.view J.ground.opened) }
+        ensures saved { IfOk result (λ o. IfSome o (IsSavedIn J.book)) }
+        ensures fault { IfErr result (IsFaultSince D.view J.ground.opened) }
+    {
+        let Some(receipt) = settled? else {
+            return Ok(None);
+        };
+        Ok(Some(told(&mut self.safe, receipt)))
+    }
+
+    /// Writes the changed blocks of a file, and tells what the vault has seen then.
+    pub(crate) fn settle_file<R: Wait>(
+        &mut self,
+        rt: &R,
+        alloc: Global,
+        book: &Mutex<Shelf<J>>,
+        file: FileDesk<J>,
+    ) -> (FileDesk<J>, Result<Option<Saved>, SafeFault>)
+        ensures saved { IfOk result.1 (λ o. IfSome o (IsSavedIn J.book)) }
+        ensures fault { IfErr result.1 (IsFaultSince D.view J.ground.opened) }
+    {
+        let (file, settled) = self.write_file(rt, alloc, book, file);
+        (file, self.told(settled))
     }
 }

@@ -2,7 +2,7 @@
 ghost use Rattle.std.specs.Prelude.{◌≡◌, ℕ, List, None, Some, slice_get};
 ghost use Rattle.pass_entry.specs.declared.entry.Entry.{Entry as AnyEntry};
 ghost use Rattle.pass_lives.specs.Exits.{HasExited};
-ghost use Rattle.pass_store.specs.Slots.{Has};
+ghost use Rattle.pass_store.specs.Slots.{Has, KeepsEnded};
 ghost use Rattle.pass_store.specs.declared.slot.Sought.TheVariants as sought;
 
 use crate::ground::Opening;
@@ -46,6 +46,7 @@ fn end_in<J: Whose>(
     requires left { slice_get exiting.rest 0 ≡ None }
     ensures call { HasExited J.book.session exiting.before result.1.seen result.0 }
     ensures who { result.1.who ≡ exiting.before.who }
+    ensures ended { KeepsEnded slot.new exiting.before.who }
 {
     match mem::replace(slot, Slot::Empty) {
         Slot::Living(living) => {

@@ -1,9 +1,9 @@
 //! The call `settle`, while the store's other calls go on.
-ghost use Rattle.std.specs.Prelude.{◌≡◌, IfErr, IfOk, List};
-ghost use Rattle.std.specs.Sync.Mutex.{mutex_guard_value};
-ghost use Rattle.pass_entry.specs.declared.entry.Entry.{Entry as AnyEntry};
-ghost use Rattle.pass_safe.specs.Syncings.{IsCopy};
+ghost use Rattle.std.specs.Prelude.{◌≡◌, ◌≤◌, IfErr, IfOk, IfSome, length};
+ghost use Rattle.pass_safe.specs.Syncings.{HasSynced};
 ghost use Rattle.pass_store.specs.Closings.{IsFaultSince, IsStopped};
+ghost use Rattle.pass_store.specs.Meetings.{HasLookedOn, HasMet};
+ghost use Rattle.pass_store.specs.Settlings.{HasSettled, IsSavedIn};
 
 use crate::cellar::Cellar;
 use crate::ending::answered;
@@ -14,11 +14,12 @@ use pass_calls::CallEnd;
 use pass_file::FileDesk;
 use pass_hold::Shelf;
 use pass_outside::{Disk, Gate};
-use pass_safe::{Copied, SafeFault};
+use pass_proc::Proc;
+use pass_safe::{SafeFault, Saved, look_told};
 use pass_vault::Receipt;
-use std::alloc::{AllocError, Global};
+use std::alloc::Global;
 use std::mem;
-use std::sync::{Mutex, MutexGuard, Wait};
+use std::sync::{Mutex, Wait};
 
 /// Writes the changed blocks of a file, under the vault's lock.
 fn settle_held<R: Wait, J: Opening, D: Disk>(
@@ -27,8 +28,9 @@ fn settle_held<R: Wait, J: Opening, D: Disk>(
     file: FileDesk<J>,
     vault: &Mutex<Cellar<J, D>>,
     book: &Mutex<Shelf<J>>,
-) -> (FileDesk<J>, Result<Option<Receipt>, SafeFault>)
-    ensures { IfErr result.1 (IsFaultSince D.view J.ground.opened) }
+) -> (FileDesk<J>, Result<Option<Saved>, SafeFault>)
+    ensures saved { IfOk result.1 (λ o. IfSome o (IsSavedIn J.book)) }
+    ensures fault { IfErr result.1 (IsFaultSince D.view J.ground.opened) }
 {
     let mut vault = vault.lock(rt);
     vault.settle_file(rt, alloc, book, file)
@@ -41,8 +43,9 @@ fn settle_in<R: Wait, J: Opening, D: Disk>(
     slot: &mut Slot<J>,
     vault: &Mutex<Cellar<J, D>>,
     book: &Mutex<Shelf<J>>,
-) -> Result<Option<Receipt>, SafeFault>
-    ensures { IfErr result (IsFaultSince D.view J.ground.opened) }
+) -> Result<Option<Saved>, SafeFault>
+    ensures saved { IfOk result (λ o. IfSome o (IsSavedIn J.book)) }
+    ensures fault { IfErr result (IsFaultSince D.view J.ground.opened) }
 {
     match mem::replace(slot, Slot::Empty) {
         Slot::File(file) => {
@@ -58,36 +61,31 @@ fn settle_in<R: Wait, J: Opening, D: Disk>(
 }
 
 impl<'g, J: Opening, D: Disk, G: Gate> Store<'g, J, D, G> {
-    /// The vault, under its lock, with a copy of what is not durable.
-    fn copied<R: Wait>(&self, rt: &R) -> (MutexGuard<'_, Cellar<J, D>>, Result<Copied, AllocError>)
-        ensures { IfOk result.1 (λ c. (seen : List AnyEntry) × IsCopy J.book (mutex_guard_value result.0).vault c seen) }
+    /// Makes the entries durable that were made before, all of which the process sees. The book is free while the disk is at work.
+    fn settle_entries<R: Wait>(
+        &self,
+        rt: &R,
+        alloc: Global,
+        proc: &mut Proc<J>,
+    ) -> Result<Saved, SafeFault>
+        ensures met { HasMet J.book.session proc.old proc.new }
+        ensures saved { IfOk result (IsSavedIn J.book) }
+        ensures whole { IfOk result (λ s. length proc.new.seen ≤ s.receipt.entries) }
+        ensures fault { IfErr result (IsFaultSince D.view J.ground.opened) }
     {
-        let mut registry = self.locks.registry.lock(rt);
         let mut vault = self.vault.lock(rt);
-        let mut shelf = self.locks.book.lock(rt);
-        let copied = vault.copy_all(&mut registry, &mut shelf);
-        (vault, copied)
-    }
-
-    /// Makes the entries durable that were made before. Registry and book are free while the disk is at work.
-    fn settle_entries<R: Wait>(&self, rt: &R, alloc: Global) -> Result<Receipt, SafeFault>
-        ensures { IfErr result (IsFaultSince D.view J.ground.opened) }
-    {
-        let (mut vault, copied) = self.copied(rt);
-        match copied {
-            Ok(copied) => vault.settle_entries(alloc, copied),
-            Err(_) => Err(SafeFault::NoMemory),
-        }
+        vault.settle_history(rt, alloc, &self.locks.book, proc)
     }
 
     /// Writes the changed blocks of the file that lies in a lock.
-    fn settle_next<R: Wait>(
+    fn settle_lock<R: Wait>(
         &self,
         rt: &R,
         alloc: Global,
         lock: &Mutex<Slot<J>>,
-    ) -> Result<Option<Receipt>, SafeFault>
-        ensures { IfErr result (IsFaultSince D.view J.ground.opened) }
+    ) -> Result<Option<Saved>, SafeFault>
+        ensures saved { IfOk result (λ o. IfSome o (IsSavedIn J.book)) }
+        ensures fault { IfErr result (IsFaultSince D.view J.ground.opened) }
     {
         let mut slot = lock.lock(rt);
         if let Some(file) = slot.file() {
@@ -96,25 +94,106 @@ impl<'g, J: Opening, D: Disk, G: Gate> Store<'g, J, D, G> {
         settle_in(rt, alloc, &mut slot, &self.vault, &self.locks.book)
     }
 
-    /// Makes the entries durable, and then the changed blocks of each file.
-    fn settle_each<R: Wait>(&self, rt: &R, alloc: Global) -> Result<Receipt, SafeFault>
-        ensures { IfErr result (IsFaultSince D.view J.ground.opened) }
+    /// Writes the changed blocks of the next file. The answer is the later sync of the two: a later one never has fewer entries.
+    fn settle_next<R: Wait>(
+        &self,
+        rt: &R,
+        alloc: Global,
+        lock: &Mutex<Slot<J>>,
+        last: Saved,
+    ) -> Result<Saved, SafeFault>
+        requires saved { IsSavedIn J.book last }
+        ensures saved { IfOk result (IsSavedIn J.book) }
+        ensures more { IfOk result (λ s. last.receipt.entries ≤ s.receipt.entries) }
+        ensures fault { IfErr result (IsFaultSince D.view J.ground.opened) }
     {
-        let mut receipt = self.settle_entries(rt, alloc)?;
-        for lock in self.locks.slots.iter() {
-            if let Some(later) = self.settle_next(rt, alloc, lock)? {
-                receipt = later;
-            }
+        let Some(next) = self.settle_lock(rt, alloc, lock)? else {
+            return Ok(last);
+        };
+        if next.receipt.entries < last.receipt.entries {
+            return Ok(last);
         }
-        Ok(receipt)
+        Ok(next)
     }
 
-    #[tactic(auto, using(crate::proofs::Causes::stopped_as))]
-    /// Makes every entry durable that was made before, and writes each changed block, by ascending numbers of the files. Other calls
-    /// go on meanwhile. The answer has the numbers of the last sync that it made.
-    pub fn settle<R: Wait>(&self, rt: &R, alloc: Global) -> Result<Receipt, CallEnd>
-        ensures { IfErr result (IsStopped D.view J.ground.opened) }
+    /// Writes the changed blocks of each file, after a sync of entries. The answer is the last sync.
+    fn settle_files<R: Wait>(&self, rt: &R, alloc: Global, saved: Saved) -> Result<Saved, SafeFault>
+        requires saved { IsSavedIn J.book saved }
+        ensures saved { IfOk result (IsSavedIn J.book) }
+        ensures more { IfOk result (λ s. saved.receipt.entries ≤ s.receipt.entries) }
+        ensures fault { IfErr result (IsFaultSince D.view J.ground.opened) }
     {
-        answered(self.settle_each(rt, alloc))
+        let mut last = saved;
+        for lock in self.locks.slots.iter() {
+            last = self.settle_next(rt, alloc, lock, last)?;
+        }
+        Ok(last)
+    }
+
+    #[tactic(auto, using(crate::proofs::Receipts::whole_still))]
+    /// Makes the entries durable, and then the changed blocks of each file.
+    fn settle_each<R: Wait>(
+        &self,
+        rt: &R,
+        alloc: Global,
+        proc: &mut Proc<J>,
+    ) -> Result<Saved, SafeFault>
+        ensures met { HasMet J.book.session proc.old proc.new }
+        ensures saved { IfOk result (IsSavedIn J.book) }
+        ensures whole { IfOk result (λ s. length proc.new.seen ≤ s.receipt.entries) }
+        ensures fault { IfErr result (IsFaultSince D.view J.ground.opened) }
+    {
+        match self.settle_entries(rt, alloc, proc) {
+            Ok(saved) => self.settle_files(rt, alloc, saved),
+            Err(fault) => Err(fault),
+        }
+    }
+
+    #[tactic(auto, using(crate::proofs::Receipts::synced_told, crate::proofs::Receipts::met_by))]
+    /// The process sees what the vault had seen with a sync, and then the whole history.
+    fn tell<R: Wait>(&self, rt: &R, proc: &mut Proc<J>, saved: Saved) -> Receipt
+        requires saved { IsSavedIn J.book saved }
+        ensures met { HasMet J.book.session proc.old proc.new }
+        ensures receipt { result ≡ saved.receipt }
+        ensures synced { HasSynced result.calls result.entries proc.new.syncs }
+    {
+        let Saved { receipt, told } = saved;
+        let mut shelf = self.locks.book.lock(rt);
+        look_told(proc, &mut shelf, told);
+        receipt
+    }
+
+    #[tactic(auto, using(crate::proofs::Receipts::looked_once, crate::proofs::Receipts::looked_again, crate::proofs::Receipts::settled_with))]
+    /// The same, after which the process sees the last sync.
+    fn settle_told<R: Wait>(
+        &self,
+        rt: &R,
+        alloc: Global,
+        proc: &mut Proc<J>,
+    ) -> Result<Receipt, SafeFault>
+        ensures looked { HasLookedOn J.book.session proc.old proc.new }
+        ensures settled { IfOk result (HasSettled proc.old proc.new) }
+        ensures fault { IfErr result (IsFaultSince D.view J.ground.opened) }
+    {
+        match self.settle_each(rt, alloc, proc) {
+            Ok(saved) => Ok(self.tell(rt, proc, saved)),
+            Err(fault) => Err(fault),
+        }
+    }
+
+    #[tactic(auto, using(crate::proofs::Causes::stopped_as, crate::proofs::Receipts::settled_as))]
+    /// Makes every entry durable that was made before, and writes each changed block, by ascending numbers of the files. Other calls
+    /// go on meanwhile. It is asked by a process, which sees the last sync that it made; the answer has that one's numbers.
+    pub fn settle<R: Wait>(
+        &self,
+        rt: &R,
+        alloc: Global,
+        proc: &mut Proc<J>,
+    ) -> Result<Receipt, CallEnd>
+        ensures looked { HasLookedOn J.book.session proc.old proc.new }
+        ensures settled { IfOk result (HasSettled proc.old proc.new) }
+        ensures stopped { IfErr result (IsStopped D.view J.ground.opened) }
+    {
+        answered(self.settle_told(rt, alloc, proc))
     }
 }

@@ -132,7 +132,7 @@ fn on_held<J: Opening, D: Disk, G: Gate, R: Wait>(
         Call::Sync(fd) => told(store.pass_sync(rt, alloc, proc, low(fd))),
         Call::Number => Answer::Number(proc.number()),
         Call::Seen => Answer::Number(proc.seen()),
-        Call::Settle => match store.settle(rt, alloc) {
+        Call::Settle => match store.settle(rt, alloc, proc) {
             Ok(receipt) => Answer::Synced(receipt.calls, receipt.entries),
             Err(end) => ended(&end),
         },

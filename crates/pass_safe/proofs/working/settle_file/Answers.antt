@@ -1,10 +1,13 @@
-use Rattle.std.proofs.Common.{◌≡◌, ℕ, List, refl, sym, ◌∙◌, subst, arith, length}
+use Rattle.std.proofs.Common.{◌≡◌, ◌++◌, ◌∷◌, [], ℕ, List, refl, sym, ◌∙◌, subst, arith, length}
 use Rattle.std.specs.Vec.{vec_len}
 use Rattle.pass_entry.specs.declared.entry.Entry.{Entry}
 use Rattle.pass_clean.specs.Blocks.{IsRisingBy}
 use Rattle.pass_safe.specs.Settled.{IsClean}
 use Rattle.pass_safe.proofs.Clean.{clean_not_dirty, is_zero, none_dirty, not_zero, some_dirty, stays_clean}
-use Rattle.pass_safe.proofs.Lent.{ok_on}
+use Rattle.pass_vault.specs.Vaulted.{file_synced}
+use Rattle.pass_vault.specs.declared.vault.Receipt.{Receipt}
+use Rattle.pass_safe.proofs.Lent.{ok_of, ok_on}
+use Rattle.pass_safe.proofs.Settles.{receipt_of}
 use Rattle.pass_safe.proofs.working.settle_file.Goals as goal
 
 pub save_blocks-file-requires-clause-rising : goal.save_blocks-file-requires-clause-rising
@@ -41,3 +44,15 @@ returns-in-Ok-result-clause-dirty g c =
 
 pub returns-in-Ok-result-clause-clean : goal.returns-in-Ok-result-clause-clean
 returns-in-Ok-result-clause-clean g c = λ listed. ok_on c.save_blocks-file.result.1 c.in-Ok-result.receipt c.in-Ok-result.is c.save_blocks-file.ensures.clean
+
+pub returns-in-Ok-result-clause-synced : goal.returns-in-Ok-result-clause-synced
+returns-in-Ok-result-clause-synced g c =
+    let v = c.args.vault.now in
+    let w = c.save_blocks-file.new.vault in
+    let f = c.args.file in
+    let r = c.in-Ok-result.receipt in
+    let calls = (g.D.Disk.view w.disk).calls in
+    let e = c.save_blocks-file.ensures in
+    receipt_of v w f r calls c.requires.seen
+    (ok_of (λ (r : Receipt). w ≡ record v { disk = w.disk; syncs = v.syncs ++ file_synced f.what f.number r.calls r.entries ∷ [] }) c.save_blocks-file.result.1 r c.in-Ok-result.is e.done)
+    (ok_of (λ (r : Receipt). r ≡ record { calls = calls; entries = length f.seen }) c.save_blocks-file.result.1 r c.in-Ok-result.is e.receipt)

@@ -22,7 +22,7 @@ use std::fmt::Write;
 pub struct Tally {
     calls: u64,
     writes: u64,
-    bytes: u64,
+    bytes: u128,
 }
 
 fn is_write(name: CallName) -> bool
@@ -69,7 +69,7 @@ fn wrote(idle: &ProcessState, entry: &Entry) -> bool
 impl Tally {
     fn note(&mut self, idle: &ProcessState, entry: &Entry)
         requires idle { idle.now ≡ new_process }
-        requires room { (self.old.calls < 2 ^ 63) × (self.old.writes < 2 ^ 63) × (self.old.bytes + transfer_limit < 2 ^ 64) }
+        requires room { (self.old.calls < 2 ^ 63) × (self.old.writes < 2 ^ 63) × (self.old.bytes + transfer_limit < 2 ^ 128) }
         ensures calls { self.new.calls ≡ self.old.calls + (if ends_of entry.now then 1 else 0) }
         ensures writes { self.new.writes ≡ self.old.writes + (if wrote_of entry.now then 1 else 0) }
         ensures bytes { self.new.bytes ≡ self.old.bytes + (if wrote_of entry.now then length_written_of entry.now.act else 0) }
@@ -80,7 +80,7 @@ impl Tally {
         }
         if wrote(idle, entry) {
             self.writes += 1;
-            self.bytes += length_written(&entry.act);
+            self.bytes += u128::from(length_written(&entry.act));
         }
     }
 }

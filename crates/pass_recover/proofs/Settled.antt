@@ -4,7 +4,7 @@ use Rattle.std.specs.Prelude.{Result, IsOk, IsErr}
 use Rattle.pass_outside.specs.Areas.{Image}
 use Rattle.pass_outside.specs.Moments.{Moment, Adds, IsAtEnd, IsDeviceCall}
 use Rattle.pass_outside.specs.Runs.{adds_both}
-use Rattle.pass_recover.specs.Syncs.{HasSynced, LeavesRead}
+use Rattle.pass_recover.specs.Syncs.{HasBothSyncs, LeavesRead}
 
 -- a call that fails at the end of a count changes none
 abbrev Stands : Moment → Moment → Type 0
@@ -18,14 +18,14 @@ counted old new r call failed stands A rose stood = ⊎_elim
     (λ (at : IsAtEnd old × (new.calls ≡ old.calls) × (new.faults ≡ old.faults)). stood at.1) (call.err failed)
 
 -- the first sync failed
-pub first_failed : {T E : Type 0} (old new : Moment) (r : Result T E) → IsDeviceCall old new r → IsErr r → Stands old new → HasSynced old new → ⊥
+pub first_failed : {T E : Type 0} (old new : Moment) (r : Result T E) → IsDeviceCall old new r → IsErr r → Stands old new → HasBothSyncs old new → ⊥
 first_failed old new r call failed stands synced =
     let two = synced.0 in
     counted old new r call failed stands ⊥ (λ (one : new.calls ≡ old.calls + 1) _. omega (arith, one, two)) (λ (same : new.calls ≡ old.calls). omega (arith, same, two))
 
 -- the second sync failed
 pub second_failed : {T E U F : Type 0} (old mid new : Moment) (r : Result T E) (s : Result U F) → IsDeviceCall old mid r → IsOk r → IsDeviceCall mid new s → IsErr s → Stands mid new
-    → HasSynced old new → ⊥
+    → HasBothSyncs old new → ⊥
 second_failed old mid new r s first went call failed stands synced =
     let before = first.one_more (first.ok went).1 in
     let still = (first.ok went).0 in

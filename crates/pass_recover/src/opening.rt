@@ -15,7 +15,7 @@ ghost use Rattle.pass_record.specs.declared.fault.RecordFault.{RecordFault};
 ghost use Rattle.pass_recover.specs.Faults.{IsCauseOf};
 ghost use Rattle.pass_recover.specs.Fills.{other_ranges};
 ghost use Rattle.pass_recover.specs.Starts.{IsStartOf, HasBytes};
-ghost use Rattle.pass_recover.specs.Syncs.{HasSynced, LeavesRead};
+ghost use Rattle.pass_recover.specs.Syncs.{HasBothSyncs, LeavesRead};
 
 use crate::OpenFault;
 use crate::blank::current_apps;
@@ -45,7 +45,7 @@ fn settle<D: Disk>(disk: &mut D) -> Result<(), Failed>
     ensures since { OnOk result ((c : Image) → (D.view disk.new).left_since (D.view disk.new).calls c → (D.view disk.new).may_leave c) }
     ensures content { OnOk result ((D.view disk.new).seen ≡ (D.view disk.old).seen) }
     ensures two { OnOk result ((D.view disk.new).calls ≡ (D.view disk.old).calls + 2) }
-    ensures early { IsErr result → HasSynced (D.view disk.old) (D.view disk.new) → ⊥ }
+    ensures early { IsErr result → HasBothSyncs (D.view disk.old) (D.view disk.new) → ⊥ }
     ensures crash { (c : Image) → (D.view disk.new).may_leave c → (D.view disk.old).may_leave c }
     ensures run { IsDeviceRun (D.view disk.old) (D.view disk.new) result (D.view disk.old).may_leave }
 {

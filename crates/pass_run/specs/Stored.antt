@@ -21,7 +21,7 @@ use Rattle.pass_range.specs.Rows.{IsUnmatched}
 use Rattle.pass_recover.specs.declared.fault.OpenFault.{OpenFault}
 use Rattle.pass_recover.specs.Faults.{LogHas}
 use Rattle.pass_recover.specs.Starts.{IsStartOf, HasBytes}
-pub use Rattle.pass_recover.specs.Syncs.{HasSynced, LeavesRead}
+pub use Rattle.pass_recover.specs.Syncs.{HasBothSyncs, LeavesRead}
 use Rattle.pass_report.specs.Reports.{SameButBytes, report_of}
 use Rattle.pass_trace.specs.TraceLines.{objects_of, plain_trace, session_of_trace}
 use Rattle.pass_trace.specs.declared.trace.TraceLine.{TraceLine}

@@ -15,7 +15,7 @@ use Rattle.pass_pattern.specs.Grammar.Binding.{alt, seq, rep, atom}
 use Rattle.pass_pattern.specs.Grammar.IsText.{plain, named, group, once, star, only, then_on, alone, or_else}
 use Rattle.pass_pattern.specs.Reading.{Last, Level, State, state, fresh, joined_shape, whole_shape, step_of, pattern_of}
 use Rattle.pass_pattern.specs.Reading.Last.{Nothing, Letter, Name, Atom, Starred}
-use Rattle.pass_pattern.proofs.Running.{and_on, run, runs_on}
+use Rattle.pass_pattern.proofs.Running.{and_on, run, runs_on, not_some}
 
 abbrev with_steps : Option Shape → Option Shape → Level
 with_steps alternatives steps = record { alternatives = alternatives; steps = steps }
@@ -92,9 +92,6 @@ read_named edge name fine none level outer = record {
       (ap (λ b. and_on (if b then Some (state (Atom (One edge (Some name))) level outer) else None) (λ t. Some t)) fine);
   at = refl;
 }
-
-not_some : {X : Type 0} (x : X) → ◌≡◌ {A = Option X} None (Some x) → ⊥
-not_some x is = cc
 
 -- behind a step that may have a star it comes
 read_star : (last : Last) (p : Shape) (level : Level) (outer : List Level) → atom_of last ≡ Some p → run (state last level outer) (codes "*") ≡ Some (state (Starred (Many p)) level outer)

@@ -2,8 +2,10 @@
 use Rattle.std.proofs.Common.{ℕ, ◌≡◌, ◌≤◌, ◌<◌, ◌+◌, true, false, ◌⊎◌, inl, inr, refl, sym, ap, ◌∙◌, subst, List, [], ◌∷◌, ◌++◌, length, take, drop, get_or, arith}
 use Rattle.std.specs.Prelude.{Option, Some, None, Ok, Err}
 use Rattle.std.proofs.lemmas.Grind.{get_or_default_zero}
-use Rattle.std.proofs.lemmas.List.{append-nil, take_all, take_more, take-take, take-append-drop, length-take-le}
+use Rattle.std.proofs.lemmas.List.{append-nil, take_all, take-take, take-append-drop, length-take-le}
 use Rattle.pass_plain.proofs.Lists.{some_is, at_most, below_or}
+use Rattle.pass_plain.proofs.Calling.{le_or_above}
+use Rattle.pass_plain.proofs.Replays.{take-next}
 use Rattle.pass_pattern.specs.declared.reader.Mark.TheVariants as mark
 use Rattle.pass_pattern.specs.declared.fault.PatternFault.TheVariants as fault
 use Rattle.pass_pattern.specs.declared.reader.Reader.{Reader}
@@ -42,10 +44,6 @@ none_read text = record {
       let n : length t.outer ≡ 0 = ap (λ (u : State). length u.outer) (sym same) in omega (arith, n);
 }
 
--- the first bytes with one more
-take_on : (text : List ℕ) (at byte : ℕ) → at < length text → byte ≡ get_or text at byte → take (at + 1) text ≡ take at text ++ byte ∷ []
-take_on text at byte within is = take_more text at byte within ∙ ap (λ b. take at text ++ b ∷ []) (sym is)
-
 take_part : (text : List ℕ) (small large : ℕ) → small ≤ large → take large text ≡ take small text ++ drop small (take large text)
 take_part text small large low = sym (take-append-drop small (take large text)) ∙ ap (λ xs. xs ++ drop small (take large text)) (take-take small large text low)
 
@@ -64,9 +62,6 @@ pattern_begins text p = record { rest = []; is = subst IsPattern (sym (append-ni
 shallow_open : (text : List ℕ) (size : ℕ) (t : State) → run first (take size text) ≡ Some t → length t.outer ≤ 64 → ¬ (64 < open_from false 0 (take size text))
 shallow_open text size t is low deep = let many = open_behind t (take size text) is in omega (arith, many, low, deep)
 
-le_or : (a b : ℕ) → (a ≤ b) ⊎ (b < a)
-le_or a b = grind arith
-
 -- a byte that no pattern has there
 pub bad_byte : (text : List ℕ) (at byte : ℕ) (t : State) → length text ≤ 255 → HasRead text at t → at < length text → byte ≡ get_or text at byte → read_byte t byte ≡ None → IsBad text at
 bad_byte text at byte t short has within is refused =
@@ -82,7 +77,7 @@ bad_byte text at byte t short has within is refused =
     front_short = let size = length-take-le at text (omega (arith, within)) in omega (arith, size, short, within)
 
     stop : run first (take (at + 1) text) ≡ None
-    stop = ap (run first) (take_on text at byte within is) ∙ runs_on first t (take at text) (byte ∷ []) None has.is (ap (λ o. and_on o (λ u. Some u)) refused)
+    stop = ap (run first) (take-next text at byte within is) ∙ runs_on first t (take at text) (byte ∷ []) None has.is (ap (λ o. and_on o (λ u. Some u)) refused)
 
     over : (size : ℕ) → at < size → ¬ (IsBeginning (take size text))
     over size low b = dead text (at + 1) size stop (omega (arith, low)) b
@@ -95,7 +90,7 @@ bad_byte text at byte t short has within is refused =
 
     at_long : IsLong text → ⊥
     at_long (inl more) = omega (arith, short, more)
-    at_long (inr d) = at_deep d (le_or d.size at)
+    at_long (inr d) = at_deep d (le_or_above d.size at)
 
 -- one parenthesis more than may be open
 pub deep_byte : (text : List ℕ) (at byte : ℕ) (level : Level) (outer : List Level) → length text ≤ 255 → HasRead text at (state Nothing level outer) → at < length text → byte ≡ get_or text at byte
@@ -111,7 +106,7 @@ deep_byte text at byte level outer short has within is opens full =
     behind = state Nothing fresh (level ∷ outer)
 
     on : run first (take (at + 1) text) ≡ Some behind
-    on = ap (run first) (take_on text at byte within is)
+    on = ap (run first) (take-next text at byte within is)
         ∙ runs_on first (state Nothing level outer) (take at text) (byte ∷ []) (Some behind) has.is (ap (λ m. and_on (begun level outer m) (λ u. Some u)) opens)
 
     front_short : length (take (at + 1) text) ≤ 255
@@ -131,7 +126,7 @@ more_read text at s reader has within read = record { is = on; shallow = λ size
     to = reads_to s.last s.level s.outer (get_or text at 0) reader read
 
     on : run first (take (at + 1) text) ≡ Some (state_of reader)
-    on = ap (run first) (take_on text at (get_or text at 0) within (byte_at text at within))
+    on = ap (run first) (take-next text at (get_or text at 0) within (byte_at text at within))
         ∙ runs_on first s (take at text) (get_or text at 0 ∷ []) (Some (state_of reader)) has.is (ap (λ o. and_on o (λ u. Some u)) to.is)
 
     at_size : (size : ℕ) (t : State) → run first (take size text) ≡ Some t → (size < at + 1) ⊎ ((at + 1 < size) ⊎ (size ≡ at + 1)) → size ≤ at + 1 → length t.outer ≤ 64
@@ -163,7 +158,7 @@ module _ (text : List ℕ) (t : State) (short : length text ≤ 255) (has : HasR
 
   not_long : ¬ (IsLong text)
   not_long (inl more) = omega (arith, short, more)
-  not_long (inr d) = at_deep d (le_or d.size (length text))
+  not_long (inr d) = at_deep d (le_or_above d.size (length text))
     where
       at_size : (d : IsDeep text) (size : ℕ) → size ≤ length text → take d.size text ≡ take size text → ⊥
       at_size d size low same =

@@ -23,6 +23,7 @@ use Rattle.pass_graph.proofs.Ranking.{not_any}
 use Rattle.pass_waldo.specs.Orders.{node_cmp}
 use Rattle.pass_waldo.proofs.Indexing.{node_cmp_total}
 use Rattle.pass_query.specs.Answers.{HasAllLeaving}
+use Rattle.pass_query.proofs.Elements.{Contains-place, Contains-at, there_behind}
 use Rattle.pass_pattern.specs.declared.pattern.EdgeTest.{EdgeTest}
 use Rattle.pass_pattern.specs.declared.code.Instruction.{Instruction}
 use Rattle.pass_pattern.specs.declared.code.Instruction.TheVariants.{Found, Along, Both}
@@ -30,7 +31,6 @@ use Rattle.pass_pattern.specs.declared.search.Visit.{Visit}
 use Rattle.pass_pattern.specs.Codes.{edges_of, edges_in}
 use Rattle.pass_pattern.specs.Visits.{visit, LeadsBy, Runs, LooksFrom, IsCounted}
 use Rattle.pass_pattern.specs.Visits.Runs.{here, on}
-use Rattle.pass_pattern.proofs.Visiting.{there_at, at_there}
 
 -- an edge with the place of the instruction that looked at it
 abbrev pub Look : Type 0
@@ -201,9 +201,6 @@ place_count k (Both left right ∷ code) =
     let more = sum_by-append edges_of (Both left right ∷ []) code in
     omega (arith, later, more)
 
-behind : {X : Type 0} (y : X) (xs : List X) (x : X) → Contains xs x → Contains (y ∷ xs) x
-behind y xs x (k, within, is) = (suc k, omega (arith, within), is)
-
 place_there : (k : ℕ) (code : List Instruction) (j : ℕ) → IsAlong code j → Contains (places k code) (k + j)
 place_there k [] j along = absurd (let z = along.at in cc)
 place_there k (Found ∷ code) zero along = absurd (let z = along.at in cc)
@@ -216,7 +213,7 @@ place_there k (Both left right ∷ code) (suc j) along =
     (place_there (k + 1) code j (record { edge = along.edge; name = along.name; next = along.next; at = along.at }))
 place_there k (Along edge name next ∷ code) zero along = (0, omega arith, let z : k ≡ k + 0 = omega arith in z)
 place_there k (Along edge name next ∷ code) (suc j) along =
-    behind k (places (k + 1) code) (k + suc j) (subst (Contains (places (k + 1) code)) (let z : k + 1 + j ≡ k + suc j = omega arith in z)
+    there_behind k (places (k + 1) code) (k + suc j) (subst (Contains (places (k + 1) code)) (let z : k + 1 + j ≡ k + suc j = omega arith in z)
     (place_there (k + 1) code j (record { edge = along.edge; name = along.name; next = along.next; at = along.at })))
 
 abbrev with_place : ℕ → Node × Node → Look
@@ -257,12 +254,12 @@ bounded list code visits next start taken first edges so come all =
     at_look l there =
         let o = so.origin l there in
         product_there (places 0 code) edges l.0 l.1 (subst (Contains (places 0 code)) (let z : 0 + l.0 ≡ l.0 = omega arith in z) (place_there 0 code l.0 o.along))
-        (all l.1.0 l.1.1 o.leads (come (visit l.1.0 l.0) (at_there visits o.number (visit l.1.0 l.0) o.at)))
+        (all l.1.0 l.1.1 o.leads (come (visit l.1.0 l.0) (Contains-at visits o.number (visit l.1.0 l.0) o.at)))
 
     among : (q : Look) → list_any (same_look q) so.looks ≡ true → list_any (same_look q) (products (places 0 code) edges) ≡ true
     among q any =
         let (k, l, at, same) = any_at (same_look q) so.looks any in
-        let (j, there) = there_at (products (places 0 code) edges) l (at_look l (at_there so.looks k l at)) in
+        let (j, there) = Contains-place (products (places 0 code) edges) l (at_look l (Contains-at so.looks k l at)) in
         any_of (same_look q) (products (places 0 code) edges) j l there same
 
 -- each visit to which the code leads is at the node or an ancestor of it

@@ -15,14 +15,11 @@ use Rattle.pass_pattern.specs.Patterns.Shape.{One, Many}
 use Rattle.pass_pattern.specs.Grammar.{opened, is_brace, open_from}
 use Rattle.pass_pattern.specs.Reading.{Last, Level, State, state, fresh, joined_shape, whole_shape, begun, behind_step, behind_atom, behind_letter, in_name, read_on, read_byte, state_of, is_full, IsReadFrom}
 use Rattle.pass_pattern.specs.Reading.Last.{Nothing, Letter, Name, Atom, Starred}
-use Rattle.pass_pattern.proofs.Running.{and_on, run}
+use Rattle.pass_pattern.proofs.Running.{and_on, run, not_some}
 
 abbrev pub is_named : Last → Bool
 is_named (Name edge name) = true
 is_named _ = false
-
-not_some : {X : Type 0} (x : X) → ◌≡◌ {A = Option X} None (Some x) → ⊥
-not_some x is = cc
 
 -- the state counts what the mark opens
 record Counts (brace : Bool) (depth : ℕ) (t : State) : Type 0 where

@@ -1,14 +1,12 @@
 -- The nodes at which paths of a shape end, in order.
-use Rattle.std.proofs.Common.{ℕ, ◌≡◌, ◌<◌, ◌+◌, ◌==◌, zero, suc, Bool, true, false, refl, sym, ap, ◌∙◌, List, [], ◌∷◌, ◌++◌, length, take, get_or, arith, Ordering}
+use Rattle.std.proofs.Common.{ℕ, ◌≡◌, ◌<◌, ◌+◌, ◌==◌, zero, suc, Bool, true, false, refl, sym, ap, ◌∙◌, List, [], ◌∷◌, ◌++◌, length, take, get_or, arith}
 use Rattle.std.specs.Prelude.{Some, None, Contains, if◌then◌else◌}
 use Rattle.std.specs.List.{cons_option, IsDistinct, AllByRecursion}
-use Rattle.std.specs.List.Sorted.{IsStrictlySortedBy, IsSorted, IsPermutation}
-use Rattle.std.specs.Ordering.{ordering_reverse, is_lt}
-use Rattle.std.specs.declared.cmp.Ordering.TheVariants.{Less, Equal, Greater}
+use Rattle.std.specs.List.Sorted.{IsSorted, IsPermutation}
 use Rattle.std.proofs.lemmas.List.{take_more}
 use Rattle.std.proofs.lemmas.List.Elements.{filter_map-append}
 use Rattle.std.proofs.lemmas.List.Sorted.{Contains-permutation, IsPermutation-sym}
-use Rattle.std.proofs.lemmas.Map.Keys.{IsDistinct-IsPermutation, apart_from_distinct, sorted_from_all_adjacent}
+use Rattle.std.proofs.lemmas.Map.Keys.{IsDistinct-IsPermutation}
 use Rattle.pass_entry.specs.declared.objects.Node.{Node}
 use Rattle.pass_entry.specs.declared.record.Record.{Record}
 use Rattle.pass_plain.specs.Versions.{same_node}
@@ -16,7 +14,7 @@ use Rattle.pass_plain.proofs.Lists.{same_numbers, both_true}
 use Rattle.pass_graph.proofs.Noding.{same_node_is, same_node_equiv}
 use Rattle.pass_graph.proofs.Ranking.{not_any}
 use Rattle.pass_waldo.specs.Orders.{node_cmp}
-use Rattle.pass_waldo.proofs.Indexing.{node_cmp_total, node_exact}
+use Rattle.pass_query.proofs.Elements.{strictly}
 use Rattle.pass_pattern.specs.declared.code.Instruction.{Instruction}
 use Rattle.pass_pattern.specs.declared.search.Visit.{Visit}
 use Rattle.pass_pattern.specs.Patterns.{Shape}
@@ -25,22 +23,6 @@ use Rattle.pass_pattern.specs.Visits.{same_visit, visit, AreVisits, end_of, ends
 use Rattle.pass_pattern.specs.Answers.{AreJoined}
 use Rattle.pass_pattern.proofs.Joining.{joined_comes, comes_joined}
 use Rattle.pass_pattern.proofs.Looking.{each_at}
-
--- a sorted list that has no node twice is strictly sorted
-strictly : (v : List Node) (d : Node) → IsSorted node_cmp v → IsDistinct same_node v → IsStrictlySortedBy node_cmp v
-strictly v d up apart = sorted_from_all_adjacent node_cmp_total v d (λ k within. at_test k within (node_cmp (get_or v k d) (get_or v (k + 1) d)) refl)
-  where
-    at_test : (k : ℕ) → k + 1 < length v → (o : Ordering) → node_cmp (get_or v k d) (get_or v (k + 1) d) ≡ o → node_cmp (get_or v k d) (get_or v (k + 1) d) ≡ Less
-    at_test k within Less is = is
-    at_test k within Equal is =
-        let same : get_or v k d ≡ get_or v (k + 1) d = node_exact (get_or v k d) (get_or v (k + 1) d) is in
-        let differ : same_node (get_or v k d) (get_or v (k + 1) d) ≡ false = apart_from_distinct same_node v k (k + 1) d apart (omega arith) within in
-        let z : true ≡ false = sym (ap (same_node (get_or v k d)) (sym same) ∙ same_node_equiv.refl (get_or v k d)) ∙ differ in
-        absurd (cc)
-    at_test k within Greater is =
-        let turned : node_cmp (get_or v (k + 1) d) (get_or v k d) ≡ Less = node_cmp_total.antisymm (get_or v (k + 1) d) (get_or v k d) ∙ ap ordering_reverse is in
-        let z : true ≡ false = sym (ap is_lt turned) ∙ up k d (omega arith) within in
-        absurd (cc)
 
 -- an end is that of a visit at the first place
 ends_there : (visits : List Visit) (n : Node) → Contains (ends_of visits) n → Contains visits (visit n 0)

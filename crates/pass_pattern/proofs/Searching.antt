@@ -7,23 +7,21 @@ use Rattle.std.proofs.lemmas.Option.{slice_get_within, get_or_from_slice_get}
 use Rattle.pass_entry.specs.declared.objects.Node.{Node}
 use Rattle.pass_entry.specs.declared.record.Record.{Record}
 use Rattle.pass_plain.specs.Versions.{same_node}
-use Rattle.pass_plain.proofs.Lists.{below_or, is_place, some_is, same_itself, both_true}
+use Rattle.pass_plain.proofs.Lists.{below_or, is_place, same_itself, both_true}
 use Rattle.pass_graph.proofs.Noding.{same_node_equiv}
 use Rattle.pass_query.specs.Answers.{HasAllLeaving}
+use Rattle.pass_query.proofs.Elements.{Contains-place, Contains-at, one_value}
 use Rattle.pass_pattern.specs.declared.code.Instruction.{Instruction}
 use Rattle.pass_pattern.specs.declared.search.Visit.{Visit}
 use Rattle.pass_pattern.specs.Codes.{edges_in}
 use Rattle.pass_pattern.specs.Visits.{same_visit, Adds, Leads, Runs, Comes, AreVisits, IsCounted}
 use Rattle.pass_pattern.specs.Visits.Runs.{here, on}
 use Rattle.pass_pattern.proofs.Joining.{comes_on}
-use Rattle.pass_pattern.proofs.Visiting.{there_at, at_there, front_there}
+use Rattle.pass_pattern.proofs.Visiting.{front_there}
 use Rattle.pass_pattern.proofs.Looking.{HasOnce, IsLooked, none_looked, more_looked, bounded, comes_reach}
 
 same_visit_itself : (x : Visit) → same_visit x x ≡ true
 same_visit_itself x = both_true (same_node x.node x.node) (x.place == x.place) (same_node_equiv.refl x.node) (same_itself x.place)
-
-one_value : (xs : List Visit) (k : ℕ) (x y : Visit) → slice_get xs k ≡ Some x → slice_get xs k ≡ Some y → x ≡ y
-one_value xs k x y at also = some_is x y (sym at ∙ also)
 
 -- visits without repeats
 pub once_from : (visits : List Visit) → IsDistinct same_visit visits → HasOnce visits
@@ -75,7 +73,7 @@ module _ (list : List Record) (code : List Instruction) (first : Visit) where
     where
       at_sound : (y : Visit) → Contains old y ⊎ Leads list code x y → Comes list code first y
       at_sound y (inl there) = so.sound y there
-      at_sound y (inr leads) = comes_on list code (so.sound x (at_there old next x at)) (1, on leads here)
+      at_sound y (inr leads) = comes_on list code (so.sound x (Contains-at old next x at)) (1, on leads here)
 
       was_there : (k : ℕ) (y : Visit) → k < next → slice_get new k ≡ Some y → slice_get old k ≡ Some y
       was_there k y low found =
@@ -108,7 +106,7 @@ module _ (list : List Record) (code : List Instruction) (first : Visit) where
     where
       on_from : (y z : Visit) → Contains visits y → Leads list code y z → Contains visits z
       on_from y z there leads =
-          let (k, at) = there_at visits y there in
+          let (k, at) = Contains-place visits y there in
           so.closed k y z (let low = slice_get_within visits k y at in omega (arith, low, whole)) at leads
 
       along : {count : ℕ} {y z : Visit} → Runs list code count y z → Contains visits y → Contains visits z

@@ -21,7 +21,7 @@ use Rattle.pass_pattern.specs.Grammar.Binding.{alt, seq, rep, atom}
 use Rattle.pass_pattern.specs.Grammar.IsText.{plain, named, group, once, star, only, then_on, alone, or_else}
 use Rattle.pass_pattern.specs.Reading.{Last, Level, State, state, fresh, joined_shape, either_shape, whole_shape, begun, behind_step, behind_atom, behind_letter, in_name, read_on, read_byte, step_of, pattern_of}
 use Rattle.pass_pattern.specs.Reading.Last.{Nothing, Letter, Name, Atom, Starred}
-use Rattle.pass_pattern.proofs.Running.{and_on, run}
+use Rattle.pass_pattern.proofs.Running.{and_on, run, not_some}
 
 -- the bytes that a mark is
 abbrev pub Means : Mark → ℕ → Type 0
@@ -155,9 +155,6 @@ once_end B p text e = record { front = e.front; own = e.own; begins = e.begins; 
 
 lettered_end : (B : List ℕ → Type 0) (edge : EdgeTest) (text : List ℕ) → Lettered B edge text → Ends B atom (One edge None) text
 lettered_end B edge text l = record { front = l.front; own = letter edge; begins = l.begins; has = plain edge; is = l.is }
-
-not_some : {X : Type 0} (x : X) → ◌≡◌ {A = Option X} None (Some x) → ⊥
-not_some x is = cc
 
 -- the step that was read last
 step_end : (last : Last) (level : Level) (outer : List Level) (text : List ℕ) (step : Shape) → Stands last level outer text → step_of last ≡ Some step

@@ -1,10 +1,10 @@
 -- What a search adds to its visits, and what it has come to in the end.
-use Rattle.std.proofs.Common.{ℕ, ◌≡◌, ◌<◌, ◌+◌, ◌==◌, zero, suc, Bool, true, false, ◌⊎◌, inl, inr, refl, sym, ap, ◌∙◌, subst, List, [], ◌∷◌, ◌++◌, length, take, get_or, arith}
+use Rattle.std.proofs.Common.{ℕ, ◌≡◌, ◌<◌, ◌+◌, ◌==◌, Bool, true, false, ◌⊎◌, inl, inr, refl, sym, ap, ◌∙◌, subst, List, [], ◌∷◌, ◌++◌, length, take, get_or, arith}
 use Rattle.std.specs.Prelude.{Option, Some, None, slice_get, Contains, if◌then◌else◌}
 use Rattle.std.specs.List.{list_any, HoldsAt}
 use Rattle.std.proofs.lemmas.List.{take_more}
 use Rattle.std.proofs.lemmas.List.Elements.{Contains-push, Contains-push_cases}
-use Rattle.std.proofs.lemmas.Option.{slice_get_within, get_or_from_slice_get, slice_get-get_or}
+use Rattle.std.proofs.lemmas.Option.{slice_get-get_or}
 use Rattle.pass_entry.specs.declared.objects.Node.{Node}
 use Rattle.pass_entry.specs.declared.record.Record.{Record}
 use Rattle.pass_plain.specs.Versions.{same_node}
@@ -15,20 +15,13 @@ use Rattle.pass_graph.proofs.Noding.{same_node_is}
 use Rattle.pass_waldo.specs.Orders.{node_cmp}
 use Rattle.pass_waldo.specs.Lookups.{AreAll}
 use Rattle.indexmap.specs.IndexSet.{insert_key}
+use Rattle.pass_query.proofs.Elements.{Contains-place, Contains-at, nothing_there}
 use Rattle.pass_pattern.specs.declared.pattern.EdgeTest.{EdgeTest}
 use Rattle.pass_pattern.specs.declared.code.Instruction.{Instruction}
 use Rattle.pass_pattern.specs.declared.code.Instruction.TheVariants.{Along}
 use Rattle.pass_pattern.specs.declared.search.Visit.{Visit}
 use Rattle.pass_pattern.specs.Patterns.{passes, HadName}
 use Rattle.pass_pattern.specs.Visits.{same_visit, visit, Adds, IsPassed, LeadsBy, Leads, LooksFrom, IsCounted, IsCountedBy}
-
-pub there_at : {X : Type 0} (xs : List X) (x : X) → Contains xs x → (k : ℕ) × (slice_get xs k ≡ Some x)
-there_at [] x (k, within, is) = absurd (omega (arith, within))
-there_at (y ∷ xs) x (zero, within, is) = (0, ap (λ z. Some z) is)
-there_at (y ∷ xs) x (suc k, within, is) = let (j, at) = there_at xs x (k, omega (arith, within), is) in (suc j, at)
-
-pub at_there : {X : Type 0} (xs : List X) (k : ℕ) (x : X) → slice_get xs k ≡ Some x → Contains xs x
-at_there xs k x at = (k, slice_get_within xs k x at, get_or_from_slice_get xs k x x at)
 
 pub same_visit_is : (a b : Visit) → same_visit a b ≡ true → a ≡ b
 same_visit_is a b is =
@@ -38,14 +31,14 @@ same_visit_is a b is =
 
 -- what stays is there
 pub front_there : (old new : List Visit) → ((k : ℕ) (x : Visit) → slice_get old k ≡ Some x → slice_get new k ≡ Some x) → (x : Visit) → Contains old x → Contains new x
-front_there old new front x there = let (k, at) = there_at old x there in at_there new k x (front k x at)
+front_there old new front x there = let (k, at) = Contains-place old x there in Contains-at new k x (front k x at)
 
 -- one more visit
 pub adds_one : (visits : List Visit) (x : Visit) → Adds (λ y. y ≡ x) visits (insert_key same_visit visits x)
 adds_one visits x = at_test (list_any (same_visit x) visits) refl
   where
     known : list_any (same_visit x) visits ≡ true → Contains visits x
-    known any = let (k, y, at, same) = any_at (same_visit x) visits any in at_there visits k x (at ∙ ap (λ z. Some z) (sym (same_visit_is x y same)))
+    known any = let (k, y, at, same) = any_at (same_visit x) visits any in Contains-at visits k x (at ∙ ap (λ z. Some z) (sym (same_visit_is x y same)))
 
     at_test : (t : Bool) → list_any (same_visit x) visits ≡ t → Adds (λ y. y ≡ x) visits (if t then visits else visits ++ x ∷ [])
     at_test true any = record {
@@ -95,9 +88,6 @@ adds_same P Q a b adds to back = record { front = adds.front; sound = λ x there
     at_sound x (inl there) = inl there
     at_sound x (inr p) = inr (to x p)
 
-nothing_there : {X : Type 0} (x : X) → Contains [] x → ⊥
-nothing_there x (k, within, is) = omega (arith, within)
-
 -- of a row so far
 module _ (list : List Record) (row : List Node) (edge : EdgeTest) (name : Option (List ℕ)) (next : ℕ) (from : Node) where
   abbrev SoFar : ℕ → Visit → Type 0
@@ -114,7 +104,7 @@ module _ (list : List Record) (row : List Node) (edge : EdgeTest) (name : Option
     still x p = record { there = subst (λ xs. Contains xs x.node) (sym more) (front x.node p.there); passed = p.passed; named = p.named; place = p.place }
       where
         front : (m : Node) → Contains (take k row) m → Contains (take k row ++ n ∷ []) m
-        front m there = let (j, at) = there_at (take k row) m there in at_there (take k row ++ n ∷ []) j m (slice_get-append (take k row) (n ∷ []) j m at)
+        front m there = let (j, at) = Contains-place (take k row) m there in Contains-at (take k row ++ n ∷ []) j m (slice_get-append (take k row) (n ∷ []) j m at)
 
     last_or : (x : Visit) → SoFar (k + 1) x → Contains (take k row) x.node ⊎ (n ≡ x.node)
     last_or x p = Contains-push_cases (take k row) n x.node (subst (λ xs. Contains xs x.node) more p.there)

@@ -2,6 +2,7 @@
 use Rattle.std.proofs.Common.{ℕ, ◌≡◌, ◌≤◌, ◌<◌, ◌+◌, ◌-◌, zero, suc, Bool, true, false, not, ◌||◌, ◌⊎◌, inl, inr, refl, sym, ap, ◌∙◌, subst, List, [], ◌∷◌, length, get_or, arith}
 use Rattle.std.specs.Prelude.{Option, Some, None, map, filter, slice_get, option_map, Contains}
 use Rattle.std.specs.List.{list_any, filter_map, cons_option, IsDistinct}
+use Rattle.std.proofs.lemmas.Bool.{or_left, or_right}
 use Rattle.std.proofs.lemmas.List.{length-map}
 use Rattle.std.proofs.lemmas.List.Filters.{length-filter_both}
 use Rattle.std.proofs.lemmas.Map.Keys.{IsDistinct-from_apart}
@@ -26,10 +27,8 @@ use Rattle.pass_query.specs.declared.walk.Way.TheVariants.{Back, On}
 use Rattle.pass_query.specs.Searches.{Leads, Reaches, IsSearch, HasAllLed}
 use Rattle.pass_query.specs.Searches.IsSearch.{begin, look}
 use Rattle.pass_query.proofs.Looking.{reached_at}
-use Rattle.pass_query.proofs.Searching.{IsOrdered, ordered, one_value, not_itself, ascends, fresh, Contains-place, Contains-at}
-
-same_itself : (n : Node) → same_node n n ≡ true
-same_itself n = same_node_equiv.refl n
+use Rattle.pass_query.proofs.Searching.{IsOrdered, ordered, not_itself, ascends, fresh}
+use Rattle.pass_query.proofs.Elements.{Contains-place, Contains-at, one_value}
 
 -- the node to which the edge of a record leads
 abbrev lead_end : Way → Record → Option Node
@@ -43,7 +42,7 @@ in_filter_map : (h : Record → Option Node) (xs : List Record) (k : ℕ) (r : R
 in_filter_map h [] k r x at is = absurd (cc)
 in_filter_map h (y ∷ xs) zero r x at is =
     let here : h y ≡ Some x = ap h (some_is y r at) ∙ is in
-    ap (λ o. list_any (same_node x) (cons_option o (filter_map h xs))) here ∙ ap (λ b. b || list_any (same_node x) (filter_map h xs)) (same_itself x)
+    ap (λ o. list_any (same_node x) (cons_option o (filter_map h xs))) here ∙ ap (λ b. b || list_any (same_node x) (filter_map h xs)) (same_node_equiv.refl x)
 in_filter_map h (y ∷ xs) (suc k) r x at is = at_option (h y) (in_filter_map h xs k r x at is)
   where
     or_true : (b : Bool) → b || true ≡ true
@@ -91,13 +90,6 @@ reached_of reached k x at = at_option (slice_get reached k) refl (sym (slice_get
     at_option (Some r) here is = (r, here, some_is r.node x is)
     at_option None here is = absurd (cc)
 
-or_left : (a b : Bool) → a ≡ true → a || b ≡ true
-or_left a b is = ap (λ c. c || b) is
-
-or_right : (a b : Bool) → b ≡ true → a || b ≡ true
-or_right true b is = refl
-or_right false b is = is
-
 module _ (way : Way) (list : List Record) (first : Node) where
   -- a search reaches no more than the first node and the ends of the edges
   pub no_longer : {reached : List Reached} {next : ℕ} → IsOrdered way list first reached next → length reached ≤ length list + 1
@@ -117,7 +109,7 @@ module _ (way : Way) (list : List Record) (first : Node) where
       at_place : (x : Node) (k : ℕ) (r : Reached) → slice_get reached k ≡ Some r → r.node ≡ x → list_any (same_node x) (first ∷ filter_map (lead_end way) list) ≡ true
       at_place x zero r at is =
           let node : first ≡ x = ap (λ q. q.node) (one_value reached 0 (reached_at 0 first) r o.begins at) ∙ is in
-          or_left (same_node x first) (list_any (same_node x) (filter_map (lead_end way) list)) (ap (same_node x) node ∙ same_itself x)
+          or_left (same_node x first) (list_any (same_node x) (filter_map (lead_end way) list)) (ap (same_node x) node ∙ same_node_equiv.refl x)
       at_place x (suc k) r at is =
           let found = o.comes k r at in
           or_right (same_node x first) (list_any (same_node x) (filter_map (lead_end way) list)) (ap (λ y. list_any (same_node y) (filter_map (lead_end way) list)) (sym is) ∙ led_to way list found.from.node r.node found.leads)
@@ -151,7 +143,7 @@ module _ (way : Way) (list : List Record) (first : Node) where
         in_ends : (x : Node) → list_any (same_node x) row ≡ true → list_any (same_node x) (map (λ (e : Node × Node). e.1) (filter own edges)) ≡ true
         in_ends x is =
             let (k, y, at, same) = any_at (same_node x) row is in
-            let (m, there) = Contains-place (filter own edges) (from.node, y) (kept own edges (from.node, y) (all y ((are.all y).0 (Contains-at row k y at))) (same_itself from.node)) in
+            let (m, there) = Contains-place (filter own edges) (from.node, y) (kept own edges (from.node, y) (all y ((are.all y).0 (Contains-at row k y at))) (same_node_equiv.refl from.node)) in
             any_of (same_node x) (map (λ (e : Node × Node). e.1) (filter own edges)) m y (slice_get-map (λ (e : Node × Node). e.1) (filter own edges) m ∙ ap (option_map (λ (e : Node × Node). e.1)) there) same
 
     others_kept : (edges : List (Node × Node)) → ((j : ℕ) (p : Reached) (y : Node) → j < next → slice_get old j ≡ Some p → Leads way list p.node y → Contains edges (p.node, y))

@@ -1,52 +1,23 @@
 -- The edges at which a search has looked.
-use Rattle.std.proofs.Common.{ℕ, ◌≡◌, ◌≤◌, ◌<◌, ◌+◌, Bool, true, false, ◌&&◌, ◌⊎◌, inl, inr, refl, sym, ap, ◌∙◌, subst, List, [], ◌∷◌, ◌++◌, length, get_or, arith, length-append}
-use Rattle.std.specs.Prelude.{Some, map, slice_get, option_map, Contains}
-use Rattle.std.specs.Cmp.{IsEquivalence}
-use Rattle.std.specs.List.{list_any, IsDistinct}
-use Rattle.std.proofs.lemmas.Bool.Decides.{nat_tests}
+use Rattle.std.proofs.Common.{ℕ, ◌≡◌, ◌≤◌, ◌<◌, ◌+◌, true, ◌⊎◌, inl, inr, refl, sym, ap, ◌∙◌, subst, List, [], ◌++◌, length, arith, length-append}
+use Rattle.std.specs.Prelude.{Some, map, slice_get, option_map}
+use Rattle.std.specs.List.{list_any}
 use Rattle.std.proofs.lemmas.List.{length-map}
-use Rattle.std.proofs.lemmas.Map.Keys.{IsDistinct-from_apart}
 use Rattle.std.proofs.lemmas.Map.Made.{length-le_from_is_member}
-use Rattle.std.proofs.lemmas.Option.{slice_get-map, slice_get_within, get_or_from_slice_get}
+use Rattle.std.proofs.lemmas.Option.{slice_get-map, slice_get_within}
 use Rattle.pass_entry.specs.declared.objects.Node.{Node}
 use Rattle.pass_entry.specs.declared.record.Record.{Record}
-use Rattle.pass_plain.specs.Versions.{same_node}
 use Rattle.pass_plain.proofs.Appends.{slice_get-append}
-use Rattle.pass_plain.proofs.Lists.{any_at, any_of, is_place, true_left, true_right}
+use Rattle.pass_plain.proofs.Lists.{any_at, any_of}
 use Rattle.pass_graph.specs.Logged.{same_pair}
-use Rattle.pass_graph.proofs.Noding.{same_node_is, same_node_equiv}
-use Rattle.pass_graph.proofs.Ranking.{not_any}
-use Rattle.pass_waldo.specs.Orders.{node_cmp}
-use Rattle.pass_waldo.specs.Lookups.{AreAll}
 use Rattle.pass_query.specs.declared.search.Reached.{Reached}
 use Rattle.pass_query.specs.declared.walk.Way.{Way}
-use Rattle.pass_query.specs.Searches.{Leads, Reaches, IsSearch, HasOnce, HasOnlyLed}
+use Rattle.pass_query.specs.Searches.{Leads, Reaches, IsSearch, HasOnlyLed}
 use Rattle.pass_query.specs.Searches.IsSearch.{begin, look}
 use Rattle.pass_query.proofs.Looking.{reached_at}
-use Rattle.pass_query.proofs.Searching.{ordered, one_value, in_either, in_second, below_or, fresh, Contains-place, Contains-at}
+use Rattle.pass_query.proofs.Searching.{ordered, in_either, in_second, below_or, fresh}
 use Rattle.pass_query.proofs.Bounding.{all_reached}
-
-same_pair_is : (a b : Node × Node) → same_pair a b ≡ true → a ≡ b
-same_pair_is a b is =
-    let one : a.0 ≡ b.0 = same_node_is a.0 b.0 (true_left (same_node a.0 b.0) (same_node a.1 b.1) is) in
-    let two : a.1 ≡ b.1 = same_node_is a.1 b.1 (true_right (same_node a.0 b.0) (same_node a.1 b.1) is) in
-    λ i. (one i, two i)
-
-same_pair_equiv : IsEquivalence same_pair
-same_pair_equiv = record {
-  refl = λ a. grind (arith, nat_tests);
-  symm = λ a b. grind (arith, nat_tests);
-  congr = λ a b c is. ap (λ n. same_pair n c) (same_pair_is a b is);
-}
-
--- a list that has no edge twice
-distinct : (edges : List (Node × Node)) → HasOnce edges → IsDistinct same_pair edges
-distinct edges once = IsDistinct-from_apart same_pair edges (λ i j d low within. not_any (same_pair (get_or edges i d) (get_or edges j d)) (λ same.
-    let (e, at) = is_place edges i (omega (arith, low, within)) in
-    let (f, there) = is_place edges j within in
-    let is : e ≡ f = sym (get_or_from_slice_get edges i e d at) ∙ same_pair_is (get_or edges i d) (get_or edges j d) same ∙ get_or_from_slice_get edges j f d there in
-    let z : i ≡ j = once i j f (at ∙ ap (λ x. Some x) is) there in
-    omega (arith, z, low)))
+use Rattle.pass_query.proofs.Elements.{Contains-place, Contains-at, same_pair_equiv, distinct, one_value}
 
 abbrev edge_from : Node → Node → Node × Node
 edge_from a b = (a, b)

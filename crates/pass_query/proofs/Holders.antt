@@ -12,7 +12,7 @@ use Rattle.pass_entry.specs.declared.record.Record.{Record}
 use Rattle.pass_plain.proofs.Lists.{some_is}
 use Rattle.pass_waldo.specs.Lookups.{AreAll, current_in}
 use Rattle.pass_waldo.specs.Orders.{node_cmp}
-use Rattle.pass_query.proofs.Searching.{Contains-place, Contains-at}
+use Rattle.pass_query.proofs.Elements.{Contains-place, Contains-at}
 
 -- the object at its current version
 abbrev pub node_now : List Record → ℕ → Option Node

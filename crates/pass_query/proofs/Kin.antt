@@ -1,13 +1,10 @@
 -- All that a search has reached, in order.
-use Rattle.std.proofs.Common.{ℕ, ◌≡◌, ◌<◌, ◌+◌, ◌-◌, zero, suc, true, false, refl, sym, ap, ◌∙◌, subst, List, [], ◌∷◌, length, drop, take, get_or, arith, Ordering}
+use Rattle.std.proofs.Common.{ℕ, ◌≡◌, ◌<◌, ◌-◌, zero, suc, refl, sym, ap, ◌∙◌, subst, List, [], ◌∷◌, length, drop, take, arith}
 use Rattle.std.specs.Prelude.{Option, Some, None, map, slice_get, option_map, Contains}
-use Rattle.std.specs.List.{IsDistinct}
-use Rattle.std.specs.List.Sorted.{IsStrictlySortedBy, IsSorted, IsPermutation}
-use Rattle.std.specs.Ordering.{ordering_reverse, is_lt}
-use Rattle.std.specs.declared.cmp.Ordering.TheVariants.{Less, Equal, Greater}
+use Rattle.std.specs.List.Sorted.{IsSorted, IsPermutation}
 use Rattle.std.proofs.lemmas.List.{length-map, take_all}
 use Rattle.std.proofs.lemmas.List.Sorted.{Contains-permutation, IsPermutation-sym}
-use Rattle.std.proofs.lemmas.Map.Keys.{IsDistinct-IsPermutation, apart_from_distinct, sorted_from_all_adjacent}
+use Rattle.std.proofs.lemmas.Map.Keys.{IsDistinct-IsPermutation}
 use Rattle.std.proofs.lemmas.Option.{slice_get-map}
 use Rattle.pass_entry.specs.declared.objects.Node.{Node}
 use Rattle.pass_entry.specs.declared.record.Record.{Record}
@@ -18,36 +15,20 @@ use Rattle.pass_graph.proofs.Noding.{same_node_equiv}
 use Rattle.pass_graph.proofs.Ranking.{list_acyclic_law}
 use Rattle.pass_waldo.specs.Orders.{node_cmp}
 use Rattle.pass_waldo.specs.Lookups.{AreAll}
-use Rattle.pass_waldo.proofs.Indexing.{node_cmp_total, node_exact}
 use Rattle.pass_query.specs.declared.search.Reached.{Reached}
 use Rattle.pass_query.specs.declared.walk.Way.{Way}
 use Rattle.pass_query.specs.declared.walk.Way.TheVariants.{Back, On}
 use Rattle.pass_query.specs.Searches.{Reaches, IsWholeSearch, HasAllLed, HasOnlyLed}
 use Rattle.pass_query.specs.Answers.{HasAllEntering, HasOnlyEntering}
 use Rattle.pass_query.proofs.Looking.{reached_at}
-use Rattle.pass_query.proofs.Searching.{IsOrdered, ordered, Contains-place, Contains-at}
+use Rattle.pass_query.proofs.Searching.{IsOrdered, ordered}
 use Rattle.pass_query.proofs.Bounding.{nodes_of, reached_of, distinct_from, come_on, all_reached}
+use Rattle.pass_query.proofs.Elements.{Contains-place, Contains-at, strictly}
 
 -- no node reaches itself
 pub no_return : (way : Way) (list : List Record) → IsWellLogged list → (x : Node) → Reaches way list x x → ⊥
 no_return Back list logged x p = list_acyclic_law list logged x p
 no_return On list logged x p = list_acyclic_law list logged x p
-
--- a sorted list that has no node twice is strictly sorted
-strictly : (v : List Node) (d : Node) → IsSorted node_cmp v → IsDistinct same_node v → IsStrictlySortedBy node_cmp v
-strictly v d up apart = sorted_from_all_adjacent node_cmp_total v d (λ k within. at_test k within (node_cmp (get_or v k d) (get_or v (k + 1) d)) refl)
-  where
-    at_test : (k : ℕ) → k + 1 < length v → (o : Ordering) → node_cmp (get_or v k d) (get_or v (k + 1) d) ≡ o → node_cmp (get_or v k d) (get_or v (k + 1) d) ≡ Less
-    at_test k within Less is = is
-    at_test k within Equal is =
-        let same : get_or v k d ≡ get_or v (k + 1) d = node_exact (get_or v k d) (get_or v (k + 1) d) is in
-        let differ : same_node (get_or v k d) (get_or v (k + 1) d) ≡ false = apart_from_distinct same_node v k (k + 1) d apart (omega arith) within in
-        let z : true ≡ false = sym (ap (same_node (get_or v k d)) (sym same) ∙ same_node_equiv.refl (get_or v k d)) ∙ differ in
-        absurd (cc)
-    at_test k within Greater is =
-        let turned : node_cmp (get_or v (k + 1) d) (get_or v k d) ≡ Less = node_cmp_total.antisymm (get_or v (k + 1) d) (get_or v k d) ∙ ap ordering_reverse is in
-        let z : true ≡ false = sym (ap is_lt turned) ∙ up k d (omega arith) within in
-        absurd (cc)
 
 module _ (way : Way) (list : List Record) (first : Node) (logged : IsWellLogged list) where
   -- the nodes after the first one, in order, are those to which the edges lead from it

@@ -1,3 +1,4 @@
+pub mod Elements
 mod Looking
 mod Searching
 mod Bounding

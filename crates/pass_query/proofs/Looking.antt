@@ -16,6 +16,7 @@ use Rattle.std.proofs.lemmas.Option.{get_or_from_slice_get}
 use Rattle.pass_entry.specs.declared.objects.Node.{Node}
 use Rattle.pass_plain.specs.Versions.{same_node}
 use Rattle.pass_plain.proofs.Replays.{append-nil}
+use Rattle.pass_plain.proofs.Versioned.{or_none}
 use Rattle.pass_plain.proofs.Lists.{any_at, within_take}
 use Rattle.pass_graph.proofs.Noding.{same_node_is, same_node_equiv}
 use Rattle.pass_graph.proofs.Ranking.{not_any}
@@ -80,10 +81,6 @@ no_repeat row up j n within at = not_any (list_any (same_node n) (take j row)) (
     front_at : (xs : List Node) (i j : ℕ) (x d : Node) → i < j → slice_get (take j xs) i ≡ Some x → x ≡ get_or xs i d
     front_at xs i j x d low found = sym (get_or_from_slice_get (take j xs) i x d found) ∙ get_or-take j xs i d low
 
-or_nothing : (b : Bool) → (b || false) ≡ b
-or_nothing true = refl
-or_nothing false = refl
-
 abbrev Nodes : Type 0
 Nodes = HashSet Node (BuildHasherDefault FoldHasher)
 
@@ -93,7 +90,7 @@ module _ (old : List Reached) (place : ℕ) (row : List Node) (up : IsStrictlySo
   now = looked old place (take j row)
 
   known : has_node now n ≡ has_node old n
-  known = has_looked old place (take j row) n ∙ ap (λ c. has_node old n || c) (no_repeat row up j n within at) ∙ or_nothing (has_node old n)
+  known = has_looked old place (take j row) n ∙ ap (λ c. has_node old n || c) (no_repeat row up j n within at) ∙ or_none (has_node old n)
 
   more : looked old place (take (j + 1) row) ≡ looked old place (take j row) ++ map (reached_at place) (cond (is_new old n) (n ∷ []) [])
   more =

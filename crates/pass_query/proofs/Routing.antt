@@ -21,6 +21,7 @@ use Rattle.pass_graph.proofs.Noding.{same_node_is, same_node_equiv}
 use Rattle.pass_graph.proofs.Ranking.{list_acyclic_law}
 use Rattle.pass_waldo.specs.Orders.{node_cmp}
 use Rattle.pass_waldo.proofs.Indexing.{node_cmp_total}
+use Rattle.pass_query.proofs.Elements.{one_value}
 use Rattle.pass_query.specs.declared.search.Reached.{Reached}
 use Rattle.pass_query.specs.declared.walk.Way.TheVariants.{Back}
 use Rattle.pass_query.specs.Searches.{IsChained, IsRoute, IsWholeSearch}
@@ -29,7 +30,7 @@ use Rattle.pass_query.specs.Answers.{IsPath, IsUpTo, IsLeastPath}
 use Rattle.pass_query.specs.Answers.IsPath.{edge, step}
 use Rattle.pass_query.proofs.Bounding.{all_reached}
 use Rattle.pass_query.proofs.Looking.{reached_at}
-use Rattle.pass_query.proofs.Searching.{IsOrdered, ordered, Found, Rises, one_value, below_or}
+use Rattle.pass_query.proofs.Searching.{IsOrdered, ordered, Found, Rises, below_or}
 
 -- a step of the way back
 pub before_low : (reached : List Reached) → IsChained reached → (at : ℕ) (r : Reached) → ¬ (at ≡ 0) → slice_get reached at ≡ Some r → r.before < at

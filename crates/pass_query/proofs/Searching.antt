@@ -1,6 +1,6 @@
 -- What holds of the nodes that a search has reached.
 use Rattle.std.proofs.Common.{ℕ, ◌≡◌, ◌≤◌, ◌<◌, ◌+◌, zero, suc, Bool, true, false, not, ◌⊎◌, inl, inr, refl, sym, ap, ◌∙◌, subst, List, [], ◌∷◌, ◌++◌, length, get_or, arith, length-append}
-use Rattle.std.specs.Prelude.{Option, Some, None, map, filter, slice_get, option_map, Contains}
+use Rattle.std.specs.Prelude.{Option, Some, None, map, filter, slice_get, option_map}
 use Rattle.std.specs.List.Sorted.{IsStrictlySortedBy}
 use Rattle.std.specs.declared.cmp.Ordering.TheVariants.{Less, Equal}
 use Rattle.std.proofs.lemmas.Cmp.{tied_itself}
@@ -21,6 +21,7 @@ use Rattle.pass_query.specs.declared.walk.Way.{Way}
 use Rattle.pass_query.specs.Searches.{has_node, looked, Leads, IsSearch}
 use Rattle.pass_query.specs.Searches.IsSearch.{begin, look}
 use Rattle.pass_query.proofs.Looking.{reached_at, is_new}
+use Rattle.pass_query.proofs.Elements.{Contains-place, Contains-at, one_value}
 
 -- an element of two lists put together is one of the first or of the second
 pub in_either : {X : Type 0} (xs ys : List X) (k : ℕ) (x : X) → slice_get (xs ++ ys) k ≡ Some x → (slice_get xs k ≡ Some x) ⊎ ((m : ℕ) × (k ≡ length xs + m) × (slice_get ys m ≡ Some x))
@@ -35,17 +36,6 @@ in_either (y ∷ xs) ys (suc k) x at = case_of (in_either xs ys k x at)
 pub in_second : {X : Type 0} (xs ys : List X) (m : ℕ) (x : X) → slice_get ys m ≡ Some x → slice_get (xs ++ ys) (length xs + m) ≡ Some x
 in_second [] ys m x at = ap (slice_get ys) (let z : 0 + m ≡ m = omega arith in z) ∙ at
 in_second (y ∷ xs) ys m x at = ap (slice_get (y ∷ xs ++ ys)) (let z : suc (length xs) + m ≡ suc (length xs + m) = omega arith in z) ∙ in_second xs ys m x at
-
-pub one_value : {X : Type 0} (xs : List X) (k : ℕ) (x y : X) → slice_get xs k ≡ Some x → slice_get xs k ≡ Some y → x ≡ y
-one_value xs k x y at also = some_is x y (sym at ∙ also)
-
-pub Contains-place : {X : Type 0} (xs : List X) (x : X) → Contains xs x → (k : ℕ) × (slice_get xs k ≡ Some x)
-Contains-place [] x (k, within, is) = absurd (omega (arith, within))
-Contains-place (y ∷ xs) x (zero, within, is) = (0, ap (λ z. Some z) is)
-Contains-place (y ∷ xs) x (suc k, within, is) = let (j, at) = Contains-place xs x (k, omega (arith, within), is) in (suc j, at)
-
-pub Contains-at : {X : Type 0} (xs : List X) (k : ℕ) (x : X) → slice_get xs k ≡ Some x → Contains xs x
-Contains-at xs k x at = (k, slice_get_within xs k x at, get_or_from_slice_get xs k x x at)
 
 pub below_or : (j n : ℕ) → j < n + 1 → (j < n) ⊎ (j ≡ n)
 below_or zero zero low = inr refl

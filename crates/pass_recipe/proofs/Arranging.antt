@@ -1,11 +1,9 @@
 -- The node with its ancestors.
-use Rattle.std.proofs.Common.{◌≡◌, false, inl, inr, sym, ◌∙◌, subst, List, [], ◌∷◌, ◌++◌}
+use Rattle.std.proofs.Common.{inl, inr, sym, subst, List, [], ◌∷◌, ◌++◌}
 use Rattle.std.specs.Prelude.{Contains}
-use Rattle.std.specs.List.{IsDistinct, AllByRecursion}
-use Rattle.std.specs.List.Sorted.{IsStrictlySortedBy}
-use Rattle.std.specs.declared.cmp.Ordering.TheVariants.{Less}
+use Rattle.std.specs.List.{IsDistinct}
 use Rattle.std.proofs.lemmas.List.Elements.{Contains-append_left, Contains-push, Contains-push_cases}
-use Rattle.std.proofs.lemmas.Map.Keys.{IsDistinct-push, IsDistinct-cons, sorted_head, sorted_tail}
+use Rattle.std.proofs.lemmas.Map.Keys.{IsDistinct-push}
 use Rattle.pass_entry.specs.declared.objects.Node.{Node}
 use Rattle.pass_entry.specs.declared.record.Record.{Record}
 use Rattle.pass_plain.specs.Versions.{same_node}
@@ -17,19 +15,9 @@ use Rattle.pass_graph.proofs.Ranking.{list_acyclic_law}
 use Rattle.pass_waldo.specs.Orders.{node_cmp}
 use Rattle.pass_waldo.specs.Lookups.{AreAll}
 use Rattle.pass_query.specs.Answers.{HasAllLeaving, HasOnlyLeaving}
+use Rattle.pass_query.proofs.Elements.{sorted_once}
 use Rattle.pass_recipe.specs.Orders.{IsListed, HasOnlyListed, HasAllListed, HasAllFrom, HasOnlyFrom}
 use Rattle.pass_recipe.proofs.Members.{not_there}
-use Rattle.pass_recipe.proofs.Leaving.{differ}
-
-all_apart : (x : Node) (xs : List Node) → AllByRecursion (λ y. node_cmp x y ≡ Less) xs → AllByRecursion (λ y. same_node x y ≡ false) xs
-all_apart x [] all = tt
-all_apart x (y ∷ xs) all = (same_node_equiv.symm x y ∙ differ x y all.0, all_apart x xs all.1)
-
--- what ascends has no node twice
-sorted_once : (xs : List Node) → IsStrictlySortedBy node_cmp xs → IsDistinct same_node xs
-unfolding IsDistinct
-sorted_once [] up = tt
-sorted_once (x ∷ xs) up = IsDistinct-cons same_node x xs (all_apart x xs (sorted_head node_cmp x xs up)) (sorted_once xs (sorted_tail node_cmp x xs up))
 
 path_on : {list : List Record} {x y z : Node} → HasPath list x y → IsEdge list y z → HasPath list x z
 path_on (edge e) f = step e (edge f)

@@ -15,9 +15,10 @@ use Rattle.pass_plain.proofs.Replays.{append-nil}
 use Rattle.pass_graph.proofs.Noding.{same_node_equiv}
 use Rattle.pass_waldo.specs.Orders.{node_cmp}
 use Rattle.pass_waldo.proofs.Indexing.{node_exact}
+use Rattle.pass_query.proofs.Elements.{nothing_there}
 use Rattle.pass_recipe.specs.Orders.{HasOnlyListed, HasAllListed, ComesAfterSources, IsOrder, IsLeast, IsFree, IsGreedy}
 use Rattle.pass_recipe.specs.Orders.IsGreedy.{done, next}
-use Rattle.pass_recipe.proofs.Members.{any_there, there_any, true_false, nothing_there}
+use Rattle.pass_recipe.proofs.Members.{any_there, there_any, true_false}
 
 all_mid : {X : Type 0} (P : X → Type 0) (xs ys : List X) (y : X) → AllByRecursion P (xs ++ y ∷ ys) → P y
 all_mid P [] ys y all = all.0

@@ -1,63 +1,41 @@
 -- How many edges leave some nodes.
-use Rattle.std.proofs.Common.{ℕ, ◌≡◌, ◌≤◌, ◌+◌, ◌*◌, zero, suc, Bool, true, false, ◌&&◌, ◌||◌, ◌⊎◌, inl, inr, refl, sym, ap, ◌∙◌, subst, List, [], ◌∷◌, ◌++◌, length, get_or, arith, length-append, append_assoc}
+use Rattle.std.proofs.Common.{ℕ, ◌≡◌, ◌≤◌, ◌+◌, ◌*◌, zero, suc, Bool, true, false, ◌&&◌, ◌||◌, ◌⊎◌, inl, inr, refl, sym, ap, ◌∙◌, subst, List, [], ◌∷◌, ◌++◌, length, arith, length-append, append_assoc}
 use Rattle.std.specs.Prelude.{Option, Some, None, map, slice_get, option_map, Contains}
-use Rattle.std.specs.Cmp.{IsEquivalence, and_equiv, on_equiv}
 use Rattle.std.specs.List.{list_any, IsDistinct, AllByRecursion}
 use Rattle.std.specs.List.Sorted.{IsStrictlySortedBy}
-use Rattle.std.specs.declared.cmp.Ordering.TheVariants.{Less, Equal}
-use Rattle.std.proofs.lemmas.Cmp.{tied_itself}
+use Rattle.std.specs.declared.cmp.Ordering.TheVariants.{Less}
 use Rattle.std.proofs.lemmas.List.{length-map}
 use Rattle.std.proofs.lemmas.List.Elements.{Contains-append_cases, Contains-append_left, Contains-append_right, Contains-push, Contains-push_cases}
 use Rattle.std.proofs.lemmas.List.Folds.{list_any-append}
-use Rattle.std.proofs.lemmas.Map.Keys.{IsDistinct-push, IsDistinct-from_apart, sorted_head, sorted_tail}
+use Rattle.std.proofs.lemmas.Map.Keys.{IsDistinct-push, sorted_head, sorted_tail}
 use Rattle.std.proofs.lemmas.Map.Made.{length-le_from_is_member}
-use Rattle.std.proofs.lemmas.Option.{slice_get-map, get_or_from_slice_get}
+use Rattle.std.proofs.lemmas.Option.{slice_get-map}
 use Rattle.pass_entry.specs.declared.objects.Node.{Node}
 use Rattle.pass_entry.specs.declared.record.Record.{Record}
 use Rattle.pass_plain.specs.Versions.{same_node}
 use Rattle.pass_plain.specs.Graphs.{IsEdge}
 use Rattle.pass_plain.proofs.Replays.{append-nil}
-use Rattle.pass_plain.proofs.Lists.{any_at, any_of, is_place, some_is, true_left, true_right}
+use Rattle.pass_plain.proofs.Lists.{any_at, any_of, some_is}
 use Rattle.pass_graph.specs.Logged.{same_pair}
-use Rattle.pass_graph.proofs.Noding.{same_node_is, same_node_equiv}
+use Rattle.pass_graph.proofs.Noding.{same_node_equiv}
 use Rattle.pass_graph.proofs.Ranking.{not_any}
 use Rattle.pass_waldo.specs.Orders.{node_cmp}
 use Rattle.pass_waldo.specs.Lookups.{AreAll}
-use Rattle.pass_waldo.proofs.Indexing.{node_cmp_total}
-use Rattle.pass_query.specs.Searches.{HasOnce}
+use Rattle.pass_query.proofs.Elements.{Contains-place, Contains-at, nothing_there, same_pair_is, same_pair_equiv, distinct, differ, first_there}
 use Rattle.pass_recipe.specs.Orders.{HasAllFrom, HasOnlyFrom}
-use Rattle.pass_recipe.proofs.Members.{there_at, at_there, any_there, true_false, nothing_there}
-
--- equality of edges
-
-same_edge : IsEquivalence same_pair
-same_edge = and_equiv (on_equiv (λ (e : Node × Node). e.0) same_node_equiv) (on_equiv (λ (e : Node × Node). e.1) same_node_equiv)
-
-is_edge : (a b : Node × Node) → same_pair a b ≡ true → a ≡ b
-is_edge a b same =
-    let one : a.0 ≡ b.0 = same_node_is a.0 b.0 (true_left (same_node a.0 b.0) (same_node a.1 b.1) same) in
-    let two : a.1 ≡ b.1 = same_node_is a.1 b.1 (true_right (same_node a.0 b.0) (same_node a.1 b.1) same) in
-    λ i. (one i, two i)
+use Rattle.pass_recipe.proofs.Members.{any_there, true_false}
 
 edge_there : (edges : List (Node × Node)) (e : Node × Node) → list_any (same_pair e) edges ≡ true → Contains edges e
 edge_there edges e any =
     let (k, x, at, same) = any_at (same_pair e) edges any in
-    at_there edges k e (at ∙ ap (λ y. Some y) (sym (is_edge e x same)))
+    Contains-at edges k e (at ∙ ap (λ y. Some y) (sym (same_pair_is e x same)))
 
 there_edge : (edges : List (Node × Node)) (e : Node × Node) → Contains edges e → list_any (same_pair e) edges ≡ true
-there_edge edges e there = let (k, at) = there_at edges e there in any_of (same_pair e) edges k e at (same_edge.refl e)
-
-apart_from_once : (edges : List (Node × Node)) → HasOnce edges → IsDistinct same_pair edges
-apart_from_once edges once = IsDistinct-from_apart same_pair edges (λ i j d low within. not_any (same_pair (get_or edges i d) (get_or edges j d)) (λ same.
-    let (e, at) = is_place edges i (omega (arith, low, within)) in
-    let (f, there) = is_place edges j within in
-    let is : f ≡ e = sym (get_or_from_slice_get edges j f d there) ∙ sym (is_edge (get_or edges i d) (get_or edges j d) same) ∙ get_or_from_slice_get edges i e d at in
-    let z : i ≡ j = once i j e at (there ∙ ap (λ x. Some x) is) in
-    omega (arith, z, low)))
+there_edge edges e there = let (k, at) = Contains-place edges e there in any_of (same_pair e) edges k e at (same_pair_equiv.refl e)
 
 -- a list without repeats is no longer than one that has all it has
 fits : (xs ys : List (Node × Node)) → IsDistinct same_pair xs → ((e : Node × Node) → Contains xs e → Contains ys e) → length xs ≤ length ys
-fits xs ys apart among = length-le_from_is_member same_edge xs ys apart (λ e any. there_edge ys e (among e (edge_there xs e any)))
+fits xs ys apart among = length-le_from_is_member same_pair_equiv xs ys apart (λ e any. there_edge ys e (among e (edge_there xs e any)))
 
 -- the edges from a node to those of a row
 
@@ -65,16 +43,16 @@ abbrev from : Node → Node → Node × Node
 from n s = (n, s)
 
 in_row : (n : Node) (row : List Node) (e : Node × Node) → Contains (map (from n) row) e → (s : Node) × Contains row s × ((n, s) ≡ e)
-in_row n row e there = let (k, at) = there_at (map (from n) row) e there in at_option k (slice_get row k) refl (sym (slice_get-map (from n) row k) ∙ at)
+in_row n row e there = let (k, at) = Contains-place (map (from n) row) e there in at_option k (slice_get row k) refl (sym (slice_get-map (from n) row k) ∙ at)
   where
     at_option : (k : ℕ) (o : Option Node) → slice_get row k ≡ o → option_map (from n) o ≡ Some e → (s : Node) × Contains row s × ((n, s) ≡ e)
-    at_option k (Some s) here is = (s, at_there row k s here, some_is (n, s) e is)
+    at_option k (Some s) here is = (s, Contains-at row k s here, some_is (n, s) e is)
     at_option k None here is = absurd (cc)
 
 row_in : (n : Node) (row : List Node) (s : Node) → Contains row s → Contains (map (from n) row) (n, s)
 row_in n row s there =
-    let (k, at) = there_at row s there in
-    at_there (map (from n) row) k (n, s) (slice_get-map (from n) row k ∙ ap (option_map (from n)) at)
+    let (k, at) = Contains-place row s there in
+    Contains-at (map (from n) row) k (n, s) (slice_get-map (from n) row k ∙ ap (option_map (from n)) at)
 
 all_in : {X : Type 0} (P : X → Type 0) (xs : List X) (x : X) → AllByRecursion P xs → Contains xs x → P x
 all_in P [] x all there = absurd (nothing_there x there)
@@ -89,24 +67,16 @@ second_no : (a b : Bool) → b ≡ false → a && b ≡ false
 second_no true b is = is
 second_no false b is = refl
 
-pub differ : (s t : Node) → node_cmp s t ≡ Less → same_node t s ≡ false
-differ s t less = not_any (same_node t s) (λ same.
-    let tied : node_cmp s s ≡ Equal = tied_itself node_cmp_total s in
-    let z : Less ≡ Equal = sym less ∙ ap (node_cmp s) (same_node_is t s same) ∙ tied in cc)
-
-first_there : {X : Type 0} (x : X) (xs : List X) → Contains (x ∷ xs) x
-first_there x xs = Contains-append_left (x ∷ []) xs x (Contains-push [] x)
-
 row_apart : (n : Node) (edges : List (Node × Node)) (row : List Node) → IsDistinct same_pair edges → IsStrictlySortedBy node_cmp row → ((s : Node) → Contains row s → list_any (same_pair (n, s)) edges ≡ false)
     → IsDistinct same_pair (edges ++ map (from n) row)
 row_apart n edges [] apart up new = subst (IsDistinct same_pair) (sym (append-nil edges)) apart
 row_apart n edges (s ∷ row) apart up new =
     subst (IsDistinct same_pair) (append_assoc edges ((n, s) ∷ []) (map (from n) row))
-    (row_apart n (edges ++ (n, s) ∷ []) row (IsDistinct-push same_edge edges (n, s) apart (new s (first_there s row))) (sorted_tail node_cmp s row up)
+    (row_apart n (edges ++ (n, s) ∷ []) row (IsDistinct-push same_pair_equiv edges (n, s) apart (new s (first_there s row))) (sorted_tail node_cmp s row up)
     (λ t there.
     list_any-append (same_pair (n, t)) edges ((n, s) ∷ [])
     ∙ neither (list_any (same_pair (n, t)) edges) (same_pair (n, t) (n, s) || false) (new t (Contains-append_right (s ∷ []) row t there))
-    (neither (same_pair (n, t) (n, s)) false (second_no (same_node n n) (same_node t s) (differ s t (all_in (λ y. node_cmp s y ≡ Less) row t (sorted_head node_cmp s row up) there))) refl)))
+    (neither (same_pair (n, t) (n, s)) false (second_no (same_node n n) (same_node t s) (same_node_equiv.symm t s ∙ differ s t (all_in (λ y. node_cmp s y ≡ Less) row t (sorted_head node_cmp s row up) there))) refl)))
 
 -- so many edges leave these nodes
 pub record AreLeaving (list : List Record) (nodes : List Node) (count : ℕ) : Type 0 where
@@ -163,7 +133,7 @@ no_more_front list nodes front count within l edges all = no_more_edges list fro
 
 pub no_fewer_edges : (list : List Record) (nodes : List Node) (count : ℕ) → AreLeaving list nodes count → (edges : List (Node × Node)) → HasOnlyFrom list nodes edges → length edges ≤ count
 no_fewer_edges list nodes count l edges only =
-    let most = fits edges l.edges (apart_from_once edges only.0) (λ e there. let (leads, from_node) = only.1 e.0 e.1 there in l.whole e.0 e.1 from_node leads) in
+    let most = fits edges l.edges (distinct edges only.0) (λ e there. let (leads, from_node) = only.1 e.0 e.1 there in l.whole e.0 e.1 from_node leads) in
     let long = l.long in omega (arith, most, long)
 
 -- the edges that leave the first nodes, with the steps that they took

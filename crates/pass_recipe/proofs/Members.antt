@@ -1,41 +1,30 @@
 -- The nodes of a list, as tests find them.
 use Rattle.std.proofs.Common.{ℕ, ◌≡◌, ◌<◌, zero, suc, Bool, true, false, sym, ap, ◌∙◌, List, [], ◌∷◌, length, take, get_or, arith}
-use Rattle.std.specs.Prelude.{Some, slice_get, Contains}
+use Rattle.std.specs.Prelude.{Some, Contains}
 use Rattle.std.specs.List.{list_any, IsDistinct}
 use Rattle.std.proofs.lemmas.List.{get_or-take}
 use Rattle.std.proofs.lemmas.Map.Keys.{apart_from_distinct}
-use Rattle.std.proofs.lemmas.Option.{slice_get_within, get_or_from_slice_get}
+use Rattle.std.proofs.lemmas.Option.{get_or_from_slice_get}
 use Rattle.pass_entry.specs.declared.objects.Node.{Node}
 use Rattle.pass_plain.specs.Versions.{same_node}
 use Rattle.pass_plain.proofs.Lists.{any_at, any_of, within_take}
 use Rattle.pass_graph.proofs.Noding.{same_node_is, same_node_equiv}
 use Rattle.pass_graph.proofs.Ranking.{not_any}
-
-pub there_at : {X : Type 0} (xs : List X) (x : X) → Contains xs x → (k : ℕ) × (slice_get xs k ≡ Some x)
-there_at [] x (k, within, is) = absurd (omega (arith, within))
-there_at (y ∷ xs) x (zero, within, is) = (0, ap (λ z. Some z) is)
-there_at (y ∷ xs) x (suc k, within, is) = let (j, at) = there_at xs x (k, omega (arith, within), is) in (suc j, at)
-
-pub at_there : {X : Type 0} (xs : List X) (k : ℕ) (x : X) → slice_get xs k ≡ Some x → Contains xs x
-at_there xs k x at = (k, slice_get_within xs k x at, get_or_from_slice_get xs k x x at)
+use Rattle.pass_query.proofs.Elements.{Contains-place, Contains-at, nothing_there}
 
 pub any_there : (nodes : List Node) (n : Node) → Contains nodes n → list_any (same_node n) nodes ≡ true
-any_there nodes n there = let (k, at) = there_at nodes n there in any_of (same_node n) nodes k n at (same_node_equiv.refl n)
+any_there nodes n there = let (k, at) = Contains-place nodes n there in any_of (same_node n) nodes k n at (same_node_equiv.refl n)
 
 pub there_any : (nodes : List Node) (n : Node) → list_any (same_node n) nodes ≡ true → Contains nodes n
 there_any nodes n any =
     let (k, x, at, same) = any_at (same_node n) nodes any in
-    at_there nodes k n (at ∙ ap (λ y. Some y) (sym (same_node_is n x same)))
+    Contains-at nodes k n (at ∙ ap (λ y. Some y) (sym (same_node_is n x same)))
 
 pub not_there : (nodes : List Node) (n : Node) → (Contains nodes n → ⊥) → list_any (same_node n) nodes ≡ false
 not_there nodes n none = not_any (list_any (same_node n) nodes) (λ any. none (there_any nodes n any))
 
 pub true_false : (b : Bool) → b ≡ true → b ≡ false → ⊥
 true_false b so not_so = let z : true ≡ false = sym so ∙ not_so in cc
-
--- no element stands in a list of none
-pub nothing_there : {X : Type 0} (x : X) → Contains [] x → ⊥
-nothing_there x (k, within, is) = omega (arith, within)
 
 -- what the first elements have, all have
 pub there_take : {X : Type 0} (j : ℕ) (xs : List X) (x : X) → Contains (take j xs) x → Contains xs x

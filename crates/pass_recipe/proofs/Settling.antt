@@ -21,11 +21,12 @@ use Rattle.pass_graph.proofs.Noding.{same_node_is, same_node_equiv}
 use Rattle.pass_graph.proofs.Ranking.{not_any}
 use Rattle.pass_waldo.specs.Orders.{node_cmp}
 use Rattle.pass_waldo.proofs.Indexing.{node_cmp_total, node_exact}
+use Rattle.pass_query.proofs.Elements.{Contains-place, Contains-at}
 use Rattle.pass_recipe.specs.declared.waiters.Waiting.{Waiting}
 use Rattle.pass_recipe.specs.declared.waiters.Waiters.{Waiters}
 use Rattle.pass_recipe.specs.declared.queue.Queue.{Queue}
 use Rattle.pass_recipe.specs.Queues.{Nodes, Ready, waiting_for, AreMade, IsUnmade, IsFit, WaitsFor, IsReady, IsQueue, IsHeld}
-use Rattle.pass_recipe.proofs.Members.{there_at, at_there, true_false}
+use Rattle.pass_recipe.proofs.Members.{true_false}
 
 -- a row that is new has the one node
 pub row_added : (old new : Waiters) (source : Node) (one : Waiting) (row : Vec Waiting Global) → get same_node old.rows source ≡ None → row.items ≡ one ∷ []
@@ -109,7 +110,7 @@ pub fit_waits : (list : List Record) (all : List Node) (made : Nodes) (one : Wai
     → AreMade made one.sources.items one.next place → WaitsFor list all made source (record { node = one.node; sources = one.sources; next = place + 1 })
 fit_waits list all made one place source f at are = record {
   unmade = f.unmade;
-  leads = (f.unmade.edges.all source).0 (at_there one.sources.items place source at);
+  leads = (f.unmade.edges.all source).0 (Contains-at one.sources.items place source at);
   before = λ k s here low. case_of k s here (below_or k place) low;
 }
   where
@@ -149,7 +150,7 @@ pub fit_ready : (list : List Record) (all : List Node) (made : Nodes) (one : Wai
 fit_ready list all made one f are = record {
   unmade = f.unmade;
   before = λ s e.
-      let (k, at) = there_at one.sources.items s ((f.unmade.edges.all s).1 e) in
+      let (k, at) = Contains-place one.sources.items s ((f.unmade.edges.all s).1 e) in
       split made one.sources.items one.next (length one.sources.items) f.before are k s at (slice_get_within one.sources.items k s at);
 }
 

@@ -11,10 +11,11 @@ use Rattle.pass_plain.specs.Versions.{same_node}
 use Rattle.pass_plain.specs.Graphs.{IsEdge}
 use Rattle.pass_waldo.specs.Orders.{node_cmp}
 use Rattle.pass_waldo.specs.Lookups.{AreAll}
+use Rattle.pass_query.proofs.Elements.{nothing_there}
 use Rattle.pass_recipe.specs.declared.waiters.Waiting.{Waiting}
 use Rattle.pass_recipe.specs.declared.queue.Queue.{Queue}
 use Rattle.pass_recipe.specs.Queues.{Nodes, IsFit, IsHeld}
-use Rattle.pass_recipe.proofs.Members.{nothing_there, there_take, new_at}
+use Rattle.pass_recipe.proofs.Members.{there_take, new_at}
 use Rattle.pass_recipe.proofs.Leaving.{AreCounted, counted_none, counted_more, steps_most, steps_least}
 use Rattle.pass_recipe.proofs.entries.enqueue.Goals as goal
 

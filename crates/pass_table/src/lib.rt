@@ -5,4 +5,4 @@ mod blocks;
 mod table;
 
 pub use blocks::Blocks;
-pub use table::blocks_for;
+pub use table::{blocks_for, zeros};

@@ -15,7 +15,7 @@ pub(crate) const BLOCK: usize = BLOCK_SIZE as usize;
 static ZEROS: [u8; BLOCK] = [0; BLOCK];
 
 /// So many zeros, at most a block of them.
-pub(crate) fn zeros(len: usize) -> &'static [u8]
+pub fn zeros(len: usize) -> &'static [u8]
     requires { len ≤ block_size }
     ensures { result.now ≡ replicate len 0 }
 {

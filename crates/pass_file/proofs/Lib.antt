@@ -8,3 +8,4 @@ pub mod Quiet
 pub mod Dirtier
 pub mod Seen
 pub mod Beginnings
+pub mod Pieces

@@ -35,11 +35,6 @@ quiet_dirties dirty old had was a is same = same ∙ ap (λ (was : ℕ → Bool)
 
 -- an act that all kinds of objects have
 
-pub flow_quiet : (a : Act) → is_flow_act a ≡ true → is_change a ≡ false
-flow_quiet (act.Put out at bytes) is = absurd (cc)
-flow_quiet (act.Cut out size) is = absurd (cc)
-flow_quiet _ is = refl
-
 pub flow_end : (a : Act) → is_flow_act a ≡ true → end_of a ≡ 0
 flow_end (act.Put out at bytes) is = absurd (cc)
 flow_end (act.Cut out size) is = absurd (cc)

@@ -2,10 +2,13 @@
 use Rattle.std.specs.Prelude.{◌≡◌, ℕ, ◌≤◌, List, [], ◌∷◌, ◌++◌, length, Some, None}
 use Rattle.pass_entry.specs.declared.entry.Act.{Act}
 use Rattle.pass_entry.specs.declared.entry.CallName.{CallName}
+use Rattle.pass_entry.specs.declared.entry.CallName.TheVariants as calls
 use Rattle.pass_entry.specs.declared.entry.Entry.{Entry}
 use Rattle.pass_entry.specs.declared.entry.Reply.{Reply}
+use Rattle.pass_entry.specs.declared.entry.Reply.TheVariants as answer
+use Rattle.pass_entry.specs.declared.record.Record.{Record}
 use Rattle.pass_plain.specs.Files.{file_after}
-use Rattle.pass_plain.specs.Records.{has_row}
+use Rattle.pass_plain.specs.Records.{content_records, has_row}
 use Rattle.pass_plain.specs.Recording.{block_count, flags}
 use Rattle.pass_plain.specs.Sessions.{Session}
 use Rattle.pass_version.specs.States.{VersionState}
@@ -51,6 +54,10 @@ object_of f = record { what = f.what; seen = f.seen; syncs = f.syncs; spare = f.
 -- an entry on an object
 abbrev pub entry_on : ℕ → ℕ → ℕ → CallName → Act → Reply → Entry
 entry_on what who number call a reply = record { who = who; number = number; call = call; what = what; act = a; reply = reply }
+
+-- the size and the digests in the entry by which an act changes the content. They hang on the act alone: whose entry it is, and from where its bytes come, is all one for them
+abbrev pub change_records : Session → List Entry → ℕ → Act → List Record
+change_records session seen what a = content_records session seen (entry_on what 0 0 calls.Write a answer.Done)
 
 -- The last sync of a list wrote the data of a file of this number for all entries that were seen, after the syncs of which the
 -- file's desk knew.

@@ -39,10 +39,6 @@ end_of (act.Put out at bytes) = at + length bytes
 end_of (act.Cut out size) = size
 end_of _ = 0
 
--- how many records of its size and its digests an act on a file has at most: of the two blocks that it writes, and of the one in which the file ended
-abbrev pub change_records : ℕ
-change_records = 4
-
 -- what a file keeps: there is room in each of its parts while it has room, and no block lies behind its end
 pub record IsFileState (bytes : BlocksView) (rows dirty : BlockSetView) (room : ℕ) : Type 0 where
   pub covered : room ≤ bytes.room

@@ -1,12 +1,12 @@
 //! A file, as it lies under its lock.
-ghost use Rattle.std.specs.Prelude.{◌≡◌, ◌+◌, ◌≤◌, ◌<◌, ◌^◌, ◌++◌, [], Bool, true, false, ℕ, IfSome, OnErr, OnOk, Some, if◌then◌else◌, is_some, length, slice_get, vec_capacity, vec_len};
+ghost use Rattle.std.specs.Prelude.{◌≡◌, ◌+◌, ◌≤◌, ◌<◌, ◌^◌, Bool, true, false, ℕ, IfOk, IfSome, OnErr, OnOk, Some, is_some, length, slice_get};
 ghost use Rattle.pass_entry.specs.Limits.{file_limit};
 ghost use Rattle.pass_plain.specs.Files.{file_act, file_after};
 ghost use Rattle.pass_plain.specs.Histories.{is_fault};
 ghost use Rattle.pass_plain.specs.Legal.{CallerAllows, ObjectAllows};
 ghost use Rattle.pass_plain.specs.Places.{is_exit, keeps};
 ghost use Rattle.pass_plain.specs.Records.{row_act};
-ghost use Rattle.pass_plain.specs.Recording.{block_count, content_by, flags, is_change as is_change_of};
+ghost use Rattle.pass_plain.specs.Recording.{block_count, flags, is_change as is_change_of};
 ghost use Rattle.pass_plain.specs.Versions.{is_in, nodes_of, source_in};
 ghost use Rattle.pass_book.specs.Names.{name, Listed};
 ghost use Rattle.pass_book.specs.Syncs.{durable, IsRising};
@@ -15,8 +15,8 @@ ghost use Rattle.pass_hold.specs.Callers.{moved_on};
 ghost use Rattle.pass_hold.specs.Callings.{IsEntered};
 ghost use Rattle.pass_hold.specs.Places.{HasRoom};
 ghost use Rattle.pass_flow.specs.Entering.{IsVersioned, is_object_act, rest_records, spare_after};
-ghost use Rattle.pass_file.specs.Desks.{IsFile, versions_of};
-ghost use Rattle.pass_file.specs.FileViews.{change_records, dirty_by, end_of};
+ghost use Rattle.pass_file.specs.Desks.{IsFile, change_records, versions_of};
+ghost use Rattle.pass_file.specs.FileViews.{dirty_by, end_of};
 
 mod opening;
 mod reading;
@@ -28,7 +28,7 @@ use pass_book::Desk;
 use pass_entry::{Act, Entry, Node, Pnode, Record};
 use pass_flow::{Versioned, enter_on};
 use pass_hold::{Caller, Shelf, Whose};
-use std::alloc::AllocError;
+use std::alloc::{AllocError, Global};
 use std::marker::{Model, PhantomData};
 pub use syncing::LentFile;
 
@@ -61,12 +61,10 @@ fn is_change(act: &Act) -> bool
     matches!(act, Act::Put { .. } | Act::Cut { .. })
 }
 
-/// What an act does with the content of its file, with the records of that behind others.
+/// What an act does with the content of its file.
 #[tactic(auto, using(crate::proofs::Quiet::quiet_bytes, crate::proofs::Quiet::quiet_rows, crate::proofs::Quiet::quiet_dirties))]
-fn turn(state: &mut FileState, list: &mut Vec<Record>, act: &Act)
+fn turn(state: &mut FileState, act: &Act)
     requires room { end_of act.now ≤ state.old.room }
-    requires list { is_change_of act.now ≡ true → vec_len list.old + change_records ≤ vec_capacity list.old }
-    ensures list { (had : ℕ → Bool) → state.old.rows ≡ flags had block_count → list.new.items ≡ list.old.items ++ (if is_change_of act.now then content_by state.old.lineage.node.pnode state.old.bytes had act.now block_count else []) }
     ensures rows { (had : ℕ → Bool) → state.old.rows ≡ flags had block_count → state.new.rows ≡ flags (λ block. row_act block (had block) act.now) block_count }
     ensures dirty { (had was : ℕ → Bool) → state.old.rows ≡ flags had block_count → state.old.dirty ≡ flags was block_count
         → state.new.dirty ≡ flags (λ block. dirty_by (length state.old.bytes) (length (file_act state.old.bytes act.now)) (had block) act.now block (was block)) block_count }
@@ -74,7 +72,7 @@ fn turn(state: &mut FileState, list: &mut Vec<Record>, act: &Act)
     ensures room { is_change_of act.now ≡ false → state.new.room ≡ state.old.room }
 {
     if is_change(act) {
-        state.change(list, act);
+        state.change(act);
     }
 }
 
@@ -139,15 +137,23 @@ impl<J: Whose> FileDesk<J> {
         self.state.reserve(end)
     }
 
-    /// Makes an entry on the file, with its records, and answers its place and the file's node there. `list` has the records of
-    /// an act that changes no content, and room for those of one that does.
+    /// The records of an act that changes the content, if its entry is the next one on the file.
+    fn records(&self, alloc: Global, act: &Act) -> Result<Vec<Record>, AllocError>
+        requires act { is_change_of act.now ≡ true }
+        requires limit { end_of act.now ≤ file_limit }
+        ensures { IfOk result (λ list. list.items ≡ change_records J.book.session self.now.seen self.now.what act.now) }
+    {
+        self.state.records(alloc, act)
+    }
+
+    /// Makes an entry on the file, with its records behind those of its version, and answers its place and the file's node there.
     fn enter(
         &mut self,
         shelf: &mut Shelf<J>,
         caller: &mut Caller<J>,
         entry: Entry,
         source: Option<Node>,
-        list: Vec<Record>,
+        rest: Vec<Record>,
         keep: u32,
     ) -> (u64, Node)
         requires act { is_object_act entry.act ≡ true }
@@ -163,8 +169,7 @@ impl<J: Whose> FileDesk<J> {
         requires given { is_in entry ≡ is_some source }
         requires spare { IfSome source (λ s. 1 ≤ self.old.spare) }
         requires room { end_of entry.act ≤ self.old.room }
-        requires list { is_change_of entry.act ≡ true → (list.items ≡ []) × (change_records ≤ vec_capacity list) }
-        requires rest { is_change_of entry.act ≡ false → list.items ≡ rest_records J.book.session self.old.seen entry }
+        requires rest { rest.items ≡ rest_records J.book.session self.old.seen entry }
         ensures entered { IsEntered J.book.session caller.old.seen self.old.seen caller.new.seen entry }
         ensures place { result.0 + 1 ≡ length caller.new.seen }
         ensures node { slice_get (nodes_of J.book.session caller.new.seen) result.0 ≡ Some result.1 }
@@ -175,8 +180,7 @@ impl<J: Whose> FileDesk<J> {
         ensures shelf { shelf.new ≡ record shelf.old { history = caller.new.seen; syncs = shelf.new.syncs; claimed = shelf.new.claimed } }
         ensures few { length caller.new.seen ≤ 2 ^ 32 }
     {
-        let mut list = list;
-        turn(&mut self.state, &mut list, &entry.act);
+        turn(&mut self.state, &entry.act);
         enter_version(
             shelf,
             caller,
@@ -184,7 +188,7 @@ impl<J: Whose> FileDesk<J> {
             &mut self.state,
             entry,
             source,
-            list,
+            rest,
             keep,
         )
     }

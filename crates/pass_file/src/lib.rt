@@ -8,4 +8,4 @@ mod state;
 mod touched;
 
 pub use desk::{FileDesk, LentFile};
-pub use state::{CHANGE_RECORDS, FileState};
+pub use state::FileState;

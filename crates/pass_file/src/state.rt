@@ -1,5 +1,5 @@
 //! The state of a file.
-ghost use Rattle.std.specs.Prelude.{ℕ, ◌≡◌, ◌+◌, ◌-◌, ◌*◌, ◌≤◌, ◌<◌, ◌^◌, ◌==◌, ◌&&◌, ◌++◌, ◌∷◌, [], Bool, true, false, not, length, take, drop, min, OnOk, OnErr, IfOk, vec_len, vec_capacity, if◌then◌else◌};
+ghost use Rattle.std.specs.Prelude.{ℕ, ◌≡◌, ◌+◌, ◌-◌, ◌*◌, ◌≤◌, ◌<◌, ◌^◌, ◌==◌, ◌&&◌, ◌++◌, ◌∷◌, [], Bool, true, false, not, length, take, drop, min, OnOk, OnErr, IfOk, if◌then◌else◌};
 ghost use Rattle.pass_entry.specs.Limits.{block_size, file_limit, transfer_limit};
 ghost use Rattle.pass_entry.specs.declared.entry.Act.TheVariants as act;
 ghost use Rattle.pass_plain.specs.Files.{written, resized, file_act};
@@ -10,7 +10,7 @@ ghost use Rattle.pass_plain.specs.Sound.{IsSoundFile};
 ghost use Rattle.pass_version.specs.declared.versions.Taken.TheVariants as taken;
 ghost use Rattle.pass_range.specs.Rows.{range};
 ghost use Rattle.pass_clean.specs.Blocks.{AreListed};
-ghost use Rattle.pass_file.specs.FileViews.{end_of, change_records, clean_file, opened, dirty_by, AreSet};
+ghost use Rattle.pass_file.specs.FileViews.{end_of, clean_file, opened, dirty_by, AreSet};
 
 use crate::digests::{add_digests, copies};
 use crate::set::BlockSet;
@@ -22,8 +22,8 @@ use pass_version::{Taken, Versions};
 use std::alloc::{AllocError, Global};
 use std::marker::Model;
 
-/// For how many records of one change there has to be room.
-pub const CHANGE_RECORDS: usize = 4;
+/// How many records a change has at most.
+const CHANGE_RECORDS: usize = 4;
 
 /// A file's bytes, which of its blocks have a digest, which of them are dirty, and its version.
 #[derive(Drop)]
@@ -226,29 +226,38 @@ impl FileState {
         self.room = 0;
     }
 
-    /// Does a write or a cut, and adds the file's size and the digests of what it touched. There is room for them.
-    pub fn change(&mut self, list: &mut Vec<Record>, act: &Act)
+    /// The records of a write or a cut: the file's size and the digests of what it touches, as they are after it.
+    pub fn records(&self, alloc: Global, act: &Act) -> Result<Vec<Record>, AllocError>
+        requires act { is_change act.now ≡ true }
+        requires limit { end_of act.now ≤ file_limit }
+        ensures { (had : ℕ → Bool) → self.now.rows ≡ flags had block_count_of → IfOk result (λ list. list.items ≡ content_by self.now.lineage.node.pnode self.now.bytes had act.now block_count_of) }
+    {
+        let pnode = self.versions.current().pnode;
+        let touched = touched_by(&self.rows, &self.content, act);
+        let mut list = Vec::with_capacity(alloc, CHANGE_RECORDS)?;
+        list.push_reserved(Record::Size {
+            pnode,
+            size: touched.size as u64,
+        });
+        add_digests(&mut list, pnode, &self.content, act, &touched);
+        Ok(list)
+    }
+
+    /// Does a write or a cut. It may use up the room.
+    pub fn change(&mut self, act: &Act)
         requires act { is_change act.now ≡ true }
         requires room { end_of act.now ≤ self.old.room }
-        requires list { vec_len list.old + change_records ≤ vec_capacity list.old }
-        ensures list { (had : ℕ → Bool) → self.old.rows ≡ flags had block_count_of → list.new.items ≡ list.old.items ++ content_by self.old.lineage.node.pnode self.old.bytes had act.now block_count_of }
         ensures rows { (had : ℕ → Bool) → self.old.rows ≡ flags had block_count_of → self.new.rows ≡ flags (λ block. row_act block (had block) act.now) block_count_of }
         ensures dirty { (had was : ℕ → Bool) → self.old.rows ≡ flags had block_count_of → self.old.dirty ≡ flags was block_count_of
             → self.new.dirty ≡ flags (λ block. dirty_by (length self.old.bytes) (length (file_act self.old.bytes act.now)) (had block) act.now block (was block)) block_count_of }
         ensures state { self.new ≡ record self.old { bytes = file_act self.old.bytes act.now; rows = self.new.rows; dirty = self.new.dirty; room = self.new.room } }
         ensures room { self.new.room ≤ self.old.room }
     {
-        let pnode = self.versions.current().pnode;
         let touched = touched_by(&self.rows, &self.content, act);
         apply(&mut self.content, act);
         turn_rows(&mut self.rows, &touched);
         turn_dirty(&mut self.dirty, &touched);
         self.room = 0;
-        list.push_reserved(Record::Size {
-            pnode,
-            size: touched.size as u64,
-        });
-        add_digests(list, pnode, &self.content, &touched);
     }
 
     /// The dirty blocks in ascending order, with their bytes.

@@ -11,7 +11,8 @@ use crate::set::BlockSet;
 use pass_entry::{Act, BLOCK_COUNT, BLOCK_SIZE};
 use pass_table::Blocks;
 
-const BLOCK: usize = BLOCK_SIZE as usize;
+/// The bytes of a block.
+pub(crate) const BLOCK: usize = BLOCK_SIZE as usize;
 
 /// The blocks of which an act gives digests, and the size of the file after it.
 #[derive(Clone, Copy, Drop)]

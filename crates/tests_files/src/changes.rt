@@ -2,7 +2,7 @@
 ghost use Rattle.std.specs.Prelude.{◌+◌, ◌≤◌, length};
 
 use pass_entry::{Act, Bytes, Node, Pnode, Record};
-use pass_file::{CHANGE_RECORDS, FileState};
+use pass_file::FileState;
 use std::alloc::Global;
 use std::test::Fail;
 
@@ -39,8 +39,9 @@ fn put(alloc: Global, file: &mut FileState, at: u32, bytes: &[u8]) -> Result<Vec
     let bytes = Bytes::of(alloc, bytes)?;
     let at = u64::from(at);
     file.reserve(at + bytes.as_bytes().len() as u64)?;
-    let mut list = Vec::with_capacity(alloc, CHANGE_RECORDS)?;
-    file.change(&mut list, &Act::Put { out: 0, at, bytes });
+    let act = Act::Put { out: 0, at, bytes };
+    let list = file.records(alloc, &act)?;
+    file.change(&act);
     Ok(list)
 }
 
@@ -50,8 +51,9 @@ fn cut(alloc: Global, file: &mut FileState, size: u32) -> Result<Vec<Record>, Fa
 {
     let size = u64::from(size);
     file.reserve(size)?;
-    let mut list = Vec::with_capacity(alloc, CHANGE_RECORDS)?;
-    file.change(&mut list, &Act::Cut { out: 0, size });
+    let act = Act::Cut { out: 0, size };
+    let list = file.records(alloc, &act)?;
+    file.change(&act);
     Ok(list)
 }
 

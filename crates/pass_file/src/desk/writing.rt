@@ -1,5 +1,6 @@
 //! The entries by which the content of a file changes.
-ghost use Rattle.std.specs.Prelude.{◌≡◌, ◌+◌, ◌-◌, ◌≤◌, ◌<◌, ◌^◌, [], Some, length, slice_get, vec_capacity};
+ghost use Rattle.std.specs.Prelude.{◌≡◌, ◌+◌, ◌-◌, ◌≤◌, ◌<◌, ◌^◌, IfOk, Some, length, slice_get};
+ghost use Rattle.pass_entry.specs.Limits.{file_limit};
 ghost use Rattle.pass_entry.specs.declared.entry.Act.TheVariants as act;
 ghost use Rattle.pass_entry.specs.declared.entry.CallName.TheVariants as calls;
 ghost use Rattle.pass_entry.specs.declared.entry.Reply.TheVariants as answer;
@@ -9,18 +10,41 @@ ghost use Rattle.pass_plain.specs.Places.{keeps};
 ghost use Rattle.pass_plain.specs.Versions.{nodes_of};
 ghost use Rattle.pass_hold.specs.Callers.{moved_on};
 ghost use Rattle.pass_hold.specs.Callings.{IsEntered};
-ghost use Rattle.pass_file.specs.Desks.{entry_on};
-ghost use Rattle.pass_file.specs.FileViews.{change_records};
+ghost use Rattle.pass_file.specs.Desks.{change_records, entry_on};
 
 use crate::desk::FileDesk;
 use pass_entry::{Act, Bytes, CallName, Entry, Node, Pnode, Record, Reply};
 use pass_flow::Versioned;
 use pass_hold::{Caller, Shelf, Whose};
+use std::alloc::{AllocError, Global};
 
 impl<J: Whose> FileDesk<J> {
+    /// The records of the entry of a `Put`, if that is the next one on the file: the file's size, and the digest of each block that
+    /// changes. They hang on the file alone, so nobody needs the book for them.
+    pub fn put_records(
+        &self,
+        alloc: Global,
+        at: u64,
+        bytes: &Bytes,
+    ) -> Result<Vec<Record>, AllocError>
+        requires { at + length bytes.now ≤ file_limit }
+        ensures { IfOk result (λ list. list.items ≡ change_records J.book.session self.now.seen self.now.what (act.Put 0 at bytes.now)) }
+    {
+        let bytes = bytes.clone()?;
+        self.records(alloc, &Act::Put { out: 0, at, bytes })
+    }
+
+    /// The records of the entry of a `Cut`, if that is the next one on the file.
+    pub fn cut_records(&self, alloc: Global, size: u64) -> Result<Vec<Record>, AllocError>
+        requires { size ≤ file_limit }
+        ensures { IfOk result (λ list. list.items ≡ change_records J.book.session self.now.seen self.now.what (act.Cut 0 size)) }
+    {
+        self.records(alloc, &Act::Cut { out: 0, size })
+    }
+
     /// Makes the entry of a `Put`, by which a call of `pass_write` puts bytes at a place of the file, and answers the file's node
-    /// there. `out` is the place of the entry of the call that gave the bytes, and `source` the node there. `list` has room for
-    /// `CHANGE_RECORDS` records.
+    /// there. `out` is the place of the entry of the call that gave the bytes, and `source` the node there. `list` has the records
+    /// that `put_records` answers now.
     pub fn put(
         &mut self,
         shelf: &mut Shelf<J>,
@@ -34,7 +58,7 @@ impl<J: Whose> FileDesk<J> {
         bytes: Bytes,
     ) -> Node
         requires room { (at + length bytes ≤ self.old.room) × (1 ≤ self.old.spare) }
-        requires list { (list.items ≡ []) × (change_records ≤ vec_capacity list) }
+        requires list { list.items ≡ change_records J.book.session self.old.seen self.old.what (act.Put 0 at bytes) }
         requires place { 0 < caller.old.held }
         requires keep { 0 ≡ keeps caller.old.seen (entry_on self.old.what who number calls.Write (act.Put out at bytes) answer.Done) }
         requires who { caller.old.who ≡ who }
@@ -61,8 +85,8 @@ impl<J: Whose> FileDesk<J> {
     }
 
     /// Makes the entry of a `Cut`, by which a call of `truncate` gives the file a size, and answers the file's node there. `out`
-    /// is the place of the entry of the call by which its process is the source, and `source` the node there. `list` has room
-    /// for `CHANGE_RECORDS` records.
+    /// is the place of the entry of the call by which its process is the source, and `source` the node there. `list` has the records
+    /// that `cut_records` answers now.
     pub fn cut(
         &mut self,
         shelf: &mut Shelf<J>,
@@ -75,7 +99,7 @@ impl<J: Whose> FileDesk<J> {
         size: u64,
     ) -> Node
         requires room { (size ≤ self.old.room) × (1 ≤ self.old.spare) }
-        requires list { (list.items ≡ []) × (change_records ≤ vec_capacity list) }
+        requires list { list.items ≡ change_records J.book.session self.old.seen self.old.what (act.Cut 0 size) }
         requires place { 0 < caller.old.held }
         requires keep { 0 ≡ keeps caller.old.seen (entry_on self.old.what who number calls.Truncate (act.Cut out size) answer.Done) }
         requires who { caller.old.who ≡ who }

@@ -2,6 +2,7 @@ use Rattle.std.proofs.Common.{◌≡◌, ◌∙◌, ◌+◌, ◌-◌, ◌++◌, 
 use Rattle.std.specs.List.{range_with_len}
 use Rattle.std.proofs.lemmas.List.FromFn.{map-range_with_len_more}
 use Rattle.pass_entry.specs.declared.record.Record.{Record}
+use Rattle.pass_plain.specs.Files.{file_act}
 use Rattle.pass_plain.specs.Records.{digest_of}
 use Rattle.pass_plain.proofs.Replays.{append-nil}
 use Rattle.pass_file.proofs.digests.add_all.Goals as goal
@@ -10,7 +11,7 @@ pub loop-block-init : goal.loop-block-init
 loop-block-init c = record {
   from = omega arith;
   list = sym
-      (ap (λ n. c.args.list.now.items ++ map (digest_of c.args.file c.args.content.now.bytes) (range_with_len c.args.first n)) (let z : c.args.first - c.args.first ≡ 0 = omega arith in z)
+      (ap (λ n. c.args.list.now.items ++ map (digest_of c.args.file (file_act c.args.content.now.bytes c.args.act.now)) (range_with_len c.args.first n)) (let z : c.args.first - c.args.first ≡ 0 = omega arith in z)
       ∙ append-nil c.args.list.now.items);
   few = omega arith;
   room = omega arith;
@@ -31,7 +32,7 @@ loop-block-preserved c =
     let a = c.args in
     let i = c.loop-block.invariant in
     let block = c.loop-block.block in
-    let f : ℕ → Record = digest_of a.file a.content.now.bytes in
+    let f : ℕ → Record = digest_of a.file (file_act a.content.now.bytes a.act.now) in
     let from = i.from in
     let few = i.few in
     let room = i.room in
@@ -40,7 +41,7 @@ loop-block-preserved c =
     record {
       from = omega (arith, from);
       list = c.push_reserved.ensures.items
-          ∙ (λ k. i.list k ++ c.digest_of.ensures k ∷ [])
+          ∙ (λ k. i.list k ++ c.digest_after.ensures k ∷ [])
           ∙ append_assoc a.list.now.items (map f (range_with_len a.first (block - a.first))) (f block ∷ [])
           ∙ ap (λ xs. a.list.now.items ++ xs)
           (sym (map-range_with_len_more f a.first (block - a.first) block (omega (arith, from))) ∙ ap (λ n. map f (range_with_len a.first n)) (let z : block - a.first + 1 ≡ block + 1 - a.first = omega (arith, from) in z));
@@ -53,4 +54,4 @@ returns c =
     let a = c.args in
     let order = c.requires.order in
     let last : c.loop-block.block ≡ a.end = omega (arith, c.loop-block-test.false, c.loop-block.auto.block-end, order) in
-    c.loop-block.invariant.list ∙ ap (λ n. a.list.now.items ++ map (digest_of a.file a.content.now.bytes) (range_with_len a.first (n - a.first))) last
+    c.loop-block.invariant.list ∙ ap (λ n. a.list.now.items ++ map (digest_of a.file (file_act a.content.now.bytes a.act.now)) (range_with_len a.first (n - a.first))) last

@@ -1,13 +1,11 @@
 use Rattle.std.proofs.Common.{◌≡◌, ap, sym, ◌∙◌, subst}
 use Rattle.pass_entry.specs.declared.entry.Entry.{Entry}
 use Rattle.pass_plain.specs.Files.{file_act, file_after}
-use Rattle.pass_plain.specs.Records.{has_row}
 use Rattle.pass_book.specs.Numbers.{IsFileNumber}
 use Rattle.pass_book.specs.Tokens.{DeskState}
 use Rattle.pass_flow.specs.Entering.{IsVersioned, rest_records}
 use Rattle.pass_file.specs.Desks.{IsFileAfter, FileDeskView, versions_of}
 use Rattle.pass_file.specs.FileViews.{FileView}
-use Rattle.pass_file.proofs.Changing.{rest_is}
 use Rattle.pass_file.proofs.Dirtier.{file_now, number_entered}
 use Rattle.pass_file.proofs.desk.FileDesk.enter.Goals as goal
 
@@ -16,16 +14,7 @@ enter_version-requires-clause-object g c =
     subst (λ (f : FileView). IsVersioned g.J.Whose.book c.self.inside.desk (versions_of f)) (sym c.turn.ensures.state) c.self.invariant.version
 
 pub enter_version-requires-clause-rest : goal.enter_version-requires-clause-rest
-enter_version-requires-clause-rest g c =
-    let S = g.J.Whose.book.session in
-    let d = c.self.inside.desk in
-    let e : Entry = c.args.entry in
-    let f : FileView = c.self.inside.state in
-    let i = c.self.invariant in
-    let same : e.what ≡ d.what = c.requires.what ∙ sym (ap (λ (v : FileDeskView). v.what) c.self.view_is) in
-    let is = subst (λ o. IsFileAfter S d.seen d.syncs o f) (sym same) i.content in
-    rest_is S d.seen d.syncs e f c.args.list.items c.turn.new.list.items is (i.version.node ∙ sym same) c.requires.fine (λ change. (c.requires.list change).0)
-    (λ change. subst (λ (v : FileDeskView). c.args.list.items ≡ rest_records S v.seen e) (sym c.self.view_is) (c.requires.rest change)) (c.turn.ensures.list (has_row S d.seen e.what) is.rows)
+enter_version-requires-clause-rest g c = subst (λ (v : FileDeskView). c.args.rest.items ≡ rest_records g.J.Whose.book.session v.seen c.args.entry) (sym c.self.view_is) c.requires.rest
 
 pub invariant_of-self : goal.invariant_of-self
 invariant_of-self g c =

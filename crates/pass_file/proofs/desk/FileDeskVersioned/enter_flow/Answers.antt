@@ -1,6 +1,6 @@
-use Rattle.std.proofs.Common.{◌≡◌, sym, ◌∙◌, true, false, arith}
+use Rattle.std.proofs.Common.{arith}
 use Rattle.pass_flow.proofs.Flowing.{flow_fits, flow_replies}
-use Rattle.pass_file.proofs.Quiet.{flow_end, flow_quiet}
+use Rattle.pass_file.proofs.Quiet.{flow_end}
 use Rattle.pass_file.proofs.desk.FileDeskVersioned.enter_flow.Goals as goal
 
 pub enter-requires-clause-act : goal.enter-requires-clause-act
@@ -11,6 +11,3 @@ enter-requires-clause-replies g c = flow_replies g.J.Whose.book.session c.args.s
 
 pub enter-requires-clause-room : goal.enter-requires-clause-room
 enter-requires-clause-room g c = let z = flow_end c.args.entry.act c.requires.act in omega (arith, z)
-
-pub enter-requires-clause-list : goal.enter-requires-clause-list
-enter-requires-clause-list g c change = absurd (let z : true ≡ false = sym change ∙ flow_quiet c.args.entry.act c.requires.act in cc)

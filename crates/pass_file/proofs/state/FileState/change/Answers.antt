@@ -1,11 +1,8 @@
-use Rattle.std.proofs.Common.{◌∙◌, ◌++◌, ℕ, List, Bool, length, ap, arith}
-use Rattle.pass_entry.specs.declared.objects.Node.{Node}
-use Rattle.pass_entry.specs.declared.record.Record.{Record}
+use Rattle.std.proofs.Common.{◌∙◌, ℕ, Bool, length, ap, arith}
 use Rattle.pass_plain.specs.Files.{file_act}
-use Rattle.pass_plain.specs.Recording.{block_count, flags, content_by}
+use Rattle.pass_plain.specs.Recording.{block_count, flags}
 use Rattle.pass_file.specs.FileViews.{FileView, dirty_by}
-use Rattle.pass_file.specs.Touches.{digests_at}
-use Rattle.pass_file.proofs.Turning.{row_turned, dirty_turned, state_after, list_recorded, rows_room, dirty_room, edge_room}
+use Rattle.pass_file.proofs.Turning.{row_turned, dirty_turned, state_after, rows_room, dirty_room, edge_room}
 use Rattle.pass_file.proofs.state.FileState.change.Goals as goal
 
 pub touched_by-touched-requires : goal.touched_by-touched-requires
@@ -69,26 +66,3 @@ returns-clause-dirty c = λ (had was : ℕ → Bool) rows dirty.
     dirty_turned i.content.bytes i.rows.blocks a c.touched_by-touched.result c.self.invariant.rows_below (c.touched_by-touched.ensures) c.requires.act
     had was i.dirty.blocks c.turn_dirty.new.dirty.blocks (ap (λ (w : FileView). w.rows) c.self.view_is ∙ rows) (ap (λ (w : FileView). w.dirty) c.self.view_is ∙ dirty) c.turn_dirty.ensures
     ∙ (λ k. flags (λ b. dirty_by (length (c.self.view_is k).bytes) (length (file_act (c.self.view_is k).bytes a)) (had b) a b (was b)) block_count)
-
-pub push_reserved-requires : goal.push_reserved-requires
-push_reserved-requires c = let room = c.requires.list in omega (arith, room)
-
-pub add_digests-requires : goal.add_digests-requires
-add_digests-requires c =
-    let is = c.touched_by-touched.ensures in
-    let few = is.few in
-    let room = c.requires.list in
-    let len = c.push_reserved.ensures.len in
-    let capacity = c.push_reserved.ensures.capacity in
-    record { order = is.order; room = omega (arith, few, room, len, capacity) }
-
-pub returns-clause-list : goal.returns-clause-list
-returns-clause-list c = λ (had : ℕ → Bool) rows.
-    let i = c.self.inside in
-    let a = c.args.act.now in
-    let t = c.touched_by-touched.result in
-    c.add_digests.ensures
-    ∙ ap (λ (xs : List Record). xs ++ digests_at c.current-pnode.result.pnode c.apply.new.content.bytes t) c.push_reserved.ensures.items
-    ∙ list_recorded i.content.bytes i.rows.blocks a t c.self.invariant.rows_below c.touched_by-touched.ensures c.requires.act c.current-pnode.result.pnode i.versions.lineage.node.pnode c.args.list.now.items c.apply.new.content.bytes had
-    (ap (λ (n : Node). n.pnode) c.current-pnode.ensures) c.apply.ensures (ap (λ (w : FileView). w.rows) c.self.view_is ∙ rows)
-    ∙ ap (λ (w : FileView). c.args.list.now.items ++ content_by w.lineage.node.pnode w.bytes had a block_count) c.self.view_is

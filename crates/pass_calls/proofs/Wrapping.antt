@@ -1,10 +1,8 @@
 -- How a call on a process between two calls answers by its steps.
-use Rattle.std.proofs.Common.{◌≡◌, ℕ, ◌+◌, ◌<◌, length, ap, sym, ◌∙◌, subst, arith, refl, false}
-use Rattle.std.specs.Prelude.{List, Option, Some, None, Result, Ok, Err, if◌then◌else◌, take}
+use Rattle.std.proofs.Common.{◌≡◌, ℕ, ◌+◌, ◌<◌, ap, sym, ◌∙◌, subst, arith, refl, false}
+use Rattle.std.specs.Prelude.{Option, None, Ok, Err, if◌then◌else◌, take}
 use Rattle.std.specs.Option.{option_map_or}
-use mathlib.Core.List.{IsPrefix}
 use Rattle.pass_entry.specs.declared.entry.CallFault.{CallFault}
-use Rattle.pass_entry.specs.declared.entry.Entry.{Entry}
 use Rattle.pass_entry.specs.declared.entry.Reply.TheVariants as answer
 use Rattle.pass_plain.specs.declared.request.Request.{Request}
 use Rattle.pass_plain.specs.Calls.{name_of}
@@ -17,7 +15,7 @@ use Rattle.pass_proc.specs.CallEnds.{HasReplied}
 use Rattle.pass_proc.specs.Procs.{ProcView, IsCallerOf, proc_with}
 use Rattle.pass_proc.specs.Views.{ProcessView}
 use Rattle.pass_proc.specs.declared.way.Way.{Way}
-use Rattle.pass_calls.specs.Answers.{Answers, HasEnded, HasMoved, HasOnlyLooked, IsFull, Stepped, begins_at, resumes}
+use Rattle.pass_calls.specs.Answers.{Answers, HasMoved, begins_at, resumes}
 use Rattle.pass_calls.specs.declared.answer.Moved.{Moved}
 use Rattle.pass_calls.specs.declared.answer.CallEnd.TheVariants as ends
 

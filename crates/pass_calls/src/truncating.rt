@@ -1,22 +1,25 @@
 //! The call `truncate`.
-ghost use Rattle.std.specs.Prelude.{◌≡◌, ◌+◌, ◌-◌, ◌<◌, ◌≤◌, ◌^◌, [], None, Some, Ok, length, vec_capacity};
+ghost use Rattle.std.specs.Prelude.{◌≡◌, ◌+◌, ◌-◌, ◌<◌, ◌≤◌, ◌^◌, IfOk, IsErrOf, OnOk, None, Some, Ok, length};
 ghost use Rattle.std.specs.FinMap as finite_map;
+ghost use Rattle.pass_entry.specs.Limits.{file_limit};
+ghost use Rattle.pass_entry.specs.declared.entry.Act.TheVariants as act;
 ghost use Rattle.pass_entry.specs.declared.entry.Ask.TheVariants as ask;
 ghost use Rattle.pass_entry.specs.declared.objects.Descriptor.{Descriptor as AnyDescriptor};
 ghost use Rattle.pass_plain.specs.declared.request.Request.TheVariants as requests;
 ghost use Rattle.pass_plain.specs.Processes.{refusal};
 ghost use Rattle.pass_hold.specs.Callings.{IsIdle};
 ghost use Rattle.pass_hold.specs.Places.{HasRoom};
-ghost use Rattle.pass_file.specs.FileViews.{change_records};
+ghost use Rattle.pass_file.specs.Desks.{change_records};
 ghost use Rattle.pass_calls.specs.Answers.{Answers, Stepped};
+ghost use Rattle.pass_calls.specs.declared.answer.CallEnd.TheVariants as ends;
 ghost use Rattle.pass_calls.specs.declared.answer.Moved.TheVariants as moved;
 
 use crate::answer::{CallEnd, Moved};
 use pass_entry::{CallName, Record};
-use pass_file::{CHANGE_RECORDS, FileDesk};
+use pass_file::FileDesk;
 use pass_hold::{Caller, Shelf, Whose};
 use pass_proc::{Proc, ProcessDesk};
-use std::alloc::Global;
+use std::alloc::{AllocError, Global};
 
 /// The steps of a `truncate` that its process does not refuse.
 fn cut_steps<J: Whose>(
@@ -33,7 +36,7 @@ fn cut_steps<J: Whose>(
     requires fd { fd < 64 }
     requires object { (d : AnyDescriptor) → finite_map.get process.old.state.descriptors fd ≡ Some d → file.old.what ≡ d.pnode }
     requires room { (size ≤ file.old.room) × (1 ≤ file.old.spare) }
-    requires list { (list.items ≡ []) × (change_records ≤ vec_capacity list) }
+    requires list { list.items ≡ change_records J.book.session file.old.seen file.old.what (act.Cut 0 size) }
     requires places { HasRoom shelf.old caller.old.held 3 }
     requires who { caller.old.who ≡ process.old.who }
     requires free { refusal process.old.state (ask.ToCut fd size) ≡ None }
@@ -51,7 +54,23 @@ fn cut_steps<J: Whose>(
     file.cut(shelf, caller, who, number, list, out, &source, size);
 }
 
-/// Gives a held file a size: it loses what lies behind it, or has zeros up to it.
+/// Makes ready that a held file gets a size: takes the memory of that, and makes the records that its entry has behind those of the
+/// file's version.
+pub fn ready_cut<J: Whose>(
+    alloc: Global,
+    file: &mut FileDesk<J>,
+    size: u64,
+) -> Result<Vec<Record>, AllocError>
+    requires { size ≤ file_limit }
+    ensures room { OnOk result ((size ≤ file.new.room) × (1 ≤ file.new.spare)) }
+    ensures list { IfOk result (λ list. list.items ≡ change_records J.book.session file.new.seen file.new.what (act.Cut 0 size)) }
+    ensures what { file.new.what ≡ file.old.what }
+{
+    file.reserve(size)?;
+    file.cut_records(alloc, size)
+}
+
+/// Gives a held file a size, which was made ready: it loses what lies behind it, or has zeros up to it. It takes no memory.
 pub fn truncate<J: Whose>(
     alloc: Global,
     file: &mut FileDesk<J>,
@@ -59,15 +78,17 @@ pub fn truncate<J: Whose>(
     proc: &mut Proc<J>,
     fd: u8,
     size: u64,
+    list: Vec<Record>,
 ) -> Result<Moved, CallEnd>
     requires fd { fd < 64 }
     requires free { refusal proc.old.state (ask.ToCut fd size) ≡ None }
     requires object { (d : AnyDescriptor) → finite_map.get proc.old.state.descriptors fd ≡ Some d → file.old.what ≡ d.pnode }
+    requires room { (size ≤ file.old.room) × (1 ≤ file.old.spare) }
+    requires list { list.items ≡ change_records J.book.session file.old.seen file.old.what (act.Cut 0 size) }
     ensures call { Answers J.book.session J.places proc.old proc.new (requests.Truncate fd size) result }
+    ensures memory { ¬ IsErrOf result ends.NoMemory }
     ensures what { file.new.what ≡ file.old.what }
 {
-    file.reserve(size)?;
-    let list = Vec::with_capacity(alloc, CHANGE_RECORDS)?;
     if let Err(full) = proc.caller.room(shelf, 3) {
         return Err(CallEnd::from(full));
     }

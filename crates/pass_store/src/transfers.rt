@@ -1,7 +1,12 @@
 //! The calls on what a process holds open.
-ghost use Rattle.std.specs.Prelude.{◌≡◌, ◌<◌, ◌≤◌, IsErrOf};
+ghost use Rattle.std.specs.Prelude.{◌≡◌, ◌<◌, ◌≤◌, IsErrOf, None, Some, false, length, true};
+ghost use Rattle.std.specs.FinMap as finite_map;
 ghost use Rattle.pass_entry.specs.Limits.{transfer_limit};
+ghost use Rattle.pass_entry.specs.declared.entry.Ask.TheVariants as ask;
+ghost use Rattle.pass_entry.specs.declared.objects.Descriptor.{Descriptor as AnyDescriptor};
 ghost use Rattle.pass_plain.specs.declared.request.Request.TheVariants as requests;
+ghost use Rattle.pass_plain.specs.Processes.{is_file, is_pipe, refusal};
+ghost use Rattle.pass_proc.specs.Procs.{is_way};
 ghost use Rattle.pass_calls.specs.Answers.{Answers};
 ghost use Rattle.pass_calls.specs.declared.answer.CallEnd.TheVariants as ends;
 
@@ -11,7 +16,9 @@ use crate::slot::Slot;
 use crate::store::Store;
 use pass_calls::{CallEnd, Moved};
 use pass_entry::{Ask, Bytes, CallName};
+use pass_file::FileDesk;
 use pass_outside::{Disk, Gate};
+use pass_pipe::PipeDesk;
 use pass_proc::Proc;
 use std::alloc::Global;
 use std::sync::Wait;
@@ -116,10 +123,9 @@ impl<'g, J: Opening, D: Disk, G: Gate> Store<'g, J, D, G> {
         };
         let mut slot = self.locks.object(rt, alloc, &d);
         self.gate.inside(d.pnode);
-        let mut shelf = self.locks.book.lock(rt);
         match &mut *slot {
-            Slot::File(file) => pass_calls::write_file(alloc, file, &mut shelf, proc, fd, bytes),
-            Slot::Pipe(pipe) => pass_calls::write_pipe(alloc, pipe, &mut shelf, proc, fd, bytes),
+            Slot::File(file) => self.write_file(rt, alloc, file, proc, fd, bytes),
+            Slot::Pipe(pipe) => self.write_pipe(rt, alloc, pipe, proc, fd, bytes),
             _ => unreachable!(),
         }
     }
@@ -145,10 +151,72 @@ impl<'g, J: Opening, D: Disk, G: Gate> Store<'g, J, D, G> {
         };
         let mut slot = self.locks.object(rt, alloc, &d);
         self.gate.inside(d.pnode);
-        let mut shelf = self.locks.book.lock(rt);
         match &mut *slot {
-            Slot::File(file) => pass_calls::truncate(alloc, file, &mut shelf, proc, fd, size),
+            Slot::File(file) => self.truncate_file(rt, alloc, file, proc, fd, size),
             _ => unreachable!(),
         }
+    }
+
+    /// Writes to a held file, whose records are made before the book is held.
+    fn write_file<R: Wait>(
+        &self,
+        rt: &R,
+        alloc: Global,
+        file: &mut FileDesk<J>,
+        proc: &mut Proc<J>,
+        fd: u8,
+        bytes: &Bytes,
+    ) -> Result<Moved, CallEnd>
+        requires fd { fd < 64 }
+        requires free { refusal proc.old.state (ask.ToWrite fd (length bytes.now)) ≡ None }
+        requires object { (d : AnyDescriptor) → finite_map.get proc.old.state.descriptors fd ≡ Some d → (is_file d ≡ true) × (file.old.what ≡ d.pnode) }
+        requires new { is_way proc.old.way fd bytes.now ≡ false }
+        ensures call { Answers J.book.session J.places proc.old proc.new (requests.Write fd bytes.now) result }
+        ensures what { file.new.what ≡ file.old.what }
+    {
+        let ready = pass_calls::ready_write(alloc, file, proc, fd, bytes)?;
+        let mut shelf = self.locks.book.lock(rt);
+        pass_calls::write_file(alloc, file, &mut shelf, proc, fd, ready)
+    }
+
+    /// Gives a held file a size, with its records made before the book is held.
+    fn truncate_file<R: Wait>(
+        &self,
+        rt: &R,
+        alloc: Global,
+        file: &mut FileDesk<J>,
+        proc: &mut Proc<J>,
+        fd: u8,
+        size: u64,
+    ) -> Result<Moved, CallEnd>
+        requires fd { fd < 64 }
+        requires free { refusal proc.old.state (ask.ToCut fd size) ≡ None }
+        requires object { (d : AnyDescriptor) → finite_map.get proc.old.state.descriptors fd ≡ Some d → file.old.what ≡ d.pnode }
+        ensures call { Answers J.book.session J.places proc.old proc.new (requests.Truncate fd size) result }
+        ensures what { file.new.what ≡ file.old.what }
+    {
+        let list = pass_calls::ready_cut(alloc, file, size)?;
+        let mut shelf = self.locks.book.lock(rt);
+        pass_calls::truncate(alloc, file, &mut shelf, proc, fd, size, list)
+    }
+
+    /// Writes to a held pipe.
+    fn write_pipe<R: Wait>(
+        &self,
+        rt: &R,
+        alloc: Global,
+        pipe: &mut PipeDesk<J>,
+        proc: &mut Proc<J>,
+        fd: u8,
+        bytes: &Bytes,
+    ) -> Result<Moved, CallEnd>
+        requires fd { fd < 64 }
+        requires free { refusal proc.old.state (ask.ToWrite fd (length bytes.now)) ≡ None }
+        requires object { (d : AnyDescriptor) → finite_map.get proc.old.state.descriptors fd ≡ Some d → (is_pipe d ≡ true) × (pipe.old.what ≡ d.pnode) }
+        ensures call { Answers J.book.session J.places proc.old proc.new (requests.Write fd bytes.now) result }
+        ensures what { pipe.new.what ≡ pipe.old.what }
+    {
+        let mut shelf = self.locks.book.lock(rt);
+        pass_calls::write_pipe(alloc, pipe, &mut shelf, proc, fd, bytes)
     }
 }

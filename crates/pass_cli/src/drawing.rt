@@ -1,5 +1,5 @@
 //! Runs a trace that is drawn from a number.
-ghost use Rattle.std.specs.Prelude.{◌≡◌, ◌≢◌, ◌⊎◌, ◌≤◌};
+ghost use Rattle.std.specs.Prelude.{◌≡◌, ◌≢◌, ◌⊎◌, ◌≤◌, ℕ, List};
 ghost use Rattle.pass_gen.specs.Generated.{generated};
 ghost use Rattle.pass_run.specs.Stored.{IsBackedBy, IsLater};
 ghost use Rattle.pass_cli.specs.Answers.{HasRun, IsUnrecorded, IsRecorded, outcome_of_run};
@@ -8,7 +8,7 @@ ghost use Rattle.pass_cli.specs.Drawn.{HasDrawn, IsTold, drawn_bytes};
 use pass_drawn::report as drawn_report;
 use pass_gen::generate;
 use pass_outside::{Disk, Gate};
-use pass_run::{RunEnd, Status, run_trace, unopened};
+use pass_run::{RunEnd, Status, run_unreported, unopened};
 use pass_trace::Trace;
 use std::alloc::Global;
 use std::sync::Wait;
@@ -40,13 +40,14 @@ pub fn judge_drawn<R: Threads + Wait + Sync, D: Disk + Send, G: Gate + Sync>(
     match generate(alloc, number, lines) {
         Ok(trace) => {
             let ended = run_drawn(rt, alloc, workers, number, lines, &trace, disk, gate);
+            drop(trace);
             told(alloc, number, lines, ended)
         }
         Err(_) => unopened(alloc, Status::NoMemory, disk),
     }
 }
 
-// Runs the trace that was drawn.
+// Runs the trace that was drawn. Its report isn't made.
 fn run_drawn<R: Threads + Wait + Sync, D: Disk + Send, G: Gate + Sync>(
     rt: &R,
     alloc: Global,
@@ -60,14 +61,14 @@ fn run_drawn<R: Threads + Wait + Sync, D: Disk + Send, G: Gate + Sync>(
     requires workers { (1 ≤ workers) × (workers ≤ 64) }
     requires lines { (15 ≤ lines) × (lines ≤ 100000) }
     requires drawn { trace.now.lines.items ≡ generated number lines }
-    ensures judged { result.status ≢ Status.NoMemory → HasRun D.view (drawn_bytes number lines) 0 0 disk result.disk (outcome_of_run result) result.status result.report.items }
+    ensures judged { result.status ≢ Status.NoMemory → (report : List ℕ) × HasRun D.view (drawn_bytes number lines) 0 0 disk result.disk (outcome_of_run result) result.status report }
     ensures recorded { IsUnrecorded (D.view disk) (D.view result.disk) (drawn_bytes number lines) (outcome_of_run result)
         ⊎ IsRecorded (D.view disk) (D.view result.disk) (drawn_bytes number lines) (outcome_of_run result) }
     ensures backed { IsBackedBy result.history.items result.syncs.items }
     ensures later { IsLater (D.view disk) (D.view result.disk) }
 {
     pass_gen::laws::generated_is_read();
-    run_trace(rt, alloc, trace, workers, disk, gate)
+    run_unreported(rt, alloc, trace, workers, disk, gate)
 }
 
 // The end of a run with the text of what it came to, or want of memory.

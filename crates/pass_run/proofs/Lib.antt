@@ -11,3 +11,4 @@ mod Overs
 pub mod Moved
 mod Fitting
 mod Following
+pub mod Reported

@@ -18,7 +18,7 @@ use Rattle.pass_plain.specs.Runs.{IsRun}
 use Rattle.pass_recover.specs.declared.fault.OpenFault.{OpenFault}
 use Rattle.pass_recover.specs.Faults.{LogHas}
 use Rattle.pass_replay.specs.Making.{first_entry}
-use Rattle.pass_report.specs.Reports.{SameButBytes, IsRunFrom, report_of}
+use Rattle.pass_report.specs.Reports.{SameButBytes, report_of}
 use Rattle.pass_safe.specs.Safes.{IsLost}
 use Rattle.pass_session.specs.Sessions.{OpenedView, HasSession}
 use Rattle.pass_store.specs.Closings.{story_at, IsClosed, IsSettled, IsUnsettled}
@@ -153,8 +153,8 @@ module _ {D : Type 0} (view : D → Moment) (old : Moment) (lines : List TraceLi
       (bytes, read, subst (λ (o : Option OpenFault). IsStoreJudged o s) (sym listed.unfaulted) is)
 
   -- the run that it handed out
-  module _ (e : RunEnd D) (last : Last) (settled : Result Receipt CallEnd) (status_is : (e.status ≡ status_of (view e.disk).faults last settled) ⊎ (e.status ≡ status.NoMemory))
-      (no_report : (IsEnd e.status → ⊥) → e.report.items ≡ []) (list_is : e.list.items ≡ ground.before) (same : SameButBytes e.start book.session.start) (bare : IsBare e.start)
+  module _ (e : RunEnd D) (last : Last) (settled : Result Receipt CallEnd) (status_is : e.status ≡ status_of (view e.disk).faults last settled)
+      (silent : e.report.items ≡ []) (list_is : e.list.items ≡ ground.before) (same : SameButBytes e.start book.session.start) (bare : IsBare e.start)
       (closed : IsClosed (story_at book ground e.history.items) ground.ready (view e.disk) e.syncs.items)
       (later : IsLater old (view e.disk)) (laws : GraphLaw × VersionRecordLaw × InputRecordLaw) (ran : IsRanTo book.session (plain_trace lines) e.history.items last) where
     list_too : e.list.items ≡ list
@@ -190,22 +190,18 @@ module _ {D : Type 0} (view : D → Moment) (old : Moment) (lines : List TraceLi
     -- a fault of the disk
     module _ (refused : IfErr settled (IsUnsettled ground.opened (view e.disk))) where
       lost : (opened counted : ℕ) → e.status ≡ status.DiskFault opened counted → (opened ≡ old.faults) × (counted ≡ (view e.disk).faults) × ((opened < counted) ⊎ IsAtEnd (view e.disk))
-      lost opened counted also = ⊎_elim by_settled (λ (starved : e.status ≡ status.NoMemory). absurd (let z : status.NoMemory ≡ status.DiskFault opened counted = sym starved ∙ also in cc)) status_is
-        where
-          by_settled : e.status ≡ status_of (view e.disk).faults last settled → (opened ≡ old.faults) × (counted ≡ (view e.disk).faults) × ((opened < counted) ⊎ IsAtEnd (view e.disk))
-          by_settled is =
-              let (found, failed, now) = of_disk (view e.disk).faults last settled opened counted (sym is ∙ also) in
-              let fault : IsLost (view e.disk) ground.opened (record { opened = opened; found = found }) = subst (λ (r : Result Receipt CallEnd). IfErr r (IsUnsettled ground.opened (view e.disk))) failed refused in (
-                fault.first ∙ opened_is,
-                sym now,
-                ⊎_elim (λ (rose : opened < found). inl (omega (arith, rose, fault.within, now))) (λ (end : IsAtEnd (view e.disk)). inr end) fault.above,
-              )
+      lost opened counted also =
+          let (found, failed, now) = of_disk (view e.disk).faults last settled opened counted (sym status_is ∙ also) in
+          let fault : IsLost (view e.disk) ground.opened (record { opened = opened; found = found }) = subst (λ (r : Result Receipt CallEnd). IfErr r (IsUnsettled ground.opened (view e.disk))) failed refused in (
+            fault.first ∙ opened_is,
+            sym now,
+            ⊎_elim (λ (rose : opened < found). inl (omega (arith, rose, fault.within, now))) (λ (end : IsAtEnd (view e.disk)). inr end) fault.above,
+          )
 
       -- all of it
-      module _ (whole : IfOk settled (IsSettled (story_at book ground e.history.items) (view e.disk) e.syncs.items)) (healthy : OnOk settled ((view e.disk).faults ≡ ground.opened))
-          (report : IsEnd e.status → (full : Start) → IsRunFrom e.start e.history.items lines full → e.report.items ≡ report_of full e.history.items lines) where
+      module _ (whole : IfOk settled (IsSettled (story_at book ground e.history.items) (view e.disk) e.syncs.items)) (healthy : OnOk settled ((view e.disk).faults ≡ ground.opened)) where
         its_end : IsEnd e.status → IsOfEnd last settled e.status
-        its_end end = ⊎_elim (λ is. of_end (view e.disk).faults last settled e.status is end) (λ starved. absurd (subst IsEnd starved end)) status_is
+        its_end end = of_end (view e.disk).faults last settled e.status status_is end
 
         which : IsEnd e.status → (e.status ≡ status.Done) ⊎ (e.status ≡ status.Stuck)
         which end = let (receipt, ok, by) = its_end end in ⊎_elim (λ (d : (e.status ≡ status.Done) × (last ≡ lasts.Done)). inl d.0) (λ (s : (e.status ≡ status.Stuck) × (last ≡ lasts.Stuck)). inr s.0) by
@@ -224,12 +220,12 @@ module _ {D : Type 0} (view : D → Moment) (old : Moment) (lines : List TraceLi
             (is_settled (story_at book ground e.history.items) (view e.disk) e.syncs.items receipt
             (subst (λ (r : Result Receipt CallEnd). IfOk r (IsSettled (story_at book ground e.history.items) (view e.disk) e.syncs.items)) ok whole))
 
-        ended : IsEnd e.status → HasEnded old.calls old (view e.disk) lines e.list.items e.start e.history.items e.syncs.items e.status e.report.items
+        ended : IsEnd e.status → HasEnded old.calls old (view e.disk) lines e.list.items e.start e.history.items e.syncs.items e.status (report_of start e.history.items lines)
         ended end = record {
           opened = start;
           opening = is_opening;
           recorded = recorded;
-          reported = record { ends = ends_as end; report = report end start (record { same = outline; sound = sound; run = run }) };
+          reported = record { ends = ends_as end; report = refl };
           stored = stored;
           settled = settled_run end;
           numbered = numbered (session_of_trace start lines) e.history.items run.legal;
@@ -241,18 +237,17 @@ module _ {D : Type 0} (view : D → Moment) (old : Moment) (lines : List TraceLi
             subst (λ (r : Result Receipt CallEnd). OnOk r ((view e.disk).faults ≡ ground.opened)) ok healthy ∙ opened_is
 
         quiet : e.status ≢ status.NoMemory → (IsOfDisk e.status → ⊥) → IsEnd e.status
-        quiet some other = ⊎_elim (λ is. quiet_end (view e.disk).faults last settled e.status is some other) (λ starved. absurd (some starved)) status_is
+        quiet some other = quiet_end (view e.disk).faults last settled e.status status_is some other
 
         pub over_run : IsRunOver view old lines e
         over_run = record {
           disk_fault = lost;
           no_fault = λ some other. fine (quiet some other);
           judged = λ some other. judged_end e.status (which (quiet some other));
-          bad_store = λ fault also. absurd (⊎_elim (λ is. not_bad (view e.disk).faults last settled fault (sym is ∙ also))
-              (λ (starved : e.status ≡ status.NoMemory). let z : status.NoMemory ≡ status.BadStore fault = sym starved ∙ also in absurd (cc)) status_is);
+          bad_store = λ fault also. absurd (not_bad (view e.disk).faults last settled fault (sym status_is ∙ also));
           recorded = inr (inr over);
           backed = closed.backed;
-          ended = ended;
-          no_report = no_report;
+          ended = (report_of start e.history.items lines, ended);
+          silent = silent;
           later = later;
         }

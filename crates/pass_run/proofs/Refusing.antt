@@ -33,8 +33,8 @@ module _ {D : Type 0} (view : D → Moment) (old : Moment) (lines : List TraceLi
     bad_store = λ fault also. absurd (let z : status.NoMemory ≡ status.BadStore fault = sym is ∙ also in cc);
     recorded = inr (inl (record { unended = λ end. subst IsEnd is end; nothing = none.0; begun = begun }));
     backed = none_backed e.history.items e.syncs.items none.0.no_history;
-    ended = λ end. absurd (subst IsEnd is end);
-    no_report = λ _. none.1;
+    ended = ([], λ end. absurd (subst IsEnd is end));
+    silent = none.1;
     later = later;
   }
 
@@ -103,8 +103,8 @@ module _ {D : Type 0} (view : D → Moment) (old : Moment) (lines : List TraceLi
       recorded = ⊎_elim (λ (untouched : IsUntouched old (view e.disk) fault). inl (refusal untouched))
           (λ (begun : HasBegun old (view e.disk) (objects_of lines)). inr (inl (record { unended = unended; nothing = none.0; begun = begun }))) refused.left;
       backed = none_backed e.history.items e.syncs.items none.0.no_history;
-      ended = λ end. absurd (unended end);
-      no_report = λ _. none.1;
+      ended = ([], λ end. absurd (unended end));
+      silent = none.1;
       later = refused.later;
     }
 

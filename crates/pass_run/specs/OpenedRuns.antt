@@ -15,8 +15,22 @@ IsHandedOut old new lines e =
     ⊎ (IsHeldBack old new lines e.status e.list.items e.start e.history.items e.syncs.items
     ⊎ IsOverStore old.calls old new lines e.list.items e.start e.history.items e.syncs.items)
 
--- what a run hands out that began at the moment `old` of its disk
+-- what a run hands out that began at the moment `old` of its disk, without its report
 pub record IsRunOver {D : Type 0} (view : D → Moment) (old : Moment) (lines : List TraceLine) (e : RunEnd D) : Type 0 where
+  pub disk_fault : (opened now : ℕ) → e.status ≡ status.DiskFault opened now
+      → (opened ≡ old.faults) × (now ≡ (view e.disk).faults) × ((opened < now) ⊎ IsAtEnd (view e.disk))
+  pub no_fault : e.status ≢ status.NoMemory → (IsOfDisk e.status → ⊥) → (view e.disk).faults ≡ old.faults
+  pub judged : e.status ≢ status.NoMemory → (IsOfDisk e.status → ⊥) → LogHas old (λ bytes. IsStoreJudged (session_fault bytes) e.status)
+  pub bad_store : (fault : OpenFault) → e.status ≡ status.BadStore fault → IsRefusedOpening old (view e.disk) e.status e.list.items e.start e.history.items e.syncs.items
+  pub recorded : IsHandedOut old (view e.disk) lines e
+  pub backed : IsBackedBy e.history.items e.syncs.items
+  -- the text would be its report
+  pub ended : (text : List ℕ) × (IsEnd e.status → HasEnded old.calls old (view e.disk) lines e.list.items e.start e.history.items e.syncs.items e.status text)
+  pub silent : e.report.items ≡ []
+  pub later : IsLater old (view e.disk)
+
+-- the same with its report
+pub record IsReportedOver {D : Type 0} (view : D → Moment) (old : Moment) (lines : List TraceLine) (e : RunEnd D) : Type 0 where
   pub disk_fault : (opened now : ℕ) → e.status ≡ status.DiskFault opened now
       → (opened ≡ old.faults) × (now ≡ (view e.disk).faults) × ((opened < now) ⊎ IsAtEnd (view e.disk))
   pub no_fault : e.status ≢ status.NoMemory → (IsOfDisk e.status → ⊥) → (view e.disk).faults ≡ old.faults

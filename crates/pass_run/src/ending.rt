@@ -17,6 +17,7 @@ pub struct RunEnd<D> {
     pub list: Vec<Record>,
     /// Its files lack their bytes.
     pub start: Start,
+    /// Nothing where none was asked for.
     pub report: Vec<u8>,
     pub disk: D,
 }

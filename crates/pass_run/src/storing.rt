@@ -1,5 +1,5 @@
 //! The run of a trace over a disk.
-ghost use Rattle.std.specs.Prelude.{◌≡◌, ◌≢◌, ◌⊎◌, ◌≤◌, ◌<◌, ℕ, []};
+ghost use Rattle.std.specs.Prelude.{◌≡◌, ◌≢◌, ◌⊎◌, ◌≤◌, ◌<◌, ℕ, List, []};
 ghost use Rattle.pass_outside.specs.Moments.{IsAtEnd};
 ghost use Rattle.pass_recover.specs.declared.fault.OpenFault.{OpenFault as AnyFault};
 ghost use Rattle.pass_recover.specs.Faults.{LogHas};
@@ -8,12 +8,13 @@ ghost use Rattle.pass_session.specs.Sessions.{HasRefused, HasSession};
 ghost use Rattle.pass_store.specs.Grounds.{ground_of};
 ghost use Rattle.pass_trace.specs.TraceLines.{objects_of as objects_of_lines, plain_trace};
 ghost use Rattle.pass_run.specs.Ends.{IsTrace};
-ghost use Rattle.pass_run.specs.OpenedRuns.{IsRunOver};
+ghost use Rattle.pass_run.specs.OpenedRuns.{IsRunOver, IsReportedOver};
 ghost use Rattle.pass_run.specs.Stored.{session_fault, IsStoreJudged, IsEnd, IsOfDisk, IsLater, IsRefusedOpening, IsHeldBack, IsOverStore, HasEnded, IsBackedBy};
 
 use crate::closing::hand_out;
 use crate::ending::{RunEnd, unopened};
 use crate::needs::places_of;
+use crate::reporting::reported;
 use crate::status::{Status, opening_status};
 use pass_graph::laws::{edges, graph};
 use pass_outside::{Disk, Gate};
@@ -30,14 +31,7 @@ use std::snapshot::Snapshot;
 use std::sync::Wait;
 use std::thread::Threads;
 
-/// Runs a trace over the store of a disk, and keeps what it records there.
-///
-/// The store is opened for as many objects and entries as the trace may make, and its ceiling raised by them. Then so many worker
-/// threads take the turns of the processes, until each has made its exit or none can go on; with one worker they take them on the
-/// caller's thread, in ascending order of the processes. A `sync` makes what stands before it durable. At the end every entry and every
-/// changed block is made durable, whatever the processes came to.
-///
-/// The memory of the run itself is taken before its first entry. Each call takes its own, and one that is refused ends the run.
+/// Runs a trace over the store of a disk as `run_unreported` does, and makes its report; one for which memory is refused ends the run too.
 pub fn run_trace<R: Threads + Wait + Sync, D: Disk + Send, G: Gate + Sync>(
     rt: &R,
     alloc: Global,
@@ -69,6 +63,67 @@ pub fn run_trace<R: Threads + Wait + Sync, D: Disk + Send, G: Gate + Sync>(
     ensures ended { IsEnd result.status
         → HasEnded (D.view disk).calls (D.view disk) (D.view result.disk) trace.now.lines.items result.list.items result.start result.history.items result.syncs.items result.status result.report.items }
     ensures no_report { (IsEnd result.status → ⊥) → result.report.items ≡ [] }
+    // What the disk tells stays, and its counts never fall.
+    ensures later { IsLater (D.view disk) (D.view result.disk) }
+{
+    let first = Snapshot::of(&disk);
+    let ended = run_unreported(rt, alloc, trace, workers, disk, gate);
+    with_report(alloc, trace, first, ended)
+}
+
+/// A run over a disk that was found in its first state, with its report.
+fn with_report<D: Disk>(
+    alloc: Global,
+    trace: &Trace,
+    first: Snapshot<D>,
+    ended: RunEnd<D>,
+) -> RunEnd<D>
+    requires { IsRunOver D.view (D.view first.value) trace.now.lines.items ended }
+    ensures { IsReportedOver D.view (D.view first.value) trace.now.lines.items result }
+{
+    reported(alloc, trace, ended)
+}
+
+/// Runs a trace over the store of a disk, and keeps what it records there.
+///
+/// The store is opened for as many objects and entries as the trace may make, and its ceiling raised by them. Then so many worker
+/// threads take the turns of the processes, until each has made its exit or none can go on; with one worker they take them on the
+/// caller's thread, in ascending order of the processes. A `sync` makes what stands before it durable. At the end every entry and every
+/// changed block is made durable, whatever the processes came to.
+///
+/// No report is made. The memory of the run itself is taken before its first entry. Each call takes its own, and one that is refused ends the run.
+pub fn run_unreported<R: Threads + Wait + Sync, D: Disk + Send, G: Gate + Sync>(
+    rt: &R,
+    alloc: Global,
+    trace: &Trace,
+    workers: u32,
+    disk: D,
+    gate: &G,
+) -> RunEnd<D>
+    requires trace { IsTrace trace.now.lines.items }
+    requires workers { (1 ≤ workers) × (workers ≤ 64) }
+
+    // The statuses, in the order in which they are judged. Want of memory alone is free.
+    ensures disk_fault { (opened now : ℕ) → result.status ≡ Status.DiskFault opened now
+        → (opened ≡ (D.view disk).faults) × (now ≡ (D.view result.disk).faults) × ((opened < now) ⊎ IsAtEnd (D.view result.disk)) }
+    ensures no_fault { result.status ≢ Status.NoMemory → (IsOfDisk result.status → ⊥) → (D.view result.disk).faults ≡ (D.view disk).faults }
+    ensures judged { result.status ≢ Status.NoMemory → (IsOfDisk result.status → ⊥)
+        → LogHas (D.view disk) (λ bytes. IsStoreJudged (session_fault bytes) result.status) }
+
+    // What stands after each. A store that is refused isn't written to.
+    ensures bad_store { (fault : AnyFault) → result.status ≡ Status.BadStore fault
+        → IsRefusedOpening (D.view disk) (D.view result.disk) result.status result.list.items result.start result.history.items result.syncs.items }
+    // Whatever the status, also where memory was refused: the opening was refused, or no entry was made, or this is what was opened
+    // and recorded.
+    ensures recorded { IsRefusedOpening (D.view disk) (D.view result.disk) result.status result.list.items result.start result.history.items result.syncs.items
+        ⊎ (IsHeldBack (D.view disk) (D.view result.disk) trace.now.lines.items result.status result.list.items result.start result.history.items result.syncs.items
+        ⊎ IsOverStore (D.view disk).calls (D.view disk) (D.view result.disk) trace.now.lines.items result.list.items result.start result.history.items result.syncs.items) }
+    // Each sync of which the history tells is among the syncs: it has the entry by which its call began, and none from its own place on.
+    ensures backed { IsBackedBy result.history.items result.syncs.items }
+    // The text would be its report.
+    ensures ended { (text : List ℕ) × (IsEnd result.status
+        → HasEnded (D.view disk).calls (D.view disk) (D.view result.disk) trace.now.lines.items result.list.items result.start result.history.items result.syncs.items result.status text) }
+    ensures silent { result.report.items ≡ [] }
     // What the disk tells stays, and its counts never fall.
     ensures later { IsLater (D.view disk) (D.view result.disk) }
 {
@@ -138,5 +193,5 @@ fn run_opened<R: Threads + Wait + Sync, J: Opening + Send, D: Disk + Send, G: Ga
     graph();
     edges();
     ends();
-    hand_out(alloc, trace, last, finished)
+    hand_out(alloc, last, finished)
 }

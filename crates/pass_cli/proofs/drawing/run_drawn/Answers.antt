@@ -9,8 +9,8 @@ use Rattle.pass_cli.proofs.DrawnRuns.{still}
 use Rattle.pass_cli.proofs.Judging.{ran_run}
 use Rattle.pass_cli.proofs.drawing.run_drawn.Goals as goal
 
-pub run_trace-requires-clause-trace : goal.run_trace-requires-clause-trace
-run_trace-requires-clause-trace g c = λ _ _.
+pub run_unreported-requires-clause-trace : goal.run_unreported-requires-clause-trace
+run_unreported-requires-clause-trace g c = λ _ _.
     let law = c.generated_is_read.ensures in
     let n = c.args.number in
     let l = c.args.lines in
@@ -21,25 +21,27 @@ returns-clause-judged g c = λ known.
     let law = c.generated_is_read.ensures in
     let n = c.args.number in
     let l = c.args.lines in
-    let e = c.run_trace.ensures in
-    let r = c.run_trace.result in
-    ran_run g.D.Disk.view (drawn_bytes n l) 0 0 c.args.disk r.disk c.args.trace.now.lines.items (outcome_of_run r) r.status r.report.items
-    (record { unfailed = still; text = law.text n l c.requires.lines.0 c.requires.lines.1 }) (c.requires.drawn ∙ law.trace n l c.requires.lines.0 c.requires.lines.1)
-    (record {
-      disk_fault = λ opened now is. let (before, after, risen) = e.disk_fault opened now is in record { before = before; after = after; risen = risen };
-      no_fault = e.no_fault known;
-      by_log = e.judged known;
-      bad_store = e.bad_store;
-      recorded = e.recorded;
-      ended = e.ended;
-    })
+    let e = c.run_unreported.ensures in
+    let r = c.run_unreported.result in (
+      e.ended.0,
+      ran_run g.D.Disk.view (drawn_bytes n l) 0 0 c.args.disk r.disk c.args.trace.now.lines.items (outcome_of_run r) r.status e.ended.0
+          (record { unfailed = still; text = law.text n l c.requires.lines.0 c.requires.lines.1 }) (c.requires.drawn ∙ law.trace n l c.requires.lines.0 c.requires.lines.1)
+          (record {
+            disk_fault = λ opened now is. let (before, after, risen) = e.disk_fault opened now is in record { before = before; after = after; risen = risen };
+            no_fault = e.no_fault known;
+            by_log = e.judged known;
+            bad_store = e.bad_store;
+            recorded = e.recorded;
+            ended = e.ended.1;
+          }),
+    )
 
 pub returns-clause-recorded : goal.returns-clause-recorded
 returns-clause-recorded g c =
     let n = c.args.number in
     let l = c.args.lines in
     let same = c.requires.drawn ∙ c.generated_is_read.ensures.trace n l c.requires.lines.0 c.requires.lines.1 in
-    let r = c.run_trace.result in
+    let r = c.run_unreported.result in
     let old = g.D.Disk.view c.args.disk in
     let new = g.D.Disk.view r.disk in
     ⊎_elim (λ (refused : IsRefused old new r.status (outcome_of_run r)). inl (refused.nothing, inl (record { alone = refused.alone; since = refused.since })))
@@ -47,4 +49,4 @@ returns-clause-recorded g c =
     inl (held.nothing, inr (subst (λ (ls : List TraceLine). HasBegun old new (objects_of ls)) same held.begun)))
     (λ (over : IsOverStore old.calls old new c.args.trace.now.lines.items r.list.items r.start r.history.items r.syncs.items).
     inr (subst (λ (ls : List TraceLine). IsOverStore old.calls old new ls r.list.items r.start r.history.items r.syncs.items) same over)))
-    c.run_trace.ensures.recorded
+    c.run_unreported.ensures.recorded

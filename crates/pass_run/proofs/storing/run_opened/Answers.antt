@@ -1,17 +1,15 @@
-use Rattle.std.proofs.Common.{◌≡◌, ◌⊎◌, ◌∙◌, List, Vec, Global, sym, ap, subst}
-use Rattle.pass_entry.specs.declared.entry.Entry.{Entry}
+use Rattle.std.proofs.Common.{◌≡◌, ◌∙◌, List, Vec, Global, sym, ap, subst}
 use Rattle.pass_entry.specs.declared.record.Record.{Record}
 use Rattle.pass_plain.specs.declared.start.Start.{Start}
 use Rattle.pass_replay.specs.Needs.{places_of}
 use Rattle.pass_trace.specs.TraceLines.{objects_of, plain_trace}
-use Rattle.pass_report.specs.Reports.{SameButBytes, IsRunFrom, report_of}
+use Rattle.pass_report.specs.Reports.{SameButBytes}
 use Rattle.pass_trace.specs.declared.trace.TraceLine.{TraceLine}
 use Rattle.pass_turns.specs.Runs.{IsRanBy}
 use Rattle.pass_run.specs.Closing.{status_of}
 use Rattle.pass_run.specs.declared.ending.RunEnd.{RunEnd}
-use Rattle.pass_run.specs.declared.status.Status.TheVariants as status
 use Rattle.pass_run.specs.OpenedRuns.{IsRunOver}
-use Rattle.pass_run.specs.Stored.{IsBare, IsEnd, HasBegun, IsLater}
+use Rattle.pass_run.specs.Stored.{IsBare, HasBegun, IsLater}
 use Rattle.pass_run.proofs.Overs.{gone_on_so, later_by, over_run}
 use Rattle.pass_run.proofs.Telling.{has_ran}
 use Rattle.pass_run.proofs.Refusing.{begun_alone, held_back}
@@ -38,16 +36,6 @@ returns-in-Err g c =
     held_back view old lines c.unopened-in-Err.result (record { no_list = u.list; no_start = u.start; no_history = u.history; no_syncs = u.syncs }, u.report) u.status
     (subst (λ d. HasBegun old (view d) (objects_of lines)) (sym disk) (begun_alone view old (objects_of lines) (places_of (plain_trace lines)) c.args.opened c.requires.session))
     (subst (λ d. IsLater old (view d)) (sym disk) c.requires.session.later)
-
-pub hand_out-requires-clause-legal : goal.hand_out-requires-clause-legal
-hand_out-requires-clause-legal g c = (
-  g.J.Whose.book.session,
-  record {
-    same = subst (λ (s : Start). SameButBytes s g.J.Whose.book.session.start) (sym c.finish-finished.ensures.start) c.in-Ok-begin.ensures.start.0;
-    sound = c.finish-finished.ensures.sound;
-    legal = c.finish-finished.ensures.legal;
-  },
-)
 
 pub hand_out-requires-clause-enough : goal.hand_out-requires-clause-enough
 hand_out-requires-clause-enough g c =
@@ -84,17 +72,14 @@ returns g c =
     (subst (λ (ls : List TraceLine). IsRanBy g.J.Whose.book.session g.J.Whose.places (plain_trace ls) c.run-trails.result.trails.items c.run-trails.result.last) c.requires.plan c.run-trails.ensures)
     c.finish-finished.ensures.legal c.finish-finished.ensures.trails in
     let start : SameButBytes f.start book.session.start × IsBare f.start = subst (λ (s : Start). SameButBytes s book.session.start × IsBare s) (sym said.start) begun.start in
-    let report = λ (end : IsEnd e.status) (full : Start).
-    subst (λ (s : Start). IsRunFrom s f.history.items lines full → e.report.items ≡ report_of full f.history.items lines) h.start
-    (subst (λ (x : Vec Entry Global). IsRunFrom e.start x.items lines full → e.report.items ≡ report_of full x.items lines) h.history (h.report end full)) in
     subst (λ (r : RunEnd g.row.D.Denot). IsRunOver view old lines r)
     (λ i. record e { history = sym h.history i; syncs = sym h.syncs i; list = sym h.list i; start = sym h.start i; disk = sym h.disk i })
     (over_run view old lines (places_of (plain_trace lines)) c.args.opened c.requires.session book c.requires.book ground c.requires.ground
     (record e { history = f.history; syncs = f.syncs; list = f.list; start = f.start; disk = f.disk }) last settled
-    (subst (λ d. (e.status ≡ status_of (view d).faults last settled) ⊎ (e.status ≡ status.NoMemory)) h.disk h.status) h.no_report
+    (subst (λ d. e.status ≡ status_of (view d).faults last settled) h.disk h.status) h.silent
     (ap (λ (l : Vec Record Global). l.items) said.list ∙ begun.list) start.0 start.1 said.closed
     (later_by view old lines (places_of (plain_trace lines)) c.args.opened c.requires.session book c.requires.book ground c.requires.ground g.J.Opening.tells c.requires.tells (view f.disk) f.history.items ground.ready f.syncs.items said.gone_on said.closed)
-    (c.graph.ensures.after_records, c.edges.ensures.versions, c.edges.ensures.inputs) ran said.refused said.settled said.healthy report)
+    (c.graph.ensures.after_records, c.edges.ensures.versions, c.edges.ensures.inputs) ran said.refused said.settled said.healthy)
 
 pub begin-requires-clause-gone_on : goal.begin-requires-clause-gone_on
 begin-requires-clause-gone_on g c =

@@ -1,5 +1,5 @@
 use Rattle.pass_store.specs.Grounds.{ground_of}
-use Rattle.pass_run.proofs.storing.run_trace.Given as goal
+use Rattle.pass_run.proofs.storing.run_unreported.Given as goal
 
 abbrev pub ghosts-run_opened-J-Whose : goal.ghosts-run_opened-J-Whose
 ghosts-run_opened-J-Whose g a = record { book = a.opened.vault.book; places = a.opened.places }

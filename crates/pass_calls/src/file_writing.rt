@@ -45,7 +45,7 @@ pub fn ready_write<J: Whose>(
     ensures room { IfOk result (λ r. (r.d.offset + length r.bytes ≤ file.new.room) × (1 ≤ file.new.spare)) }
     ensures list { IfOk result (λ r. r.list.items ≡ change_records J.book.session file.new.seen file.new.what (act.Put 0 r.d.offset r.bytes)) }
     ensures bytes { IfOk result (λ r. r.bytes ≡ bytes.now) }
-    ensures what { file.new.what ≡ file.old.what }
+    ensures same { file.new ≡ record file.old { spare = file.new.spare; room = file.new.room } }
 {
     let d = held(proc, fd);
     file.reserve(d.offset + bytes.as_bytes().len() as u64)?;

@@ -64,7 +64,7 @@ pub fn ready_cut<J: Whose>(
     requires { size ≤ file_limit }
     ensures room { OnOk result ((size ≤ file.new.room) × (1 ≤ file.new.spare)) }
     ensures list { IfOk result (λ list. list.items ≡ change_records J.book.session file.new.seen file.new.what (act.Cut 0 size)) }
-    ensures what { file.new.what ≡ file.old.what }
+    ensures same { file.new ≡ record file.old { spare = file.new.spare; room = file.new.room } }
 {
     file.reserve(size)?;
     file.cut_records(alloc, size)

@@ -9,3 +9,4 @@ pub mod Dirtier
 pub mod Seen
 pub mod Beginnings
 pub mod Pieces
+pub mod Staging

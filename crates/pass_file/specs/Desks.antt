@@ -69,3 +69,14 @@ pub record IsSyncedLast (what number : ℕ) (seen : List Entry) (known syncs : L
   pub file : sync.file ≡ Some (record { pnode = what; number = number })
   pub whole : sync.staged ≡ None
   pub all : length seen ≤ sync.entries
+
+-- The last of a list is a staging of these blocks of a file of this number with all entries that were seen, after the syncs of
+-- which the file's desk knew.
+pub record IsStagedLast (what number : ℕ) (blocks : List ℕ) (seen : List Entry) (known syncs : List VaultSync) : Type 0 where
+  pub before : List VaultSync
+  pub sync : VaultSync
+  pub list : syncs ≡ before ++ sync ∷ []
+  pub listed : Listed (name role.Desk what) known before
+  pub file : sync.file ≡ Some (record { pnode = what; number = number })
+  pub these : sync.staged ≡ Some blocks
+  pub all : length seen ≤ sync.entries

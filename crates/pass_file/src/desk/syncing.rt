@@ -1,14 +1,17 @@
 //! A file whose data is made durable.
-ghost use Rattle.std.specs.Prelude.{◌≡◌, ◌≤◌, ◌^◌, IfOk, length};
+ghost use Rattle.std.specs.Prelude.{◌≡◌, ◌≤◌, ◌^◌, ◌==◌, ◌&&◌, ℕ, Bool, not, IfOk, length};
+ghost use Rattle.std.specs.List.{list_any};
 ghost use mathlib.Core.List.{IsPrefix};
 ghost use Rattle.pass_plain.specs.Lawful.{AgreeOn};
 ghost use Rattle.pass_plain.specs.Legal.{IsLegal};
+ghost use Rattle.pass_plain.specs.Recording.{block_count, flags};
 ghost use Rattle.pass_plain.specs.Sound.{IsSound};
 ghost use Rattle.pass_book.specs.Names.{name, Listed};
 ghost use Rattle.pass_book.specs.Numbers.{IsFileNumber};
+ghost use Rattle.pass_book.specs.Syncs.{numbers_of};
 ghost use Rattle.pass_book.specs.declared.view.Role.TheVariants as role;
 ghost use Rattle.pass_clean.specs.Blocks.{AreDirty, IsRisingBy};
-ghost use Rattle.pass_file.specs.Desks.{IsSyncedLast};
+ghost use Rattle.pass_file.specs.Desks.{IsStagedLast, IsSyncedLast};
 
 use crate::desk::FileDesk;
 use crate::state::FileState;
@@ -40,6 +43,17 @@ impl<J: Whose> Model for LentFile<J> {
     ghost view = { λ f. record { what = f.lent.value.what; number = f.number; seen = f.lent.value.seen; syncs = f.lent.value.syncs; spare = f.state.spare; room = f.state.room } };
 
     ghost invariant = { λ f. IsFile J.book f.lent.value f.number f.state };
+}
+
+/// These blocks are clean.
+fn clean_blocks(state: &mut FileState, blocks: &[(u32, Bytes)])
+    ensures dirty { (was : ℕ → Bool) → state.old.dirty ≡ flags was block_count
+        → state.new.dirty ≡ flags (λ block. was block && not (list_any (λ b. b == block) (numbers_of blocks.now))) block_count }
+    ensures state { state.new ≡ record state.old { dirty = state.new.dirty } }
+{
+    for block in blocks {
+        state.clean(block.0);
+    }
 }
 
 impl<J: Whose> FileDesk<J> {
@@ -139,6 +153,29 @@ impl<J: Whose> LentFile<J> {
         } = self;
         let _ = desk.seen();
         state.clean_all();
+        FileDesk {
+            state,
+            number,
+            desk,
+            whose: PhantomData,
+        }
+    }
+    /// The file with its desk, which has come back from a staging of these blocks: they aren't dirty any more.
+    pub fn staged(self, desk: Desk, blocks: &[(u32, Bytes)]) -> FileDesk<J>
+        requires desk { (desk.book ≡ J.book) × (desk.what ≡ self.what) }
+        requires seen { IsPrefix self.seen desk.seen × AgreeOn self.what self.seen desk.seen }
+        requires staged { IsStagedLast self.what self.number (numbers_of blocks.now) desk.seen self.syncs desk.syncs }
+        requires few { length desk.seen ≤ 2 ^ 32 }
+        ensures { result ≡ record self { seen = desk.seen; syncs = desk.syncs } }
+    {
+        let LentFile {
+            mut state,
+            number,
+            lent: _,
+            whose: _,
+        } = self;
+        let _ = desk.seen();
+        clean_blocks(&mut state, blocks);
         FileDesk {
             state,
             number,

@@ -2,7 +2,7 @@
 ghost use Rattle.std.specs.Prelude.{◌≡◌, ◌≤◌, ◌-◌, [], length, take, slice_get, option_copied, option_map, IfOk, OnOk, OnErr};
 ghost use Rattle.std.specs.Map.{lookup, remove_entry};
 ghost use Rattle.lru.specs.LruCache.{lru_cache, last_entry};
-ghost use Rattle.pass_pool.specs.Pools.{is_block, staged, pushed_out, evicted_of};
+ghost use Rattle.pass_pool.specs.Pools.{is_block, staged, pushed_out, evicted_of, AreOnce};
 
 use lru::LruCache;
 use pass_entry::Bytes;
@@ -58,6 +58,15 @@ impl Pool {
         };
         let cache = LruCache::sparse(alloc, capacity)?;
         Ok(Pool { cache })
+    }
+
+    /// How many blocks are there. None is there twice, and there are no more than there may be.
+    pub fn len(&self) -> usize
+        ensures len { result ≡ length self.now.entries }
+        ensures fits { length self.now.entries ≤ self.now.cap }
+        ensures once { AreOnce self.now.entries }
+    {
+        self.cache.len()
     }
 
     /// Puts a block first. One that is there already gets these bytes and nothing is handed out; a new one in a full pool hands

@@ -1,10 +1,9 @@
 -- The blocks that a file's syncs leave dirty are those that the disk's keeper asks for.
 use Rattle.std.proofs.Common.{◌≡◌, ◌∙◌, ◌==◌, ◌<◌, ◌≤◌, ℕ, zero, suc, max, if◌then◌else◌, Bool, true, false, List, [], ◌∷◌, length, map, inr, refl, sym, ap, subst, arith}
-use Rattle.std.specs.Prelude.{Option, Some, None, slice_get, ◌&&◌, nat_le, take}
+use Rattle.std.specs.Prelude.{Option, Some, None, slice_get, ◌&&◌, take}
 use Rattle.std.specs.Option.{option_map_or}
 use Rattle.std.specs.List.{All, list_any}
 use Rattle.std.proofs.lemmas.Bool.Decides.{nat_tests}
-use Rattle.pass_range.proofs.Proved.{row_proved}
 use Rattle.std.proofs.lemmas.Option.{get_or_from_slice_get}
 use Rattle.pass_plain.proofs.Lists.{same_numbers, same_itself, some_is}
 use Rattle.pass_book.specs.declared.view.FileMark.{FileMark}
@@ -13,16 +12,14 @@ use Rattle.pass_book.specs.Numbers.{IsFileNumber}
 use Rattle.pass_book.specs.Syncs.{AreNumbered}
 use Rattle.pass_range.specs.Rows.{number_of}
 use Rattle.pass_keep.specs.declared.block.Block.{Block}
-use Rattle.pass_keep.specs.Kept.{Story, IsStory, Noted, covered, list_to, source_to, range_to}
-use Rattle.pass_keep.specs.Dirty.{IsDirty, IsDirtyBlock, AreDirty, IsAscending}
-use Rattle.pass_keep.proofs.Stories.{number_later, number_one, number_known}
-use Rattle.pass_vault.specs.Vaulted.{is_number, noted_of}
+use Rattle.pass_keep.specs.Kept.{Story, IsStory, Noted, covered, list_to}
+use Rattle.pass_keep.specs.Dirty.{IsDirty, IsAscending}
+use Rattle.pass_keep.proofs.Stories.{number_known}
+use Rattle.pass_vault.specs.Vaulted.{is_number, noted_of, real_syncs}
+use Rattle.pass_vault.proofs.Reals.{real_unstaged, real_numbered, cleaned_real}
 use Rattle.pass_range.specs.Dirtied.{dirtied_at}
 use Rattle.pass_clean.specs.Cleaned.{covers, cleaned, is_dirty_from, is_dirty}
-use Rattle.std.proofs.lemmas.List.{take_all}
-use Rattle.pass_entry.specs.declared.entry.Entry.{Entry}
-use Rattle.pass_range.specs.Sources.{row_source}
-use Rattle.pass_clean.specs.Blocks.{AreDirty as AreDirtyBlocks, IsRisingBy}
+use Rattle.pass_clean.specs.Blocks.{IsRisingBy}
 use Rattle.pass_range.proofs.Dirtying.{source_law}
 use Rattle.pass_vault.specs.Vaults.{opening}
 use Rattle.pass_vault.specs.Blocks.{pair_of, AreBlocks}
@@ -104,81 +101,43 @@ below [] i x at = absurd (cc)
 below (y ∷ xs) zero x at = omega arith
 below (y ∷ xs) (suc i) x at = let low = below xs i x at in omega (arith, low)
 
-number_at : (number : ℕ) (xs : List Block) (i : ℕ) (x : Block) → All (λ x. x.number ≡ number) xs → slice_get xs i ≡ Some x → x.number ≡ number
+pub number_at : (number : ℕ) (xs : List Block) (i : ℕ) (x : Block) → All (λ x. x.number ≡ number) xs → slice_get xs i ≡ Some x → x.number ≡ number
 number_at number xs i x all at = ap (λ (b : Block). b.number) (sym (get_or_from_slice_get xs i x x at)) ∙ all i x (below xs i x at)
 
 dirty_true : (clean : ℕ) (o : Option ℕ) → option_map_or (is_dirty_from clean) o false ≡ true → (at : ℕ) × (o ≡ Some at) × (clean ≤ at)
 dirty_true clean None is = absurd (cc)
 dirty_true clean (Some at) is = (at, refl, grind (arith, nat_tests))
 
-dirty_so : (clean at : ℕ) → clean ≤ at → nat_le clean at ≡ true
-dirty_so clean at is = grind (arith, nat_tests)
-
 module _ (number : ℕ) (given : List (ℕ × List ℕ)) (blocks : List Block) (are : AreBlocks number given blocks) where
-  given_at : (i : ℕ) (x : Block) → slice_get blocks i ≡ Some x → slice_get given i ≡ Some (pair_of x)
+  pub given_at : (i : ℕ) (x : Block) → slice_get blocks i ≡ Some x → slice_get given i ≡ Some (pair_of x)
   given_at i x at = subst (λ (l : List (ℕ × List ℕ)). slice_get l i ≡ Some (pair_of x)) are.pairs (block_pair blocks i x at)
 
-  block_at : (i : ℕ) (g : ℕ × List ℕ) → slice_get given i ≡ Some g → (x : Block) × (slice_get blocks i ≡ Some x) × (pair_of x ≡ g)
+  pub block_at : (i : ℕ) (g : ℕ × List ℕ) → slice_get given i ≡ Some g → (x : Block) × (slice_get blocks i ≡ Some x) × (pair_of x ≡ g)
   block_at i g at = pair_block blocks i g (subst (λ (l : List (ℕ × List ℕ)). slice_get l i ≡ Some g) (sym are.pairs) at)
 
   pub blocks_ascend : IsRisingBy given → IsAscending blocks
   blocks_ascend rising = λ i j x y less one two.
       inr (number_at number blocks i x are.of_file one ∙ sym (number_at number blocks j y are.of_file two), rising i j (pair_of x) (pair_of y) less (given_at i x one) (given_at j y two))
 
-  -- a file's dirty blocks are all of them that are dirty of it
-  module _ (s : Story) (is : IsStory s) (file : ℕ) (at_number : IsFileNumber s.session s.history file number) (ready n : ℕ) (within : n ≤ length s.history) (ss : List VaultSync)
-      (numbered : AreNumbered s.session s.history ss) (unstaged : All (λ s. s.staged ≡ None) ss) (own : List VaultSync) (same : (block : ℕ) → cleaned file block own ≡ cleaned file block ss)
-      (listing : AreDirtyBlocks s.session (take n s.history) own file given) where
-    abbrev noted : List Noted
-    noted = opening ready ∷ map noted_of ss
+-- A block that is dirty by the syncs and stagings that a file's desk has seen is so on the disk
+module _ (s : Story) (is : IsStory s) (file number : ℕ) (at_number : IsFileNumber s.session s.history file number) (ready n : ℕ) (within : n ≤ length s.history) (ss : List VaultSync)
+    (numbered : AreNumbered s.session s.history ss) (own : List VaultSync) (same : (block : ℕ) → cleaned file block own ≡ cleaned file block ss) where
+  abbrev noted : List Noted
+  noted = opening ready ∷ map noted_of (real_syncs ss)
 
-    covered_own : (block : ℕ) → covered noted number ≡ cleaned file block own
-    covered_own block = covered_all s is ready file number block at_number ss numbered unstaged ∙ sym (same block)
+  pub covered_less : (block : ℕ) → covered noted number ≤ cleaned file block ss
+  covered_less block =
+      let all = covered_all s is ready file number block at_number (real_syncs ss) (real_numbered s.session s.history ss numbered) (real_unstaged ss) in
+      let less = cleaned_real file block ss in omega (arith, all, less)
 
-    to_dirty : (block : ℕ) → block < 1024 → is_dirty s.session (take n s.history) own file block ≡ true → IsDirty s noted n number block
-    to_dirty block low test =
-        let (at, from, later) = dirty_true (cleaned file block own) (dirtied_at s.session (take n s.history) file block) test in
-        let known = number_known s is n file block at (source_law s.session (take n s.history) file block low ∙ from) in
-        let one = number_same s is n file number known.0 within at_number known.1 in
-        let above = covered_own block in
-        record { pnode = file; numbered = known.1 ∙ ap (λ (i : ℕ). Some i) one; limited = low; at = at; dirtied = from; uncovered = omega (arith, later, above) }
+  pub to_dirty : (block : ℕ) → block < 1024 → is_dirty s.session (take n s.history) own file block ≡ true → (d : IsDirty s noted n number block) × (d.pnode ≡ file)
+  to_dirty block low test =
+      let (at, from, later) = dirty_true (cleaned file block own) (dirtied_at s.session (take n s.history) file block) test in
+      let known = number_known s is n file block at (source_law s.session (take n s.history) file block low ∙ from) in
+      let one = number_same s is n file number known.0 within at_number known.1 in
+      let below = covered_less block in
+      (record { pnode = file; numbered = known.1 ∙ ap (λ (i : ℕ). Some i) one; limited = low; at = at; dirtied = from; uncovered = omega (arith, later, same block, below) }, refl)
 
-    from_dirty : (block : ℕ) → IsDirty s noted n number block → is_dirty s.session (take n s.history) own file block ≡ true
-    from_dirty block d =
-        let later = number_later s n (length s.history) d.pnode number within d.numbered in
-        let one : d.pnode ≡ file = number_one s (length s.history) file d.pnode number (number_to s is file number at_number) later in
-        let above = covered_own block in
-        let open_ : cleaned file block own ≤ d.at = omega (arith, d.uncovered, above) in
-        ap (λ (o : Option ℕ). option_map_or (is_dirty_from (cleaned file block own)) o false) (ap (λ (p : ℕ). dirtied_at s.session (take n s.history) p block) (sym one) ∙ d.dirtied)
-        ∙ dirty_so (cleaned file block own) d.at open_
-
-    each_dirty : (i : ℕ) (x : Block) → slice_get blocks i ≡ Some x → IsDirtyBlock s noted n x
-    unfolding to_dirty AreDirtyBlocks
-    each_dirty i x at =
-        let g = listing.each i (pair_of x) (given_at i x at) in
-        subst (λ (m : ℕ). (d : IsDirty s noted n m x.block) × (x.bytes.now ≡ range_to s n d.pnode x.block)) (sym (number_at number blocks i x are.of_file at)) (to_dirty x.block g.0 g.1, g.2)
-
-    pub blocks_dirty : AreDirty s noted n (is_number (Some (record { pnode = file; number = number }))) blocks
-    unfolding AreDirtyBlocks
-    blocks_dirty = record {
-      each = each_dirty;
-      all = λ m block reached d.
-          let one : number ≡ m = same_numbers number m reached in
-          let mine : IsDirty s noted n number block = subst (λ (k : ℕ). IsDirty s noted n k block) (sym one) d in
-          let g = listing.all block mine.limited (from_dirty block mine) in
-          let x = block_at g.i g.x g.is in
-          record { i = g.i; x = x.0; is = x.1; of_file = number_at number blocks g.i x.0 are.of_file x.1 ∙ one; at_block = ap (λ (q : ℕ × List ℕ). q.0) x.2 ∙ g.same };
-    }
-
-dirty_not : (clean at : ℕ) → nat_le clean at ≡ false → at < clean
-dirty_not clean at is = grind (arith, nat_tests)
-
--- where no block is dirty, each row comes from below its file's syncs
-pub all_clean : (s : Story) (ss : List VaultSync) → ((file block : ℕ) → block < 1024 → is_dirty s.session s.history ss file block ≡ false)
-    → (file block at : ℕ) → source_to s (length s.history) file block ≡ Some at → at < cleaned file block ss
-all_clean s ss clean file block at source =
-    let whole : take (length s.history) s.history ≡ s.history = take_all (length s.history) s.history (omega arith) in
-    let low : block < 1024 = (row_proved s.before s.ceiling s.session (take (length s.history) s.history) file block at source).limited in
-    let from : dirtied_at s.session s.history file block ≡ Some at = sym (source_law s.session s.history file block low) ∙ ap (λ (h : List Entry). row_source s.session h file block) (sym whole) ∙ source in
-    let test = ap (λ (o : Option ℕ). option_map_or (is_dirty_from (cleaned file block ss)) o false) (sym from) ∙ clean file block low in
-    dirty_not (cleaned file block ss) at test
+  -- and one that is clean by these is clean by all
+  pub to_clean : (block : ℕ) → is_dirty s.session (take n s.history) own file block ≡ false → is_dirty s.session (take n s.history) ss file block ≡ false
+  to_clean block test = ap (λ (c : ℕ). option_map_or (is_dirty_from c) (dirtied_at s.session (take n s.history) file block) false) (sym (same block)) ∙ test

@@ -1,8 +1,14 @@
 pub mod Numbering
+pub mod Reals
 pub mod Cleaning
+pub mod Pooling
+pub mod Waiting
+pub mod Gathering
+pub mod Cuts
 pub mod Longer
 pub mod Rooms
 pub mod Holding
+pub mod Putting
 pub mod Keeping
 pub mod Handing
 pub mod Told

@@ -7,14 +7,16 @@ use Rattle.pass_entry.specs.declared.record.Record.{Record}
 use Rattle.pass_outside.specs.Moments.{Moment}
 use Rattle.pass_plain.specs.Legal.{IsLegal}
 use Rattle.pass_log.specs.Records.{spellings}
-use Rattle.pass_book.specs.Syncs.{durable}
+use Rattle.pass_book.specs.Syncs.{called, durable}
 use Rattle.pass_plain.specs.Records.{records_of}
 use Rattle.pass_keep.specs.declared.keeper.Keeper.{Keeper}
 use Rattle.pass_keep.specs.Kept.{records_to, AreParts}
 use Rattle.pass_keep.proofs.Shown.{longer_shown}
-use Rattle.pass_vault.specs.Vaulted.{Vaulted, story_with}
+use Rattle.pass_keep.specs.Keepers.{disk_of}
+use Rattle.pass_vault.specs.Vaulted.{Vaulted, story_of, story_with, data_syncs}
 use Rattle.pass_vault.specs.Rooms.{first_place}
 use Rattle.pass_vault.specs.Vaults.{past_of, IsVault}
+use Rattle.pass_vault.proofs.Waiting.{waiting_longer}
 
 -- the first entries of a history and of one that it begins
 pub front : (xs ys : List Entry) (n : ℕ) → IsPrefix xs ys → n ≤ length xs → take n ys ≡ take n xs
@@ -29,8 +31,10 @@ vault_longer view v k is seen pre legal =
       keeper = longer_shown view (past_of v) k is.keeper pre.0
           (record { sound = is.keeper.story.sound; tells = is.keeper.story.tells; legal = subst (IsLegal v.book.session) (sym pre.1) legal });
       durable = is.durable;
+      counted = is.counted;
       late = is.late;
-      unstaged = is.unstaged;
+      timely = is.timely;
+      waiting = waiting_longer (story_of v) pre.0 (past_of v).noted (durable v.syncs) (λ q le. take-append-le q v.seen pre.0 (few q le)) (view (disk_of k)) v.pool v.unsynced (called (data_syncs v.syncs)) v.opened v.syncs is.waiting;
       roomy = record {
         bounded = is.roomy.bounded;
         room = λ healthy going.
@@ -40,6 +44,9 @@ vault_longer view v k is seen pre legal =
             subst (λ (l : List Record). v.place ≤ first_place + 2 * length (spellings l)) (sym same) (is.roomy.room healthy going);
       };
     })
+  where
+    few : (q : ℕ) → q ≤ durable v.syncs → q ≤ length v.seen
+    few q le = let low = is.keeper.kept.within in omega (arith, le, low, is.durable)
 
 -- parts of the one are parts of the other
 pub parts_longer : {D : Type 0} (v w : Vaulted D) (xs ys : List Entry) → w.book.session ≡ v.book.session → IsPrefix xs ys → (upto : ℕ) → upto ≤ length xs

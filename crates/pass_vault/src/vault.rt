@@ -2,10 +2,11 @@
 ghost use Rattle.std.specs.Prelude.{◌≡◌, ℕ};
 
 use crate::VaultFault;
-use crate::blocks::blocks_of;
 use crate::frames::frames_of;
 use crate::opening::Opening;
-use crate::steps::{advance, opened, save};
+use crate::staging::{check, stage_file};
+use crate::steps::{advance, opened, room, save_file};
+use crate::unwritten::{Unwritten, has_file};
 use pass_book::{Desk, Note, VaultSeat};
 use pass_entry::{Bytes, Pnode, Record, Synced};
 use pass_keep::{KeepFault, Keeper, stage_all};
@@ -29,10 +30,13 @@ pub struct Vault<D: Disk> {
     keeper: Keeper<D>,
     pub(crate) seat: VaultSeat,
     opening: Opening<D>,
+    unwritten: Unwritten,
 }
 
 impl<D: Disk> Model for Vault<D> {
-    ghost use Rattle.std.specs.Coded.{codes};
+    ghost use Rattle.std.specs.Coded.{codes, coded_ℕ, coded_list};
+    ghost use Rattle.lru.specs.LruCache.{lru_cache_code};
+    ghost use Rattle.pass_pool.specs.contracts.pool.FileBlock as block_type;
     ghost use Rattle.pass_entry.specs.contracts.entry.Entry as entry_type;
     ghost use Rattle.pass_entry.specs.contracts.record.Record as record_type;
     ghost use Rattle.pass_plain.specs.contracts.start.Start as start_type;
@@ -41,16 +45,17 @@ impl<D: Disk> Model for Vault<D> {
 
     ghost Value = { Vaulted D };
 
-    ghost coded = { Prim.hlevel (codes, entry_type.the_row.coded, record_type.the_row.coded, start_type.the_row.coded) };
+    ghost coded = { Prim.hlevel (codes, entry_type.the_row.coded, record_type.the_row.coded, start_type.the_row.coded, lru_cache_code block_type.the_row.coded (coded_list coded_ℕ)) };
 
-    ghost view = { λ v. valued D.view v.keeper v.seat v.opening };
+    ghost view = { λ v. valued D.view v.keeper v.seat v.opening v.unwritten };
 
-    ghost invariant = { λ v. IsVault D.view (valued D.view v.keeper v.seat v.opening) v.keeper };
+    ghost invariant = { λ v. IsVault D.view (valued D.view v.keeper v.seat v.opening v.unwritten) v.keeper };
 }
 
 impl<D: Disk> Vault<D> {
-    ghost use Rattle.std.specs.Prelude.{◌≡◌, ◌⊎◌, ◌+◌, ◌*◌, ◌<◌, ◌≤◌, ◌^◌, ◌++◌, ◌∷◌, [], ℕ, length, take, map, IsTrue, OnOk, IfOk, IfErr, IsErrOf, Ok, Err};
+    ghost use Rattle.std.specs.Prelude.{◌≡◌, ◌⊎◌, ◌↔◌, ◌+◌, ◌*◌, ◌<◌, ◌≤◌, ◌^◌, ◌++◌, ◌∷◌, [], ℕ, List, length, take, map, slice_get, true, false, Some, IsTrue, OnOk, IfOk, IfErr, IsErrOf, Ok, Err};
     ghost use Rattle.std.specs.List.{All};
+    ghost use Rattle.lru.specs.LruCache.{lru_cache};
     ghost use Rattle.pass_entry.specs.declared.record.Record.TheVariants.{Ceiling};
     ghost use Rattle.pass_entry.specs.Ranges.{IsInRange};
     ghost use Rattle.pass_outside.specs.Areas.{Image};
@@ -69,12 +74,15 @@ impl<D: Disk> Vault<D> {
     ghost use Rattle.pass_keep.specs.Kept.{IsBegun, AreParts, records_to};
     ghost use Rattle.pass_keep.specs.Keepers.{GoesOn, Made};
     ghost use Rattle.pass_keep.specs.Parts.{lists_of, frames_length};
-    ghost use Rattle.pass_vault.specs.Vaulted.{story_of, story_with, flushed, file_synced};
+    ghost use Rattle.pass_entry.specs.Limits.{block_count};
+    ghost use Rattle.pass_pool.specs.declared.pool.FileBlock.{FileBlock};
+    ghost use Rattle.pass_vault.specs.Vaulted.{story_of, story_with, flushed, file_synced, file_staged, real_syncs, HasWaiting};
+    ghost use Rattle.pass_vault.specs.Pooled.{pool_capacity, to_write, without_file, staged_all, pushed_all, sync_calls};
     ghost use Rattle.pass_clean.specs.Blocks.{AreDirty, IsRisingBy};
     ghost use Rattle.pass_vault.specs.Rooms.{most_entries};
     ghost use Rattle.pass_vault.specs.Vaults.{handed_of, begun_with};
     ghost use Rattle.pass_vault.specs.Batches.{parts_of};
-    ghost use Rattle.pass_vault.specs.Blocks.{write_calls};
+    ghost use Rattle.pass_vault.specs.Blocks.{AreSomeDirty};
 
     /// Opens the vault of a session on a disk of which that image was read, and appends the session's ceiling as one frame.
     /// `since` is a count of the disk's calls since which each crash leaves what the disk reads now. After a fault the seat is
@@ -106,6 +114,8 @@ impl<D: Disk> Vault<D> {
           ready = (D.view v.disk).calls;
           opened = (D.view disk).faults;
           place = image.now.end + ceiling_length;
+          pool = lru_cache [] pool_capacity;
+          unsynced = false;
         }) }
         ensures healthy { IfOk result (λ v. (D.view v.disk).faults ≡ (D.view disk).faults) }
         ensures goes_on { IfOk result (λ v. GoesOn (D.view disk) (D.view v.disk)) }
@@ -120,10 +130,10 @@ impl<D: Disk> Vault<D> {
             Ok(keeper) => keeper,
             Err((fault, disk)) => return Err((log_fault(fault), disk)),
         };
-        if keeper.ready(1).is_err() {
+        let Ok(pool) = room(alloc, &mut keeper) else {
             let (disk, _syncs) = keeper.into_disk();
             return Err((LogFault::NoMemory, disk));
-        }
+        };
         let mark = keeper.clean();
         let opening = Opening {
             disk: first,
@@ -136,12 +146,17 @@ impl<D: Disk> Vault<D> {
             keeper,
             seat,
             opening,
+            unwritten: Unwritten {
+                pool,
+                unsynced: false,
+            },
         })
     }
 
     /// How many entries from the history's front are durable.
     pub fn durable(&self) -> u64
         ensures durable { result ≡ durable_in self.now.syncs }
+        ensures counted { durable_in (real_syncs self.now.syncs) ≡ durable_in self.now.syncs }
         ensures within { durable_in self.now.syncs ≤ length self.now.seen }
         ensures numbered { AreNumbered self.now.book.session self.now.seen self.now.syncs }
         ensures legal { IsLegal self.now.book.session self.now.seen }
@@ -151,10 +166,18 @@ impl<D: Disk> Vault<D> {
         self.keeper.durable()
     }
 
-    /// What the last sync came to.
+    /// What waits in memory is of files that the vault knows, and lies within their blocks. It does nothing.
+    pub fn pooled(&self)
+        ensures { (i : ℕ) (p : FileBlock × List ℕ) → slice_get self.now.pool.entries i ≡ Some p
+            → (p.0.block < block_count) × ((file : ℕ) × IsFileNumber self.now.book.session self.now.seen file p.0.number) }
+    {
+        let _seen = self.seat.seen();
+    }
+
+    /// What the last sync came to. A staging is none.
     pub fn receipt(&self) -> Receipt
-        requires { 0 < length self.now.syncs }
-        ensures { result ≡ record { calls = called self.now.syncs; entries = durable_in self.now.syncs } }
+        requires { 0 < length (real_syncs self.now.syncs) }
+        ensures { result ≡ record { calls = called (real_syncs self.now.syncs); entries = durable_in (real_syncs self.now.syncs) } }
     {
         let syncs = self.keeper.syncs();
         let last = syncs[syncs.len() - 1];
@@ -220,6 +243,7 @@ impl<D: Disk> Vault<D> {
             &mut self.keeper,
             &mut self.seat,
             &self.opening,
+            &self.unwritten,
             &frames,
             upto,
         )
@@ -264,14 +288,16 @@ impl<D: Disk> Vault<D> {
             &mut self.keeper,
             &mut self.seat,
             &self.opening,
+            &self.unwritten,
             &frames,
             upto,
         )
     }
 
     /// Makes the data of the desk's file durable, for as many entries as are durable. The blocks are those that are dirty
-    /// after these, with their bytes then, by the syncs that the desk has seen. Each is written and the store area is synced
-    /// once; where none is dirty no device call is made.
+    /// after these, with their bytes then, by the syncs that the desk has seen. They and the blocks of the file that wait in
+    /// memory are written, by block, and the store area is synced once; where there are none, and nothing was written since
+    /// its last sync, no device call is made.
     ///
     /// After Ok and DiskFault the desk has the vault's history and list, after Broken and NoMemory nothing moved.
     pub fn sync_file(
@@ -288,6 +314,8 @@ impl<D: Disk> Vault<D> {
         ensures done { OnOk result (self.new ≡ record self.old {
           seen = desk.new.seen;
           disk = self.new.disk;
+          pool = without_file number self.old.pool;
+          unsynced = false;
           syncs = self.old.syncs ++ file_synced desk.old.what number (D.view self.new.disk).calls (durable_in self.old.syncs) ∷ [];
         }) }
         ensures receipt { IfOk result (λ r. r ≡ record { calls = (D.view self.new.disk).calls; entries = durable_in self.old.syncs }) }
@@ -295,33 +323,106 @@ impl<D: Disk> Vault<D> {
         ensures met { OnOk result (HasMet (name role.Desk desk.old.what) desk.old.seen desk.old.syncs self.old.seen self.old.syncs desk.new.seen self.old.syncs) }
         ensures failed { (opened now : ℕ) → IsErrOf result (KeepFault.DiskFault opened now) → (opened ≡ self.old.opened) × (now ≡ (D.view self.new.disk).faults)
             × (((D.view self.old.disk).faults < (D.view self.new.disk).faults) ⊎ IsAtEnd (D.view self.new.disk))
-            × (self.new ≡ record self.old { seen = desk.new.seen; disk = self.new.disk })
+            × (self.new ≡ record self.old { seen = desk.new.seen; disk = self.new.disk; unsynced = self.new.unsynced })
             × (desk.new ≡ record desk.old { seen = desk.new.seen; syncs = self.new.syncs })
             × HasMet (name role.Desk desk.old.what) desk.old.seen desk.old.syncs self.old.seen self.old.syncs desk.new.seen self.old.syncs }
         // Exactly where the disk had a fault since the vault was opened.
         ensures broken { self.old.opened < (D.view self.old.disk).faults → (result ≡ Err (KeepFault.Broken self.old.opened (D.view self.old.disk).faults)) × (self.new ≡ self.old) × (desk.new ≡ desk.old) }
         ensures only_broken { (opened now : ℕ) → IsErrOf result (KeepFault.Broken opened now) → self.old.opened < (D.view self.old.disk).faults }
         ensures no_memory { IsErrOf result KeepFault.NoMemory → (self.new ≡ self.old) × (desk.new ≡ desk.old) }
-        ensures made { OnOk result (Made (write_calls (length blocks.now)) (D.view self.old.disk) (D.view self.new.disk)) }
-        ensures idle { length blocks.now ≡ 0 → self.new.disk ≡ self.old.disk }
+        ensures made { OnOk result (Made (sync_calls self.old.unsynced (length (to_write self.old.pool number blocks.now))) (D.view self.old.disk) (D.view self.new.disk)) }
+        ensures idle { to_write self.old.pool number blocks.now ≡ [] → self.old.unsynced ≡ false → self.new.disk ≡ self.old.disk }
         ensures goes_on { GoesOn (D.view self.old.disk) (D.view self.new.disk) }
     {
         self.keeper.ready(1)?;
-        let blocks = blocks_of(alloc, number, blocks)?;
-        save(
+        save_file(
+            alloc,
             &mut self.keeper,
             &mut self.seat,
             &self.opening,
+            &mut self.unwritten,
             desk,
             number,
-            &blocks,
+            blocks,
         )
     }
 
-    /// The disk, and the syncs that came.
+    /// Lets dirty blocks of the desk's file wait in memory, to be written later. The blocks are some of those that are dirty
+    /// after the durable entries, with their bytes then, by the syncs that the desk has seen. A block that leaves the full pool
+    /// is written, without a sync.
+    ///
+    /// After Ok, DiskFault and NoMemory the desk has the vault's history and list, after Broken nothing moved. After DiskFault
+    /// and NoMemory some of the blocks may wait.
+    pub fn stage(
+        &mut self,
+        desk: &mut Desk,
+        number: u32,
+        blocks: &[(u32, Bytes)],
+    ) -> Result<(), VaultFault>
+        requires one { desk.old.book ≡ self.old.book }
+        requires number { IsFileNumber self.old.book.session desk.old.seen desk.old.what number }
+        requires dirty { AreSomeDirty self.old.book.session (take (durable_in self.old.syncs) self.old.seen) desk.old.syncs desk.old.what blocks.now }
+        ensures done { OnOk result (self.new ≡ record self.old {
+          seen = desk.new.seen;
+          disk = self.new.disk;
+          pool = staged_all self.old.pool number blocks.now;
+          unsynced = self.new.unsynced;
+          syncs = self.old.syncs ++ file_staged desk.old.what number (D.view self.new.disk).calls (durable_in self.old.syncs) blocks.now ∷ [];
+        }) }
+        ensures desk { OnOk result (desk.new ≡ record desk.old { seen = desk.new.seen; syncs = self.new.syncs }) }
+        ensures met { OnOk result (HasMet (name role.Desk desk.old.what) desk.old.seen desk.old.syncs self.old.seen self.old.syncs desk.new.seen self.old.syncs) }
+        ensures made { OnOk result (Made (length (pushed_all self.old.pool number blocks.now)) (D.view self.old.disk) (D.view self.new.disk)) }
+        ensures unsynced { OnOk result ((self.old.unsynced ≡ true → self.new.unsynced ≡ true) × (pushed_all self.old.pool number blocks.now ≡ [] → self.new.unsynced ≡ self.old.unsynced)) }
+        // A block that was written is unsynced until the next sync of a file's data.
+        ensures wrote { OnOk result ((pushed_all self.old.pool number blocks.now ≡ [] → ⊥) → self.new.unsynced ≡ true) }
+        ensures failed { (opened now : ℕ) → IsErrOf result (KeepFault.DiskFault opened now) → (opened ≡ self.old.opened) × (now ≡ (D.view self.new.disk).faults)
+            × (((D.view self.old.disk).faults < (D.view self.new.disk).faults) ⊎ IsAtEnd (D.view self.new.disk))
+            × (self.new ≡ record self.old { seen = desk.new.seen; disk = self.new.disk; pool = self.new.pool; unsynced = self.new.unsynced })
+            × (desk.new ≡ record desk.old { seen = desk.new.seen; syncs = self.new.syncs })
+            × HasMet (name role.Desk desk.old.what) desk.old.seen desk.old.syncs self.old.seen self.old.syncs desk.new.seen self.old.syncs }
+        // Exactly where the disk had a fault since the vault was opened.
+        ensures broken { self.old.opened < (D.view self.old.disk).faults → (result ≡ Err (KeepFault.Broken self.old.opened (D.view self.old.disk).faults)) × (self.new ≡ self.old) × (desk.new ≡ desk.old) }
+        ensures only_broken { (opened now : ℕ) → IsErrOf result (KeepFault.Broken opened now) → self.old.opened < (D.view self.old.disk).faults }
+        ensures no_memory { IsErrOf result KeepFault.NoMemory → ((D.view self.new.disk).faults ≡ (D.view self.old.disk).faults)
+            × (self.new ≡ record self.old { seen = desk.new.seen; disk = self.new.disk; pool = self.new.pool; unsynced = self.new.unsynced })
+            × (desk.new ≡ record desk.old { seen = desk.new.seen; syncs = self.new.syncs })
+            × HasMet (name role.Desk desk.old.what) desk.old.seen desk.old.syncs self.old.seen self.old.syncs desk.new.seen self.old.syncs }
+        ensures goes_on { GoesOn (D.view self.old.disk) (D.view self.new.disk) }
+    {
+        check(&mut self.keeper)?;
+        stage_file(
+            &mut self.keeper,
+            &mut self.seat,
+            &self.opening,
+            &mut self.unwritten,
+            desk,
+            number,
+            blocks,
+        )
+    }
+
+    /// Whether a sync of the file of this number has something to do, though no block of it is dirty: some block of it waits in
+    /// memory, or some block was written since the data area's last sync.
+    pub fn waits(&self, number: u32) -> bool
+        ensures { (result ≡ true) ↔ HasWaiting self.now number }
+    {
+        if self.unwritten.unsynced {
+            return true;
+        }
+        has_file(&self.unwritten.pool, number)
+    }
+
+    /// Whether no block waits and none was written since the data area's last sync.
+    pub fn is_written(&self) -> bool
+        ensures { (result ≡ true) ↔ ((self.now.pool.entries ≡ []) × (self.now.unsynced ≡ false)) }
+    {
+        self.unwritten.pool.len() == 0 && !self.unwritten.unsynced
+    }
+
+    /// The disk, and the syncs that came. A staging is none.
     pub fn into_disk(self) -> (D, Vec<Synced>)
         ensures disk { result.0 ≡ self.disk }
-        ensures syncs { result.1.items ≡ map handed_of self.syncs }
+        ensures syncs { result.1.items ≡ map handed_of (real_syncs self.syncs) }
     {
         let Vault { keeper, .. } = self;
         let (disk, mut syncs) = keeper.into_disk();

@@ -1,5 +1,5 @@
 -- Blocks that are clean, and stay so.
-use Rattle.std.proofs.Common.{◌≡◌, ◌∙◌, ◌==◌, ℕ, ◌<◌, ◌≤◌, max, Bool, true, false, List, [], ◌∷◌, ◌++◌, length, refl, sym, ap, subst, arith, if◌then◌else◌, ◌&&◌}
+use Rattle.std.proofs.Common.{◌≡◌, ◌∙◌, ◌==◌, ◌⊎◌, inl, inr, ℕ, ◌<◌, ◌≤◌, max, Bool, true, false, List, [], ◌∷◌, ◌++◌, length, refl, sym, ap, subst, arith, if◌then◌else◌, ◌&&◌}
 use Rattle.std.specs.Prelude.{Option, Some, None, nat_le}
 use Rattle.std.specs.Option.{option_map_or}
 use Rattle.std.proofs.lemmas.Bool.Decides.{nat_tests}
@@ -15,7 +15,9 @@ use Rattle.pass_clean.specs.Blocks.{AreDirty, IsGiven}
 use Rattle.pass_clean.specs.Cleaned.{cleaned, covers, is_dirty, is_dirty_from}
 use Rattle.pass_range.specs.Dirtied.{dirty_act, dirtied_at}
 use Rattle.pass_file.proofs.Dirtier.{still}
-use Rattle.pass_safe.specs.Settled.{HasDirty, IsClean, UntouchedLaw}
+use Rattle.pass_file.specs.Desks.{FileDeskView}
+use Rattle.pass_vault.specs.Vaulted.{HasWaiting, Vaulted}
+use Rattle.pass_safe.specs.Settled.{HasDirty, HasUnwritten, IsClean, UntouchedLaw}
 
 -- more syncs clean no less
 cleaned_more : (file block : ℕ) (ss more : List VaultSync) → cleaned file block ss ≤ cleaned file block (ss ++ more)
@@ -60,6 +62,15 @@ module _ (session : Session) (history : List Entry) (ss : List VaultSync) (file 
   -- it isn't both
   pub clean_not_dirty : IsClean session history ss file → HasDirty session history ss file → ⊥
   clean_not_dirty clean (block, low, is) = let z : true ≡ false = sym is ∙ clean block low in absurd (cc)
+
+-- nothing is to be written of a file where none of its blocks is dirty and none waits
+pub none_unwritten : {D P : Type 0} (session : Session) (f : FileDeskView) (v : Vaulted D) → IsClean session f.seen f.syncs f.what → (HasWaiting v f.number → ⊥) → HasUnwritten session f v → P
+none_unwritten session f v clean none (inl dirty) = absurd (clean_not_dirty session f.seen f.syncs f.what clean dirty)
+none_unwritten session f v clean none (inr waits) = absurd (none waits)
+
+pub some_unwritten : {D T : Type 0} (session : Session) (f : FileDeskView) (v : Vaulted D) → (T → HasDirty session f.seen f.syncs f.what) → T ⊎ HasWaiting v f.number → HasUnwritten session f v
+some_unwritten session f v dirty (inl some) = inl (dirty some)
+some_unwritten session f v dirty (inr waits) = inr waits
 
 -- a file that is clean stays so by more syncs
 pub stays_clean : (session : Session) (history : List Entry) (ss us : List VaultSync) (file : ℕ) → IsPrefix ss us → IsClean session history ss file → IsClean session history us file

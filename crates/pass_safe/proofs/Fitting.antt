@@ -1,14 +1,11 @@
 -- What a call on the vault leaves of it.
-use Rattle.std.proofs.Common.{◌≡◌, ℕ, ◌<◌, ◌≤◌, ◌⊎◌, List, [], ◌∷◌, ◌++◌, length, inl, inr, refl, sym, ap, ◌∙◌, subst, arith}
+use Rattle.std.proofs.Common.{◌≡◌, ℕ, ◌<◌, ◌≤◌, ◌⊎◌, List, length, inl, inr, refl, sym, ap, ◌∙◌, subst, arith}
 use Rattle.std.specs.Prelude.{Some, None, Err}
-use Rattle.std.specs.List.{All}
-use Rattle.std.proofs.lemmas.List.Elements.{All-append, All-cons, All-nil}
 use mathlib.Core.List.{IsPrefix}
 use Rattle.pass_outside.specs.Moments.{Moment, IsAtEnd}
 use Rattle.pass_book.specs.Syncs.{durable}
 use Rattle.pass_book.specs.Tokens.{BookId}
 use Rattle.pass_book.specs.Views.{longer}
-use Rattle.pass_book.specs.declared.view.VaultSync.{VaultSync}
 use Rattle.pass_book.proofs.Badges.{longer_has}
 use Rattle.pass_book.proofs.Prefixes.{prefix_whole}
 use Rattle.pass_keep.specs.declared.fault.KeepFault.{KeepFault}
@@ -38,23 +35,21 @@ module _ {D : Type 0} (book : BookId) (view : D → Moment) (v w : Vaulted D) (s
 
   module _ (of : w.book ≡ v.book) (first : w.opened ≡ v.opened) (few : length w.seen ≤ most_entries) where
     -- it was asked and answered
-    pub safe_still : (s : VaultSync) → w.syncs ≡ v.syncs ++ s ∷ [] → s.staged ≡ None → (view w.disk).faults ≡ (view v.disk).faults → durable w.syncs ≡ length w.seen → IsSafe book view w None
-    safe_still s list whole_file healthy whole = record {
+    pub safe_still : (view w.disk).faults ≡ (view v.disk).faults → durable w.syncs ≡ length w.seen → IsSafe book view w None
+    safe_still healthy whole = record {
       of_book = of ∙ safe.of_book;
       low = safe.low;
       few = few;
-      unstaged = subst (λ (ss : List VaultSync). All (λ s. s.staged ≡ None) ss) (sym list) (All-append (λ (s : VaultSync). s.staged ≡ None) v.syncs (s ∷ []) safe.unstaged (All-cons (λ (s : VaultSync). s.staged ≡ None) s [] whole_file (All-nil (λ (s : VaultSync). s.staged ≡ None))));
       stands = (healthy ∙ safe.stands.0 ∙ sym first, whole);
     }
 
     -- or a device call failed
-    pub safe_lost : w.syncs ≡ v.syncs → (o n : ℕ) → o ≡ v.opened → n ≡ (view w.disk).faults → ((view v.disk).faults < (view w.disk).faults) ⊎ IsAtEnd (view w.disk) → (view v.disk).faults ≤ (view w.disk).faults
+    pub safe_lost : (o n : ℕ) → o ≡ v.opened → n ≡ (view w.disk).faults → ((view v.disk).faults < (view w.disk).faults) ⊎ IsAtEnd (view w.disk) → (view v.disk).faults ≤ (view w.disk).faults
         → IsSafe book view w (Some (record { opened = o; found = n }))
-    safe_lost list o n opened now fault more = record {
+    safe_lost o n opened now fault more = record {
       of_book = of ∙ safe.of_book;
       low = safe.low;
       few = few;
-      unstaged = subst (λ (ss : List VaultSync). All (λ s. s.staged ≡ None) ss) (sym list) safe.unstaged;
       stands = record {
         first = opened ∙ sym first;
         rises = let same = safe.stands.0 in omega (arith, opened, now, more, same);

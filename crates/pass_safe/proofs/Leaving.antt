@@ -6,7 +6,7 @@ use Rattle.pass_keep.specs.Keepers.{GoesOn}
 use Rattle.pass_safe.specs.Safes.{IsLost, IsLostBy, Leaves, SafeView, lost_in}
 use Rattle.pass_safe.specs.declared.fault.Lost.{Lost}
 use Rattle.pass_safe.specs.declared.fault.SafeFault.{SafeFault}
-use Rattle.pass_safe.specs.declared.fault.SafeFault.TheVariants.{DiskFault}
+use Rattle.pass_safe.specs.declared.fault.SafeFault.TheVariants.{DiskFault, NoMemory}
 
 err_inside : {A E : Type 0} (e f : E) → ◌≡◌ {A = Result A E} (Err e) (Err f) → e ≡ f
 err_inside e f is = cc
@@ -23,6 +23,9 @@ lost_inside l m is = cc
 
 fault_inside : (a b o n : ℕ) → DiskFault a b ≡ DiskFault o n → (a ≡ o) × (b ≡ n)
 fault_inside a b o n is = (cc, cc)
+
+no_fault : (o n : ℕ) → NoMemory ≡ DiskFault o n → ⊥
+no_fault o n is = absurd (cc)
 
 goes_then : (a b c : Moment) → GoesOn a b → GoesOn b c → GoesOn a c
 goes_then a b c p q =
@@ -64,6 +67,15 @@ module _ {D : Type 0} (view : D → Moment) where
       fault = λ healthy. l.fault healthy ∙ ap (λ (r : Result A SafeFault). lost_in r) is;
       lost = λ m has. absurd (not_ok x (DiskFault m.opened m.found) (sym is ∙ (l.lost m has).0));
       failed = λ opened found err. absurd (not_ok y (DiskFault opened found) err);
+      goes_on = l.goes_on;
+    }
+
+    -- and then memory is refused
+    pub leaves_short : (x : A) → r ≡ Ok x → Leaves {T = B} view old new (Err NoMemory)
+    leaves_short x is = record {
+      fault = λ healthy. l.fault healthy ∙ ap (λ (r : Result A SafeFault). lost_in r) is;
+      lost = λ m has. absurd (not_ok x (DiskFault m.opened m.found) (sym is ∙ (l.lost m has).0));
+      failed = λ opened found err. absurd (no_fault opened found (err_inside NoMemory (DiskFault opened found) err));
       goes_on = l.goes_on;
     }
 

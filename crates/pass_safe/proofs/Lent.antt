@@ -1,8 +1,8 @@
 -- A file whose desk goes to the vault and comes back.
-use Rattle.std.proofs.Common.{◌≡◌, ◌∙◌, ℕ, suc, ◌<◌, ◌≤◌, List, [], ◌∷◌, ◌++◌, length, refl, sym, ap, subst, arith, length-append}
+use Rattle.std.proofs.Common.{◌≡◌, ◌∙◌, ℕ, suc, ◌<◌, ◌≤◌, true, List, [], ◌∷◌, ◌++◌, length, refl, sym, ap, subst, arith, length-append}
 use Rattle.std.specs.Prelude.{Some, None, Result, Ok, Err, IfOk, OnOk, OnErr, slice_get}
 use Rattle.std.specs.List.{All}
-use Rattle.std.proofs.lemmas.List.Elements.{All-head, All-tail}
+use Rattle.std.proofs.lemmas.List.Elements.{All-head, All-tail, filter-append}
 use mathlib.Core.List.{IsPrefix}
 use Rattle.pass_entry.specs.declared.entry.Entry.{Entry}
 use Rattle.pass_plain.specs.Lawful.{AgreeOn}
@@ -16,11 +16,12 @@ use Rattle.pass_book.specs.Views.{longer}
 use Rattle.pass_book.specs.declared.view.Role.TheVariants as role
 use Rattle.pass_book.specs.declared.view.VaultSync.{VaultSync}
 use Rattle.pass_book.proofs.Prefixes.{prefix_self}
-use Rattle.pass_vault.specs.Vaulted.{Vaulted, file_synced, flushed}
+use Rattle.pass_vault.specs.Vaulted.{Vaulted, file_synced, flushed, is_real, real_syncs}
+use Rattle.pass_vault.proofs.Reals.{filter_push, real_from, real_unstaged}
 use Rattle.pass_vault.proofs.Keeping.{longer_self}
 use Rattle.pass_vault.specs.declared.vault.Receipt.{Receipt}
 use Rattle.pass_file.specs.Desks.{FileDeskView}
-use Rattle.pass_safe.specs.Commits.{flushed_to}
+use Rattle.pass_safe.specs.Commits.{flushed_to, saved_to}
 use Rattle.pass_safe.specs.Syncings.{HasReceipt, HasSynced, IsFileSaved, IsSaved}
 
 -- both had seen one history
@@ -40,7 +41,7 @@ met_back f d others other_syncs seen syncs what same met =
 -- What a sync of a file's data has come to
 
 module _ {D : Type 0} (book : BookId) (v w : Vaulted D) (file : FileDeskView) (r : Receipt) (told : NoteState)
-    (done : w ≡ record v { disk = w.disk; syncs = v.syncs ++ file_synced file.what file.number r.calls r.entries ∷ [] }) (seen : file.seen ≡ v.seen) (all : r.entries ≡ length file.seen)
+    (done : w ≡ saved_to v w file.what file.number r) (seen : file.seen ≡ v.seen) (all : r.entries ≡ length file.seen)
     (note : told ≡ record { book = book; seen = w.seen; syncs = w.syncs }) where
   abbrev last : VaultSync
   last = file_synced file.what file.number r.calls r.entries
@@ -69,18 +70,36 @@ called_last_from : (c : ℕ) (ss : List VaultSync) (s : VaultSync) → called_fr
 called_last_from c [] s = refl
 called_last_from c (t ∷ ss) s = called_last_from t.calls ss s
 
-pub some_synced : (ss us : List VaultSync) (s : VaultSync) → us ≡ ss ++ s ∷ [] → 0 < length us
+-- a sync that is no staging is one more of those
+real_push : (ss : List VaultSync) (s : VaultSync) → is_real s ≡ true → real_syncs (ss ++ s ∷ []) ≡ real_syncs ss ++ s ∷ []
+real_push ss s is = filter_push is_real ss s is
+
+some_synced : (ss us : List VaultSync) (s : VaultSync) → us ≡ ss ++ s ∷ [] → 0 < length us
 some_synced ss us s is = let longer = ap length is ∙ length-append ss (s ∷ []) in omega (arith, longer)
 
-module _ {D : Type 0} (v w : Vaulted D) (seen : List Entry) (calls : ℕ) (done : w ≡ flushed_to v w seen calls) (r : Receipt) (is : r ≡ record { calls = called w.syncs; entries = durable w.syncs }) where
+pub some_flushed : {D : Type 0} (v w : Vaulted D) (seen : List Entry) (calls : ℕ) → w ≡ flushed_to v w seen calls → 0 < length (real_syncs w.syncs)
+some_flushed v w seen calls done =
+    some_synced (real_syncs v.syncs) (real_syncs w.syncs) (flushed calls (length seen)) (ap (λ (v : Vaulted _). real_syncs v.syncs) done ∙ real_push v.syncs (flushed calls (length seen)) refl)
+
+-- a list with syncs has some that are no stagings
+pub some_real : (ss us : List VaultSync) → IsPrefix ss us → 0 < length (real_syncs ss) → 0 < length (real_syncs us)
+some_real ss us more some =
+    subst (λ (l : List VaultSync). 0 < length (real_syncs l)) more.1
+    (let longer = ap length (filter-append is_real ss more.0) ∙ length-append (real_syncs ss) (real_syncs more.0) in omega (arith, some, longer))
+
+module _ {D : Type 0} (v w : Vaulted D) (seen : List Entry) (calls : ℕ) (done : w ≡ flushed_to v w seen calls) (r : Receipt) (is : r ≡ record { calls = called (real_syncs w.syncs); entries = durable (real_syncs w.syncs) }) where
   noted : w.syncs ≡ v.syncs ++ flushed calls (length seen) ∷ []
   noted = ap (λ (v : Vaulted D). v.syncs) done
 
   pub flushed_calls : r.calls ≡ calls
-  flushed_calls = ap (λ (r : Receipt). r.calls) is ∙ ap called noted ∙ called_last_from 0 v.syncs (flushed calls (length seen))
+  flushed_calls =
+      ap (λ (r : Receipt). r.calls) is ∙ ap (λ (ss : List VaultSync). called (real_syncs ss)) noted ∙ ap called (real_push v.syncs (flushed calls (length seen)) refl)
+      ∙ called_last_from 0 (real_syncs v.syncs) (flushed calls (length seen))
 
   pub flushed_entries : r.entries ≡ length seen
-  flushed_entries = ap (λ (r : Receipt). r.entries) is ∙ ap durable noted ∙ durable_last v.syncs (flushed calls (length seen))
+  flushed_entries =
+      ap (λ (r : Receipt). r.entries) is ∙ ap (λ (ss : List VaultSync). durable (real_syncs ss)) noted ∙ ap durable (real_push v.syncs (flushed calls (length seen)) refl)
+      ∙ durable_last (real_syncs v.syncs) (flushed calls (length seen))
 
   pub flushed_receipt : r ≡ record { calls = calls; entries = length seen }
   flushed_receipt = λ i. record { calls = flushed_calls i; entries = flushed_entries i }
@@ -119,18 +138,25 @@ last_synced (s ∷ t ∷ ss) some all =
     let e = last_synced (t ∷ ss) (omega arith) (All-tail (λ (s : VaultSync). s.staged ≡ None) s (t ∷ ss) all) in
     record { i = suc e.i; s = e.s; is = e.is; whole = e.whole; called = e.called; has = e.has }
 
-pub durable_some : (ss : List VaultSync) → 0 < durable ss → 0 < length ss
+durable_some : (ss : List VaultSync) → 0 < durable ss → 0 < length ss
 durable_some [] more = absurd (omega (arith, more))
 durable_some (s ∷ ss) more = omega arith
 
+pub some_durable : (ss : List VaultSync) → durable (real_syncs ss) ≡ durable ss → 0 < durable ss → 0 < length (real_syncs ss)
+some_durable ss counted more = durable_some (real_syncs ss) (omega (arith, counted, more))
+
+-- which stands in the whole list
+real_synced : (calls entries : ℕ) (ss : List VaultSync) → HasSynced calls entries (real_syncs ss) → HasSynced calls entries ss
+real_synced calls entries ss has = let from = real_from ss has.i has.s has.is in record { i = from.0; s = has.s; is = from.1; whole = has.whole; called = has.called; has = has.has }
+
 -- which another one made
-pub shared_saved : {D : Type 0} (book : BookId) (v : Vaulted D) (r : Receipt) (told : NoteState) → IsSound book.session → 0 < durable v.syncs → durable v.syncs ≤ length v.seen → All (λ s. s.staged ≡ None) v.syncs
-    → r ≡ record { calls = called v.syncs; entries = durable v.syncs } → told ≡ record { book = book; seen = v.seen; syncs = v.syncs } → IsSaved book v.seen (record { receipt = r; told = told })
-shared_saved book v r told sound some within whole is note =
-    let e = last_synced v.syncs (durable_some v.syncs some) whole in
+pub shared_saved : {D : Type 0} (book : BookId) (v : Vaulted D) (r : Receipt) (told : NoteState) → IsSound book.session → 0 < durable v.syncs → durable v.syncs ≤ length v.seen → durable (real_syncs v.syncs) ≡ durable v.syncs
+    → r ≡ record { calls = called (real_syncs v.syncs); entries = durable (real_syncs v.syncs) } → told ≡ record { book = book; seen = v.seen; syncs = v.syncs } → IsSaved book v.seen (record { receipt = r; told = told })
+shared_saved book v r told sound some within counted is note =
+    let e = real_synced (called (real_syncs v.syncs)) (durable (real_syncs v.syncs)) v.syncs (last_synced (real_syncs v.syncs) (some_durable v.syncs counted some) (real_unstaged v.syncs)) in
     let here : told.seen ≡ v.seen = ap (λ (n : NoteState). n.seen) note in
     let long = ap length here in
-    let all : r.entries ≡ durable v.syncs = ap (λ (r : Receipt). r.entries) is in
+    let all : r.entries ≡ durable v.syncs = ap (λ (r : Receipt). r.entries) is ∙ counted in
     record {
       sound = sound;
       of_book = ap (λ (n : NoteState). n.book) note;
@@ -142,7 +168,7 @@ shared_saved book v r told sound some within whole is note =
         is = ap (λ (ss : List VaultSync). slice_get ss e.i) (ap (λ (n : NoteState). n.syncs) note) ∙ e.is;
         whole = e.whole;
         called = e.called ∙ sym (ap (λ (r : Receipt). r.calls) is);
-        has = e.has ∙ sym all;
+        has = e.has ∙ counted ∙ sym all;
       };
     }
 

@@ -7,3 +7,4 @@ pub mod Ends
 pub mod Owned
 pub mod Leaving
 pub mod Settles
+pub mod Stagings

@@ -1,6 +1,5 @@
 -- What contracts see of a vault under its lock (this project's own rule).
 use Rattle.std.specs.Prelude.{◌≡◌, ◌⊎◌, ℕ, ◌<◌, ◌≤◌, ◌^◌, Option, Some, None, Result, Ok, Err, length}
-use Rattle.std.specs.List.{All}
 use Rattle.pass_outside.specs.Moments.{Moment, IsAtEnd}
 use Rattle.pass_plain.specs.Sessions.{opening_version}
 use Rattle.pass_book.specs.Syncs.{durable}
@@ -31,12 +30,11 @@ Stands view v None = ((view v.disk).faults ≡ v.opened) × (durable v.syncs ≡
 Stands view v (Some l) = IsLost (view v.disk) v.opened l
 
 -- what the lock keeps between two calls: the session's entries are few enough, and its objects' versions low enough, for the
--- log to tell them, and no sync of its list is a staging
+-- log to tell them
 pub record IsSafe {D : Type 0} (book : BookId) (view : D → Moment) (v : Vaulted D) (lost : Option Lost) : Type 0 where
   pub of_book : v.book ≡ book
   pub low : (object : ℕ) → opening_version book.session.start object ≤ 2 ^ 35
   pub few : length v.seen ≤ most_entries
-  pub unstaged : All (λ s. s.staged ≡ None) v.syncs
   pub stands : Stands view v lost
 
 -- the fault after which the vault is used no more

@@ -10,9 +10,10 @@ use Rattle.pass_plain.specs.Sound.{IsSound}
 use Rattle.pass_book.specs.Numbers.{IsFileNumber}
 use Rattle.pass_book.specs.declared.view.VaultSync.{VaultSync}
 use Rattle.pass_clean.specs.Cleaned.{is_dirty}
-use Rattle.pass_vault.specs.Vaulted.{Vaulted, flushed, file_synced}
+use Rattle.pass_vault.specs.Vaulted.{HasWaiting, Vaulted, flushed, file_synced, real_syncs}
 use Rattle.pass_vault.specs.declared.vault.Receipt.{Receipt}
 use Rattle.pass_file.specs.Desks.{FileDeskView}
+use Rattle.pass_safe.specs.Commits.{flushed_to, saved_to}
 
 -- the file has a number in the data area
 abbrev pub HasNumber : Session → List Entry → ℕ → Type 0
@@ -22,19 +23,23 @@ HasNumber session history file = (number : ℕ) × IsFileNumber session history 
 abbrev pub HasDirty : Session → List Entry → List VaultSync → ℕ → Type 0
 HasDirty session history syncs file = (block : ℕ) × (block < block_count) × (is_dirty session history syncs file block ≡ true)
 
+-- some is, or some of its blocks wait in the vault, or some block was written there and isn't synced
+abbrev pub HasUnwritten : {D : Type 0} → Session → FileDeskView → Vaulted D → Type 0
+HasUnwritten session f v = HasDirty session f.seen f.syncs f.what ⊎ HasWaiting v f.number
+
 -- none is
 abbrev pub IsClean : Session → List Entry → List VaultSync → ℕ → Type 0
 IsClean session history syncs file = (block : ℕ) → block < block_count → is_dirty session history syncs file block ≡ false
 
 -- a settle made no sync, or one of the file's data, with this receipt
-abbrev pub settled_by : ℕ → ℕ → List VaultSync → Option Receipt → List VaultSync
-settled_by what number ss None = ss
-settled_by what number ss (Some r) = ss ++ file_synced what number r.calls r.entries ∷ []
+abbrev pub settled_to : {D : Type 0} → Vaulted D → Vaulted D → ℕ → ℕ → Option Receipt → Vaulted D
+settled_to old new what number None = record old { disk = new.disk }
+settled_to old new what number (Some r) = saved_to old new what number r
 
 -- after the entries that a file has seen were made durable
 pub record HasSettled {D : Type 0} (f : FileDeskView) (old new : Vaulted D) (r : Option Receipt) : Type 0 where
   pub calls : ℕ
-  pub vault : new ≡ record old { seen = f.seen; disk = new.disk; place = new.place; syncs = settled_by f.what f.number (old.syncs ++ flushed calls (length f.seen) ∷ []) r }
+  pub vault : new ≡ settled_to (flushed_to old new f.seen calls) new f.what f.number r
 
 -- each of these files has at most one sync more, of so many entries, in the order of the files
 abbrev pub AreSettled : ℕ → List FileDeskView → List VaultSync → List VaultSync → Type 0
@@ -62,12 +67,12 @@ pub record EndsWith (calls entries : ℕ) (ss : List VaultSync) : Type 0 where
   pub has : last.entries ≡ entries
 
 -- A vault has seen the whole history and made it durable, and then the dirty blocks of these files. The receipt has the numbers of
--- its last sync.
+-- its last sync that is no staging.
 pub record IsDurable {D : Type 0} (history : List Entry) (files : List FileDeskView) (old new : Vaulted D) (r : Receipt) : Type 0 where
   pub seen : new.seen ≡ history
   pub calls : ℕ
   pub order : AreSettled (length history) files (old.syncs ++ flushed calls (length history) ∷ []) new.syncs
-  pub last : EndsWith r.calls r.entries new.syncs
+  pub last : EndsWith r.calls r.entries (real_syncs new.syncs)
   pub all : r.entries ≡ length history
 
 -- only a file with a number has dirty blocks

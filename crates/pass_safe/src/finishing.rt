@@ -36,7 +36,7 @@ pub struct Finished<D: Disk> {
     pub told: Note,
 }
 
-/// Writes the dirty blocks of a file that has some, at the end of a session.
+/// Writes the dirty blocks of a file, and those of it that wait in the vault, at the end of a session.
 fn settle_one<J: Whose, D: Disk>(
     alloc: Global,
     safe: &mut Safe<J, D>,
@@ -45,7 +45,7 @@ fn settle_one<J: Whose, D: Disk>(
 ) -> Result<(), SafeFault>
     requires whole { safe.old.vault.seen ≡ shelf.old.history }
     ensures shelf { shelf.new ≡ record shelf.old { syncs = shelf.new.syncs } }
-    ensures vault { safe.new.vault ≡ record safe.old.vault { disk = safe.new.vault.disk; syncs = safe.new.vault.syncs } }
+    ensures vault { safe.new.vault ≡ record safe.old.vault { disk = safe.new.vault.disk; pool = safe.new.vault.pool; unsynced = safe.new.vault.unsynced; syncs = safe.new.vault.syncs } }
     ensures grows { IsPrefix safe.old.vault.syncs safe.new.vault.syncs }
     ensures done { OnOk result (AreSettled (length shelf.old.history) (file ∷ []) safe.old.vault.syncs safe.new.vault.syncs) }
     ensures clean { OnOk result (IsClean J.book.session shelf.old.history safe.new.vault.syncs file.what) }
@@ -59,7 +59,7 @@ fn settle_one<J: Whose, D: Disk>(
     }
 }
 
-/// Writes the dirty blocks of each of these files, in their order.
+/// Writes these blocks of each of these files, in their order.
 fn settle_each<J: Whose, D: Disk>(
     alloc: Global,
     safe: &mut Safe<J, D>,
@@ -69,7 +69,7 @@ fn settle_each<J: Whose, D: Disk>(
     requires whole { safe.old.vault.seen ≡ shelf.old.history }
     requires healthy { safe.old.lost ≡ None }
     ensures shelf { shelf.new ≡ record shelf.old { syncs = shelf.new.syncs } }
-    ensures vault { safe.new.vault ≡ record safe.old.vault { disk = safe.new.vault.disk; syncs = safe.new.vault.syncs } }
+    ensures vault { safe.new.vault ≡ record safe.old.vault { disk = safe.new.vault.disk; pool = safe.new.vault.pool; unsynced = safe.new.vault.unsynced; syncs = safe.new.vault.syncs } }
     ensures grows { IsPrefix safe.old.vault.syncs safe.new.vault.syncs }
     ensures done { OnOk result (AreSettled (length shelf.old.history) files.items safe.old.vault.syncs safe.new.vault.syncs) }
     ensures clean { OnOk result (All (λ f. IsClean J.book.session shelf.old.history safe.new.vault.syncs f.what) files.items) }
@@ -117,7 +117,8 @@ fn flush_all<J: Whose, D: Disk>(
     }
 }
 
-/// Makes every entry durable, and then the dirty blocks of each of these files.
+/// Makes every entry durable, and then the dirty blocks of each of these files, and those that wait in the vault. Where more waits than
+/// the blocks of these files, it answers as where memory is refused.
 fn settle_all<J: Whose, D: Disk>(
     alloc: Global,
     safe: &mut Safe<J, D>,
@@ -126,11 +127,19 @@ fn settle_all<J: Whose, D: Disk>(
     files: Vec<FileDesk<J>>,
 ) -> Result<Receipt, SafeFault>
     ensures shelf { shelf.new ≡ record shelf.old { syncs = shelf.new.syncs } }
-    ensures vault { safe.new.vault ≡ record safe.old.vault { seen = safe.new.vault.seen; disk = safe.new.vault.disk; place = safe.new.vault.place; syncs = safe.new.vault.syncs } }
+    ensures vault { safe.new.vault ≡ record safe.old.vault {
+      seen = safe.new.vault.seen;
+      disk = safe.new.vault.disk;
+      place = safe.new.vault.place;
+      pool = safe.new.vault.pool;
+      unsynced = safe.new.vault.unsynced;
+      syncs = safe.new.vault.syncs;
+    } }
     ensures told { IsPrefix safe.new.vault.seen shelf.old.history }
     ensures grows { IsPrefix safe.old.vault.syncs safe.new.vault.syncs }
     ensures done { IfOk result (λ r. IsDurable shelf.old.history files.items safe.old.vault safe.new.vault r) }
     ensures clean { OnOk result (All (λ f. IsClean J.book.session shelf.old.history safe.new.vault.syncs f.what) files.items) }
+    ensures written { OnOk result ((safe.new.vault.pool.entries ≡ []) × (safe.new.vault.unsynced ≡ false)) }
     ensures safe { Leaves D.view safe.old safe.new result }
 {
     if let Err(fault) = safe.healthy() {
@@ -143,6 +152,10 @@ fn settle_all<J: Whose, D: Disk>(
     if let Err(fault) = settle_each(alloc, safe, shelf, files) {
         return Err(fault);
     }
+    if !safe.is_written() {
+        return Err(SafeFault::NoMemory);
+    }
+    let _durable = safe.durable();
     Ok(safe.receipt())
 }
 
@@ -161,13 +174,22 @@ pub fn finish<J: Whose, D: Disk>(
     ensures note { result.told ≡ record { book = J.book; seen = shelf.history; syncs = result.told.syncs } }
     // What is said to be kept is durable, by the list that the book had seen.
     ensures backed { IsBacked J.book.session shelf.history result.told.syncs }
-    ensures vault { result.vault ≡ record safe.vault { seen = result.vault.seen; disk = result.vault.disk; place = result.vault.place; syncs = result.vault.syncs } }
+    ensures vault { result.vault ≡ record safe.vault {
+      seen = result.vault.seen;
+      disk = result.vault.disk;
+      place = result.vault.place;
+      pool = result.vault.pool;
+      unsynced = result.vault.unsynced;
+      syncs = result.vault.syncs;
+    } }
     ensures told { IsPrefix result.vault.seen shelf.history }
     ensures grows { IsPrefix safe.vault.syncs result.vault.syncs }
     ensures done { IfOk result.settled (λ r. IsDurable shelf.history files.items safe.vault result.vault r) }
     ensures clean { OnOk result.settled (All (λ f. IsClean J.book.session shelf.history result.vault.syncs f.what) files.items) }
     // Where these are all files that may have dirty blocks, none is left, as a vault's `images` asks it.
     ensures settled { AreAll J.book.session shelf.history files.items → OnOk result.settled ((file block : ℕ) → block < block_count → is_dirty J.book.session shelf.history result.vault.syncs file block ≡ false) }
+    // No block waits to be written, and none to be synced.
+    ensures written { OnOk result.settled ((result.vault.pool.entries ≡ []) × (result.vault.unsynced ≡ false)) }
     ensures healthy { OnOk result.settled ((D.view result.vault.disk).faults ≡ safe.vault.opened) }
     ensures lost { (l : AnyLost) → safe.lost ≡ Some l → (result.settled ≡ Err (DiskFault l.opened l.found)) × (result.vault ≡ safe.vault) }
     ensures failed { (opened found : ℕ) → result.settled ≡ Err (DiskFault opened found) → IsLost (D.view result.vault.disk) safe.vault.opened (record { opened = opened; found = found }) }

@@ -4,8 +4,8 @@
 //! in another one, `commit` with the vault alone, and `kept` in a third hold of the book; while the disk is at work the book is free. Where the first
 //! entry is durable by then, `share` does without the copy. Pipes and app objects have `copy_entries`, `commit_entries`, `share_entries` and `kept_entries`.
 //!
-//! A store is settled by `copy_entries` and `commit_entries`, and then file by file by `settle_shared` or `settle_copied`. [`finish`] does all of it at the
-//! end of a session, with no lock.
+//! A store is settled by `copy_entries` and `commit_entries`, and then file by file by `settle_shared` or `settle_copied`; in their place `stage_shared`
+//! and `stage_copied` let changed blocks wait in the vault. [`finish`] settles all of it at the end of a session, with no lock.
 #![tactic(auto)]
 
 mod ending;
@@ -24,7 +24,7 @@ pub use finishing::{Finished, finish};
 pub use keeping::{Keeping, keep, refused_sync};
 pub use safe::Safe;
 pub use saving::{
-    Copied, Saved, commit, commit_entries, copy, copy_entries, is_durable, look_told, share,
-    share_entries,
+    Copied, Saved, commit, commit_entries, copy, copy_all, copy_entries, flush_copied, is_durable,
+    look_told, share, share_entries,
 };
-pub use settling::{is_seen, settle_copied, settle_shared, told};
+pub use settling::{is_seen, settle_copied, settle_shared, stage_copied, stage_shared, told};

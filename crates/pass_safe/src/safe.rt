@@ -1,6 +1,5 @@
 //! The vault, as it lies under its lock.
-ghost use Rattle.std.specs.Prelude.{◌≡◌, ◌<◌, ◌≤◌, ◌^◌, ◌++◌, ◌∷◌, ◌↔◌, [], ℕ, None, Some, Ok, Err, IfOk, IfErr, IfSome, IsSome, OnOk, OnErr, length};
-ghost use Rattle.std.specs.List.{All};
+ghost use Rattle.std.specs.Prelude.{◌≡◌, ◌<◌, ◌≤◌, ◌^◌, ◌++◌, ◌∷◌, ◌↔◌, [], ℕ, false, true, None, Some, Ok, Err, IfOk, IfErr, IfSome, IsSome, OnOk, OnErr, length};
 ghost use mathlib.Core.List.{IsPrefix};
 ghost use Rattle.pass_plain.specs.Legal.{IsLegal};
 ghost use Rattle.pass_plain.specs.Sessions.{opening_version};
@@ -10,15 +9,16 @@ ghost use Rattle.pass_book.specs.Records.{AreParts};
 ghost use Rattle.pass_book.specs.Syncs.{called, durable as durable_in, AreNumbered};
 ghost use Rattle.pass_keep.specs.Keepers.{GoesOn};
 ghost use Rattle.pass_vault.specs.Rooms.{most_entries};
-ghost use Rattle.pass_vault.specs.Vaulted.{flushed, file_synced};
-ghost use Rattle.pass_safe.specs.Safes.{SafeView, IsLost, IsLostBy, lost_in};
-ghost use Rattle.pass_safe.specs.Settled.{HasDirty, IsClean, settled_by};
+ghost use Rattle.pass_vault.specs.Vaulted.{flushed, real_syncs};
+ghost use Rattle.pass_safe.specs.Commits.{HasStaged, left_by_staging, saved_to, unsaved_to, unstaged_to};
+ghost use Rattle.pass_safe.specs.Safes.{SafeView, IsLost, IsLostBy, Leaves, lost_in};
+ghost use Rattle.pass_safe.specs.Settled.{HasUnwritten, IsClean, settled_to};
 ghost use Rattle.pass_safe.specs.Syncings.{HasReceipt};
 ghost use Rattle.pass_safe.specs.declared.fault.Lost.{Lost as AnyLost};
 ghost use Rattle.pass_safe.specs.declared.fault.SafeFault.TheVariants.{DiskFault, NoMemory};
 
 use crate::fault::{Lost, SafeFault, lost_by};
-use crate::working::{flush_vault, join_file, save_file, settle_file, show_file};
+use crate::working::{flush_vault, join_file, save_file, settle_file, show_file, stage_file};
 use pass_book::Note;
 use pass_entry::Record;
 use pass_file::FileDesk;
@@ -37,7 +37,9 @@ pub struct Safe<J: Whose, D: Disk> {
 }
 
 impl<J: Whose, D: Disk> Model for Safe<J, D> {
-    ghost use Rattle.std.specs.Coded.{codes};
+    ghost use Rattle.std.specs.Coded.{codes, coded_ℕ, coded_list};
+    ghost use Rattle.lru.specs.LruCache.{lru_cache_code};
+    ghost use Rattle.pass_pool.specs.contracts.pool.FileBlock as block_type;
     ghost use Rattle.pass_entry.specs.contracts.entry.Entry as entry_type;
     ghost use Rattle.pass_entry.specs.contracts.record.Record as record_type;
     ghost use Rattle.pass_plain.specs.contracts.start.Start as start_type;
@@ -45,7 +47,7 @@ impl<J: Whose, D: Disk> Model for Safe<J, D> {
 
     ghost Value = { SafeView D };
 
-    ghost coded = { Prim.hlevel (codes, entry_type.the_row.coded, record_type.the_row.coded, start_type.the_row.coded) };
+    ghost coded = { Prim.hlevel (codes, entry_type.the_row.coded, record_type.the_row.coded, start_type.the_row.coded, lru_cache_code block_type.the_row.coded (coded_list coded_ℕ)) };
 
     ghost view = { λ s. record { vault = s.vault; lost = s.lost } };
 
@@ -78,7 +80,7 @@ impl<J: Whose, D: Disk> Safe<J, D> {
         ensures legal { IsLegal J.book.session self.now.vault.seen }
         ensures sound { IsSound J.book.session }
         ensures few { length self.now.vault.seen ≤ most_entries }
-        ensures unstaged { All (λ s. s.staged ≡ None) self.now.vault.syncs }
+        ensures counted { durable_in (real_syncs self.now.vault.syncs) ≡ durable_in self.now.vault.syncs }
         ensures book { self.now.vault.book ≡ J.book }
     {
         self.vault.durable()
@@ -113,12 +115,19 @@ impl<J: Whose, D: Disk> Safe<J, D> {
         self.vault.meet(list);
     }
 
-    /// What the last sync came to. It takes no memory.
+    /// What the last sync came to that is no staging. It takes no memory.
     pub fn receipt(&self) -> Receipt
-        requires { 0 < length self.now.vault.syncs }
-        ensures { result ≡ record { calls = called self.now.vault.syncs; entries = durable_in self.now.vault.syncs } }
+        requires { 0 < length (real_syncs self.now.vault.syncs) }
+        ensures { result ≡ record { calls = called (real_syncs self.now.vault.syncs); entries = durable_in (real_syncs self.now.vault.syncs) } }
     {
         self.vault.receipt()
+    }
+
+    /// Whether no block of a file waits in the vault, and none was written since its last sync of data. It takes no memory.
+    pub fn is_written(&self) -> bool
+        ensures { (result ≡ true) ↔ ((self.now.vault.pool.entries ≡ []) × (self.now.vault.unsynced ≡ false)) }
+    {
+        self.vault.is_written()
     }
 
     /// Makes the entries that a note has seen durable, whose maker had seen what the vault has. The parts are the records of
@@ -156,8 +165,8 @@ impl<J: Whose, D: Disk> Safe<J, D> {
         result
     }
 
-    /// Writes the dirty blocks of a file and syncs the data area once; where none is dirty no device call is made. File and
-    /// vault have seen one history. Its file comes back.
+    /// Writes the dirty blocks of a file and those of it that wait in the vault, and syncs the data area once; where there is none, and
+    /// nothing is unsynced, no device call is made. File and vault have seen one history. Its file comes back.
     pub fn save(
         &mut self,
         alloc: Global,
@@ -165,14 +174,11 @@ impl<J: Whose, D: Disk> Safe<J, D> {
     ) -> (FileDesk<J>, Result<Receipt, SafeFault>)
         requires seen { file.seen ≡ self.old.vault.seen }
         ensures file { result.0 ≡ record file { syncs = result.0.syncs } }
-        ensures done { IfOk result.1 (λ r. self.new.vault ≡ record self.old.vault {
-          disk = self.new.vault.disk;
-          syncs = self.old.vault.syncs ++ file_synced file.what file.number r.calls r.entries ∷ [];
-        }) }
+        ensures done { IfOk result.1 (λ r. self.new.vault ≡ saved_to self.old.vault self.new.vault file.what file.number r) }
         ensures receipt { IfOk result.1 (λ r. r ≡ record { calls = (D.view self.new.vault.disk).calls; entries = length file.seen }) }
         ensures listed { OnOk result.1 (result.0.syncs ≡ self.new.vault.syncs) }
         ensures clean { OnOk result.1 (IsClean J.book.session self.new.vault.seen self.new.vault.syncs file.what) }
-        ensures undone { OnErr result.1 (self.new.vault ≡ record self.old.vault { disk = self.new.vault.disk }) }
+        ensures undone { OnErr result.1 (self.new.vault ≡ unsaved_to self.old.vault self.new.vault) }
         ensures fault { self.old.lost ≡ None → self.new.lost ≡ lost_in result.1 }
         ensures lost { (l : AnyLost) → self.old.lost ≡ Some l → (result.1 ≡ Err (DiskFault l.opened l.found)) × (self.new ≡ self.old) × (result.0 ≡ file) }
         ensures failed { (opened found : ℕ) → result.1 ≡ Err (DiskFault opened found) → IsLost (D.view self.new.vault.disk) self.old.vault.opened (record { opened = opened; found = found }) }
@@ -187,8 +193,8 @@ impl<J: Whose, D: Disk> Safe<J, D> {
         (file, result)
     }
 
-    /// Writes the dirty blocks of a file that has some, as `save` does, and answers what that came to. Any other file is left alone: of
-    /// it no sync is noted, and no device call is made.
+    /// Does what `save` does with a file that has dirty blocks, or some that wait in the vault, and with any file where something is
+    /// unsynced, and answers what that came to. Any other file is left alone: of it no sync is noted, and no device call is made.
     pub fn settle(
         &mut self,
         alloc: Global,
@@ -196,14 +202,14 @@ impl<J: Whose, D: Disk> Safe<J, D> {
     ) -> (FileDesk<J>, Result<Option<Receipt>, SafeFault>)
         requires seen { file.seen ≡ self.old.vault.seen }
         ensures file { result.0 ≡ record file { syncs = result.0.syncs } }
-        ensures done { IfOk result.1 (λ r. self.new.vault ≡ record self.old.vault { disk = self.new.vault.disk; syncs = settled_by file.what file.number self.old.vault.syncs r }) }
+        ensures done { IfOk result.1 (λ r. self.new.vault ≡ settled_to self.old.vault self.new.vault file.what file.number r) }
         ensures receipt { IfOk result.1 (λ o. IfSome o (λ r. r ≡ record { calls = (D.view self.new.vault.disk).calls; entries = length file.seen })) }
         ensures synced { IfOk result.1 (λ o. IfSome o (HasReceipt self.new.vault)) }
         ensures idle { result.1 ≡ Ok None → (self.new ≡ self.old) × (result.0 ≡ file) }
-        ensures dirty { IfOk result.1 (λ r. IsSome r ↔ HasDirty J.book.session file.seen file.syncs file.what) }
+        ensures dirty { IfOk result.1 (λ r. IsSome r ↔ HasUnwritten J.book.session file self.old.vault) }
         // By the vault's list, where it has the syncs that the file knows, as `join` tells.
         ensures clean { OnOk result.1 (IsPrefix file.syncs self.old.vault.syncs → IsClean J.book.session self.new.vault.seen self.new.vault.syncs file.what) }
-        ensures undone { OnErr result.1 (self.new.vault ≡ record self.old.vault { disk = self.new.vault.disk }) }
+        ensures undone { OnErr result.1 (self.new.vault ≡ unsaved_to self.old.vault self.new.vault) }
         ensures fault { self.old.lost ≡ None → self.new.lost ≡ lost_in result.1 }
         ensures lost { (l : AnyLost) → self.old.lost ≡ Some l → (result.1 ≡ Err (DiskFault l.opened l.found)) × (self.new ≡ self.old) × (result.0 ≡ file) }
         ensures failed { (opened found : ℕ) → result.1 ≡ Err (DiskFault opened found) → IsLost (D.view self.new.vault.disk) self.old.vault.opened (record { opened = opened; found = found }) }
@@ -214,6 +220,31 @@ impl<J: Whose, D: Disk> Safe<J, D> {
             return (file, Err(lost.fault()));
         }
         let (file, result) = settle_file::<J, D>(alloc, file, &mut self.vault);
+        self.lost = lost_by(&result);
+        (file, result)
+    }
+
+    /// Puts so many dirty blocks of a file at most into the vault's pool, and answers their number; what the pool has no room for is
+    /// written, without a sync. Of a file without any no staging is noted. File and vault have seen one history. Its file comes back.
+    pub fn stage(
+        &mut self,
+        alloc: Global,
+        file: FileDesk<J>,
+        limit: u32,
+    ) -> (FileDesk<J>, Result<u32, SafeFault>)
+        requires seen { file.seen ≡ self.old.vault.seen }
+        ensures file { result.0 ≡ record file { syncs = result.0.syncs } }
+        ensures few { IfOk result.1 (λ n. n ≤ limit) }
+        ensures done { IfOk result.1 (λ n. 0 < n → HasStaged J.book.session file self.old.vault self.new.vault n) }
+        ensures idle { result.1 ≡ Ok 0 → (self.new ≡ self.old) × (result.0 ≡ file) }
+        ensures undone { OnErr result.1 (self.new.vault ≡ unstaged_to self.old.vault self.new.vault) }
+        ensures same { self.new.vault ≡ left_by_staging self.old.vault self.new.vault }
+        ensures safe { Leaves D.view self.old self.new result.1 }
+    {
+        if let Some(lost) = self.lost {
+            return (file, Err(lost.fault()));
+        }
+        let (file, result) = stage_file::<J, D>(alloc, file, &mut self.vault, limit);
         self.lost = lost_by(&result);
         (file, result)
     }

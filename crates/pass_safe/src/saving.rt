@@ -1,11 +1,11 @@
 //! What a sync makes durable, under the vault's lock.
-ghost use Rattle.std.specs.Prelude.{◌≡◌, ◌⊎◌, ◌+◌, ◌<◌, ◌≤◌, ◌++◌, ◌∷◌, ◌↔◌, [], ℕ, List, None, Some, Err, true, IfOk, IfErr, OnOk, OnErr, length};
+ghost use Rattle.std.specs.Prelude.{◌≡◌, ◌⊎◌, ◌+◌, ◌<◌, ◌≤◌, ◌↔◌, ℕ, List, None, Some, Err, true, IfOk, IfErr, OnOk, OnErr, length};
 ghost use mathlib.Core.List.{IsPrefix};
 ghost use Rattle.pass_entry.specs.declared.entry.Entry.{Entry as AnyEntry};
 ghost use Rattle.pass_book.specs.Syncs.{called, durable};
 ghost use Rattle.pass_hold.specs.Callings.{HasLooked};
-ghost use Rattle.pass_vault.specs.Vaulted.{file_synced};
-ghost use Rattle.pass_safe.specs.Commits.{HasCommitted, HasFlushed, HasNotFlushed, HasStopped, flushed_to};
+ghost use Rattle.pass_vault.specs.Vaulted.{real_syncs};
+ghost use Rattle.pass_safe.specs.Commits.{HasCommitted, HasFlushed, HasNotFlushed, HasStopped, flushed_to, saved_to, unsaved_to};
 ghost use Rattle.pass_safe.specs.Safes.{IsLostBy, Leaves};
 ghost use Rattle.pass_safe.specs.Settled.{IsClean};
 ghost use Rattle.pass_safe.specs.Syncings.{HasKept, HasRisen, IsCopy, IsFileSaved, IsSaved, KeepingView};
@@ -163,16 +163,13 @@ fn save<J: Whose, D: Disk>(
 ) -> (FileDesk<J>, Result<Saved, SafeFault>)
     requires seen { file.seen ≡ safe.old.vault.seen }
     ensures file { result.0 ≡ record file { syncs = result.0.syncs } }
-    ensures done { IfOk result.1 (λ s. safe.new.vault ≡ record safe.old.vault {
-      disk = safe.new.vault.disk;
-      syncs = safe.old.vault.syncs ++ file_synced file.what file.number s.receipt.calls s.receipt.entries ∷ [];
-    }) }
+    ensures done { IfOk result.1 (λ s. safe.new.vault ≡ saved_to safe.old.vault safe.new.vault file.what file.number s.receipt) }
     ensures receipt { IfOk result.1 (λ s. s.receipt ≡ record { calls = (D.view safe.new.vault.disk).calls; entries = length file.seen }) }
     ensures listed { OnOk result.1 (result.0.syncs ≡ safe.new.vault.syncs) }
     ensures clean { OnOk result.1 (IsClean J.book.session safe.new.vault.seen safe.new.vault.syncs file.what) }
     ensures saved { IfOk result.1 (λ s. IsSaved J.book file.seen s) }
     ensures of_file { IfOk result.1 (λ s. IsFileSaved file.what file.number s) }
-    ensures undone { OnErr result.1 (safe.new.vault ≡ record safe.old.vault { disk = safe.new.vault.disk }) }
+    ensures undone { OnErr result.1 (safe.new.vault ≡ unsaved_to safe.old.vault safe.new.vault) }
     ensures memory { result.1 ≡ Err NoMemory → (safe.new ≡ safe.old) × (result.0 ≡ file) }
     ensures risen { IfErr result.1 HasRisen }
     ensures safe { Leaves D.view safe.old safe.new result.1 }
@@ -250,17 +247,14 @@ pub fn share<J: Whose, D: Disk>(
     requires below { length file.seen ≤ durable safe.old.vault.syncs }
     ensures file { result.0 ≡ record file { seen = safe.old.vault.seen; syncs = result.0.syncs } }
     ensures begins { IsPrefix file.seen safe.old.vault.seen }
-    ensures done { IfOk result.1 (λ s. safe.new.vault ≡ record safe.old.vault {
-      disk = safe.new.vault.disk;
-      syncs = safe.old.vault.syncs ++ file_synced file.what file.number s.receipt.calls s.receipt.entries ∷ [];
-    }) }
+    ensures done { IfOk result.1 (λ s. safe.new.vault ≡ saved_to safe.old.vault safe.new.vault file.what file.number s.receipt) }
     ensures receipt { IfOk result.1 (λ s. s.receipt ≡ record { calls = (D.view safe.new.vault.disk).calls; entries = length safe.old.vault.seen }) }
     ensures entries { IfOk result.1 (λ s. length file.seen ≤ s.receipt.entries) }
     ensures listed { OnOk result.1 (result.0.syncs ≡ safe.new.vault.syncs) }
     ensures clean { OnOk result.1 (IsClean J.book.session safe.new.vault.seen safe.new.vault.syncs file.what) }
     ensures saved { IfOk result.1 (λ s. IsSaved J.book result.0.seen s) }
     ensures of_file { IfOk result.1 (λ s. IsFileSaved result.0.what result.0.number s) }
-    ensures undone { OnErr result.1 (safe.new.vault ≡ record safe.old.vault { disk = safe.new.vault.disk }) }
+    ensures undone { OnErr result.1 (safe.new.vault ≡ unsaved_to safe.old.vault safe.new.vault) }
     ensures memory { result.1 ≡ Err NoMemory → safe.new ≡ safe.old }
     ensures risen { IfErr result.1 HasRisen }
     ensures safe { Leaves D.view safe.old safe.new result.1 }
@@ -279,7 +273,7 @@ pub fn share_entries<J: Whose, D: Disk>(
     ensures safe { safe.new ≡ safe.old }
     ensures healthy { OnOk result (safe.old.lost ≡ None) }
     ensures lost { IfErr result (IsLostBy D.view safe.old) }
-    ensures receipt { IfOk result (λ s. s.receipt ≡ record { calls = called safe.old.vault.syncs; entries = durable safe.old.vault.syncs }) }
+    ensures receipt { IfOk result (λ s. s.receipt ≡ record { calls = called (real_syncs safe.old.vault.syncs); entries = durable safe.old.vault.syncs }) }
     ensures above { IfOk result (λ s. keeping.now.place < s.receipt.entries) }
     ensures saved { IfOk result (λ s. IsSaved J.book safe.old.vault.seen s) }
     ensures risen { IfErr result HasRisen }

@@ -1,9 +1,9 @@
 //! The data of a file, where a store is settled while its calls go on.
 ghost use Rattle.std.specs.Prelude.{◌≡◌, ◌⊎◌, ◌≤◌, ◌↔◌, Err, true, IfOk, IfErr, IfSome, OnErr, length};
 ghost use Rattle.pass_book.specs.Syncs.{durable};
-ghost use Rattle.pass_safe.specs.Commits.{HasFlushed, HasStopped};
+ghost use Rattle.pass_safe.specs.Commits.{HasFlushed, HasStopped, left_by_staging, unsaved_to};
 ghost use Rattle.pass_safe.specs.Safes.{Leaves};
-ghost use Rattle.pass_safe.specs.Settled.{HasSettled, settled_by};
+ghost use Rattle.pass_safe.specs.Settled.{HasSettled, settled_to};
 ghost use Rattle.pass_safe.specs.Syncings.{HasReceipt, HasRisen, IsCopy, IsSaved};
 ghost use Rattle.pass_safe.specs.declared.fault.SafeFault.TheVariants.{NoMemory};
 
@@ -34,9 +34,9 @@ pub fn settle_shared<J: Whose, D: Disk>(
 ) -> (FileDesk<J>, Result<Option<Receipt>, SafeFault>)
     requires below { length file.seen ≤ durable safe.old.vault.syncs }
     ensures file { result.0 ≡ record file { seen = safe.old.vault.seen; syncs = result.0.syncs } }
-    ensures done { IfOk result.1 (λ r. safe.new.vault ≡ record safe.old.vault { disk = safe.new.vault.disk; syncs = settled_by file.what file.number safe.old.vault.syncs r }) }
+    ensures done { IfOk result.1 (λ r. safe.new.vault ≡ settled_to safe.old.vault safe.new.vault file.what file.number r) }
     ensures synced { IfOk result.1 (λ o. IfSome o (HasReceipt safe.new.vault)) }
-    ensures undone { OnErr result.1 (safe.new.vault ≡ record safe.old.vault { disk = safe.new.vault.disk }) }
+    ensures undone { OnErr result.1 (safe.new.vault ≡ unsaved_to safe.old.vault safe.new.vault) }
     ensures memory { result.1 ≡ Err NoMemory → safe.new ≡ safe.old }
     ensures risen { IfErr result.1 HasRisen }
     ensures safe { Leaves D.view safe.old safe.new result.1 }
@@ -65,6 +65,45 @@ pub fn settle_copied<J: Whose, D: Disk>(
         return (file, Err(fault));
     }
     safe.settle(alloc, file)
+}
+
+/// Puts so many dirty blocks of a file at most into the vault's pool, all of whose entries are durable: it sees what the vault has seen.
+pub fn stage_shared<J: Whose, D: Disk>(
+    alloc: Global,
+    safe: &mut Safe<J, D>,
+    file: FileDesk<J>,
+    limit: u32,
+) -> (FileDesk<J>, Result<u32, SafeFault>)
+    requires below { length file.seen ≤ durable safe.old.vault.syncs }
+    ensures file { result.0 ≡ record file { seen = safe.old.vault.seen; syncs = result.0.syncs } }
+    ensures few { IfOk result.1 (λ n. n ≤ limit) }
+    ensures same { safe.new.vault ≡ left_by_staging safe.old.vault safe.new.vault }
+    ensures risen { IfErr result.1 HasRisen }
+    ensures safe { Leaves D.view safe.old safe.new result.1 }
+{
+    let file = safe.show(file);
+    safe.stage(alloc, file, limit)
+}
+
+/// The same of a file that has seen the whole history of a copy, whose entries are made durable first. The book is free.
+pub fn stage_copied<J: Whose, D: Disk>(
+    alloc: Global,
+    safe: &mut Safe<J, D>,
+    file: FileDesk<J>,
+    copied: Copied,
+    limit: u32,
+) -> (FileDesk<J>, Result<u32, SafeFault>)
+    requires copied { IsCopy J.book safe.old.vault copied file.seen }
+    ensures file { result.0 ≡ record file { syncs = result.0.syncs } }
+    ensures few { IfOk result.1 (λ n. n ≤ limit) }
+    ensures same { safe.new.vault ≡ left_by_staging safe.old.vault safe.new.vault }
+    ensures risen { IfErr result.1 HasRisen }
+    ensures safe { Leaves D.view safe.old safe.new result.1 }
+{
+    if let Err(fault) = flush_copied(alloc, safe, copied) {
+        return (file, Err(fault));
+    }
+    safe.stage(alloc, file, limit)
 }
 
 #[tactic(auto, using(crate::proofs::Lent::told_saved))]

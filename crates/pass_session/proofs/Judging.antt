@@ -11,7 +11,7 @@ use Rattle.pass_entry.specs.declared.record.Record.TheVariants.{Ceiling}
 use Rattle.pass_entry.specs.Ranges.{is_number, IsInRange}
 use Rattle.pass_entry.proofs.Lists.{both_true}
 use Rattle.pass_graph.specs.Openings.{Continues}
-use Rattle.pass_keep.specs.Kept.{Story, IsLeft, IsBegun}
+use Rattle.pass_keep.specs.Kept.{IsLeft, IsBegun}
 use Rattle.pass_keep.specs.Keepers.{GoesOn}
 use Rattle.pass_log.specs.declared.fault.LogFault.{LogFault}
 use Rattle.pass_log.specs.declared.fault.LogFault.TheVariants as log
@@ -19,7 +19,6 @@ use Rattle.pass_log.specs.LogImage.{held_in}
 use Rattle.pass_log.specs.Records.{Held, image_of, ceiling_length}
 use Rattle.pass_outside.specs.Areas.{Image}
 use Rattle.pass_outside.specs.Moments.{Moment, IsAtEnd}
-use Rattle.pass_plain.specs.declared.start.Start.{Start}
 use Rattle.pass_plain.specs.declared.start.StartFile.{StartFile}
 use Rattle.pass_plain.specs.Legal.{session_of}
 use Rattle.pass_plain.specs.Sessions.{Session, opened_file, opened_app, opening_version}
@@ -30,6 +29,7 @@ use Rattle.pass_recover.specs.declared.fault.OpenFault.{OpenFault}
 use Rattle.pass_recover.specs.declared.fault.OpenFault.TheVariants as store
 use Rattle.pass_recover.specs.Faults.{LogHas, IsCauseOf}
 use Rattle.pass_recover.specs.Syncs.{LeavesRead}
+use Rattle.pass_vault.specs.Pooled.{Blocks}
 use Rattle.pass_vault.specs.Vaulted.{Vaulted}
 use Rattle.pass_vault.specs.Vaulted as vaults
 use Rattle.pass_vault.specs.Vaults.{begun_with}
@@ -37,7 +37,7 @@ use Rattle.pass_session.specs.declared.ground.Ground.{Ground}
 use Rattle.pass_session.specs.declared.opening.Found.{Found}
 use Rattle.pass_session.specs.Judgements.{last_end, image_fault, end_fault, fault_or, session_fault, IsOfStore}
 use Rattle.pass_session.specs.Lawful.{CeilingLaw}
-use Rattle.pass_session.specs.Openings.{IsListOf, IsOpening, IsLater, IsLeftAlone, IsUntouched, HasBegun, HasCeiling, story_of}
+use Rattle.pass_session.specs.Openings.{IsOpening, IsLater, IsLeftAlone, IsUntouched, story_of}
 use Rattle.pass_session.specs.Sessions.{OpenedView, HasSession, HasRefused, IsFound, IsGround, IsReady}
 
 -- Which fault it is
@@ -200,7 +200,7 @@ module _ {D : Type 0} (view : D → Moment) (old : Moment) (disk : D) (f : Found
 
       -- The vault is open.
       module _ (entries : ℕ) (g : Ground) (session_is : g.book.book.session ≡ session_of f.start objects) (places_are : g.book.places ≡ entries) (ground : IsGround g) (seat : VaultState) (taken : seat ≡ record { book = g.book.book; seen = []; syncs = [] })
-          (ceiling : ℕ) (high : ceiling ≡ f.start.ceiling + objects) (v : Vaulted D)
+          (ceiling : ℕ) (high : ceiling ≡ f.start.ceiling + objects) (pool : Blocks) (v : Vaulted D)
           (is : v ≡ record {
             book = seat.book;
             seen = seat.seen;
@@ -213,6 +213,8 @@ module _ {D : Type 0} (view : D → Moment) (old : Moment) (disk : D) (f : Found
             ready = (view v.disk).calls;
             opened = (view disk).faults;
             place = f.image.end + ceiling_length;
+            pool = pool;
+            unsynced = false;
           })
           (healthy : (view v.disk).faults ≡ (view disk).faults) (goes : GoesOn (view disk) (view v.disk)) where
         of_book : v.book ≡ g.book.book
@@ -259,6 +261,8 @@ module _ {D : Type 0} (view : D → Moment) (old : Moment) (disk : D) (f : Found
             ready = ap (λ (v : Vaulted D). v.ready) is i;
             opened = opened i;
             place = v.place;
+            pool = v.pool;
+            unsynced = ap (λ (v : Vaulted D). v.unsynced) is i;
           };
           objects_are = ap (λ (s : Session). s.objects) of_session;
           places = refl;

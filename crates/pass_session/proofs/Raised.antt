@@ -14,7 +14,7 @@ use Rattle.pass_entry.specs.declared.record.Record.TheVariants as log
 use Rattle.pass_keep.specs.Kept.{list_to}
 use Rattle.pass_plain.specs.Files.{file_act, file_after}
 use Rattle.pass_plain.specs.Histories.{is_fault, replay}
-use Rattle.pass_plain.specs.Records.{digest_of, content_records, is_digested, args_records, extra_records, version_records, lost_name, file_named, move_records, act_records, entry_records, records_of, list_of}
+use Rattle.pass_plain.specs.Records.{digest_of, content_records, is_digested, args_records, extra_records, version_records, lost_name, file_named, act_records, entry_records, records_of, list_of}
 use Rattle.pass_plain.specs.Registries.{Names}
 use Rattle.pass_plain.specs.Sessions.{Session}
 use Rattle.pass_plain.specs.Versions.{is_freeze, is_fresh, nodes_of, node_at_entry, source_in}

@@ -1,6 +1,6 @@
 -- An object of an opening by its place: it is the one of its number, and a file has the number of its place.
 use Rattle.std.proofs.Common.{◌≡◌, ℕ, zero, suc, ◌+◌, Bool, true, false, ◌==◌, ◌||◌, List, [], ◌∷◌, ◌++◌, length, map, refl, ap, sym, ◌∙◌, subst, arith, cond}
-use Rattle.std.specs.Prelude.{Option, Some, None, slice_get, find, is_some, option_map}
+use Rattle.std.specs.Prelude.{Some, None, slice_get, find, is_some, option_map}
 use Rattle.std.specs.Option.{option_map_or}
 use Rattle.std.proofs.lemmas.Option.{slice_get-map, slice_get_within}
 use Rattle.pass_entry.proofs.Lists.{same_numbers, same_itself}
@@ -8,7 +8,6 @@ use Rattle.pass_entry.specs.declared.objects.Kind.{Kind}
 use Rattle.pass_entry.specs.declared.objects.Kind.TheVariants as kind
 use Rattle.pass_entry.specs.declared.objects.Node.{Node}
 use Rattle.pass_plain.specs.declared.start.StartFile.{StartFile}
-use Rattle.pass_plain.specs.Registries.{opening_registry}
 use Rattle.pass_plain.specs.Sessions.{Session, opened_file, opened_app, is_opened, opening_version}
 use Rattle.pass_plain.specs.Sound.{IsSound}
 use Rattle.pass_book.specs.Numbers.{files_of, IsFileNumber}

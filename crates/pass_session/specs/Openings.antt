@@ -1,5 +1,5 @@
 -- What an opening leaves of a disk, and what it reads there. This project's own rule.
-use Rattle.std.specs.Prelude.{ℕ, ◌+◌, ◌≡◌, ◌≢◌, ◌⊎◌, ◌≤◌, IsTrue, List, [], None, Some, Ok, slice_get}
+use Rattle.std.specs.Prelude.{ℕ, ◌+◌, ◌≡◌, ◌≢◌, ◌≤◌, IsTrue, List, [], None, Some, Ok, slice_get}
 use Rattle.pass_entry.specs.declared.record.Record.{Record}
 use Rattle.pass_keep.specs.Kept.{Story, HasRecords, IsBegun}
 use Rattle.pass_log.specs.Records.{Held, image_of}

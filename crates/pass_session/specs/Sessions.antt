@@ -1,11 +1,10 @@
 -- A session that has been opened, and how it begins. This project's own rule.
-use Rattle.std.specs.Prelude.{◌≡◌, ℕ, ◌+◌, ◌≤◌, ◌^◌, ◌⊎◌, ◌<◌, IsTrue, List, [], Result, Ok, Err, Some, map, length}
+use Rattle.std.specs.Prelude.{◌≡◌, ℕ, ◌+◌, ◌≤◌, ◌^◌, ◌⊎◌, ◌<◌, IsTrue, List, [], Result, Ok, Err, Some, map, length, false}
 use Rattle.std.specs.List.{range_with_len}
 use Rattle.std.specs.Vec.{vec_capacity}
-use Rattle.std.specs.declared.alloc.Global.{Global}
 use Rattle.pass_entry.specs.declared.record.Record.{Record}
-use Rattle.pass_book.specs.Openings.{known_desk, new_desk, opening_numbers, registry_desk}
-use Rattle.pass_book.specs.Tokens.{BookId, BookState, DeskState, VaultState}
+use Rattle.pass_book.specs.Openings.{known_desk, new_desk, registry_desk}
+use Rattle.pass_book.specs.Tokens.{BookId}
 use Rattle.pass_graph.specs.Openings.{Continues}
 use Rattle.pass_keep.specs.Kept.{IsBegun}
 use Rattle.pass_log.specs.LogImage.{IsRead}
@@ -13,7 +12,7 @@ use Rattle.pass_outside.specs.Areas.{Image}
 use Rattle.pass_outside.specs.Moments.{Moment, IsAtEnd}
 use Rattle.pass_plain.specs.declared.start.Start.{Start}
 use Rattle.pass_plain.specs.Legal.{session_of}
-use Rattle.pass_plain.specs.Sessions.{Session, opening_version}
+use Rattle.pass_plain.specs.Sessions.{opening_version}
 use Rattle.pass_plain.specs.Sound.{IsSound}
 use Rattle.pass_plain.specs.WellLogged.{IsWellLogged}
 use Rattle.pass_range.specs.Lawful.{Tells}
@@ -28,7 +27,7 @@ use Rattle.pass_session.specs.declared.opening.Found.{Found}
 use Rattle.pass_session.specs.declared.ground.Desks.{Desks}
 use Rattle.pass_session.specs.declared.ground.Ground.{Ground}
 use Rattle.pass_session.specs.Layouts.{first_process}
-use Rattle.pass_session.specs.Judgements.{IsOfStore, session_fault, refusal_of, IsJudged}
+use Rattle.pass_session.specs.Judgements.{IsOfStore, session_fault}
 use Rattle.pass_session.specs.Openings.{IsOpening, IsLater, IsLeftAlone, IsUntouched, HasBegun, HasCeiling}
 
 -- What contracts see of a session that was opened: its vault, with its book and its disk, and how many entries it may have.
@@ -51,6 +50,8 @@ pub record HasSession {D : Type 0} (view : D → Moment) (old : Moment) (objects
     ready = (view o.vault.disk).calls;
     opened = old.faults;
     place = o.vault.place;
+    pool = o.vault.pool;
+    unsynced = false;
   }
   pub objects_are : o.vault.book.session.objects ≡ objects
   pub places : o.places ≡ entries

@@ -27,7 +27,9 @@ pub struct Opened<D: Disk> {
 }
 
 impl<D: Disk> Model for Opened<D> {
-    ghost use Rattle.std.specs.Coded.{codes};
+    ghost use Rattle.std.specs.Coded.{codes, coded_ℕ, coded_list};
+    ghost use Rattle.lru.specs.LruCache.{lru_cache_code};
+    ghost use Rattle.pass_pool.specs.contracts.pool.FileBlock as block_type;
     ghost use Rattle.pass_entry.specs.contracts.entry.Entry as entry_type;
     ghost use Rattle.pass_entry.specs.contracts.record.Record as record_type;
     ghost use Rattle.pass_plain.specs.contracts.start.Start as start_type;
@@ -35,7 +37,7 @@ impl<D: Disk> Model for Opened<D> {
 
     ghost Value = { OpenedView D };
 
-    ghost coded = { Prim.hlevel (codes, entry_type.the_row.coded, record_type.the_row.coded, start_type.the_row.coded) };
+    ghost coded = { Prim.hlevel (codes, entry_type.the_row.coded, record_type.the_row.coded, start_type.the_row.coded, lru_cache_code block_type.the_row.coded (coded_list coded_ℕ)) };
 
     ghost view = { λ o. record { vault = o.vault; places = o.ground.book.places } };
 

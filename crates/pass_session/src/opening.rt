@@ -1,5 +1,5 @@
 //! How a session begins over a disk.
-ghost use Rattle.std.specs.Prelude.{◌≡◌, ◌⊎◌, [], ◌+◌, ◌<◌, ◌≤◌, ◌^◌, ℕ, IsTrue, IfOk, IfErr};
+ghost use Rattle.std.specs.Prelude.{◌≡◌, ◌⊎◌, [], ◌+◌, ◌<◌, ◌≤◌, ◌^◌, ℕ, IsTrue, IfOk, IfErr, false};
 ghost use Rattle.pass_graph.specs.Openings.{Continues};
 ghost use Rattle.pass_keep.specs.Kept.{IsBegun};
 ghost use Rattle.pass_outside.specs.Areas.{Image};
@@ -64,6 +64,8 @@ pub fn open<D: Disk>(
       ready = (D.view o.vault.disk).calls;
       opened = (D.view disk).faults;
       place = o.vault.place;
+      pool = o.vault.pool;
+      unsynced = false;
     }) }
     ensures limits { IfOk result (λ o. (o.vault.book.session.objects ≡ objects) × (o.places ≡ entries)) }
     ensures opening { IfOk result (λ o. IsOpening (D.view disk) o.vault.before o.vault.book.session.start) }

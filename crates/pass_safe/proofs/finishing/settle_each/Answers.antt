@@ -25,7 +25,7 @@ loop-file-preserved g c =
     let here = ap (λ (s : BookState). s.history) inv.shelf in
     record {
       shelf = e.shelf ∙ (λ i. record (inv.shelf i) { syncs = c.settle_one.new.shelf.syncs });
-      vault = e.vault ∙ (λ i. record (inv.vault i) { disk = t.vault.disk; syncs = t.vault.syncs });
+      vault = e.vault ∙ (λ i. record (inv.vault i) { disk = t.vault.disk; pool = t.vault.pool; unsynced = t.vault.unsynced; syncs = t.vault.syncs });
       grows = prefix_trans old.vault.syncs s.vault.syncs t.vault.syncs inv.grows e.grows;
       done = more_settled (length h) c.loop-file.yielded file old.vault.syncs s.vault.syncs t.vault.syncs inv.done (subst (λ (h : List Entry). AreSettled (length h) (file ∷ []) s.vault.syncs t.vault.syncs) here o.done);
       clean = more_clean S h s.vault.syncs t.vault.syncs c.loop-file.yielded file e.grows inv.clean (subst (λ (h : List Entry). IsClean S h t.vault.syncs file.what) here o.clean);

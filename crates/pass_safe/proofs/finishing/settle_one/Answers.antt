@@ -8,10 +8,10 @@ use Rattle.pass_file.specs.Desks.{FileDeskView}
 use Rattle.pass_vault.specs.Vaulted.{Vaulted}
 use Rattle.pass_vault.specs.declared.vault.Receipt.{Receipt}
 use Rattle.pass_safe.specs.Safes.{Leaves, SafeView}
-use Rattle.pass_safe.specs.Settled.{AreSettled, IsClean, settled_by}
+use Rattle.pass_safe.specs.Settled.{AreSettled, IsClean, settled_to}
 use Rattle.pass_safe.proofs.Leaving.{leaves_err, leaves_ok}
 use Rattle.pass_safe.proofs.Lent.{err_on, ok_of, ok_on}
-use Rattle.pass_safe.proofs.Settles.{grown_one, settled_one}
+use Rattle.pass_safe.proofs.Settles.{grown_one, settled_one, settled_same, settled_seen, unsaved_same}
 use Rattle.pass_safe.proofs.finishing.settle_one.Goals as goal
 
 pub returns-in-Ok-clause-grows : goal.returns-in-Ok-clause-grows
@@ -20,10 +20,10 @@ returns-in-Ok-clause-grows g c =
     let v = c.join-file.new.self.vault in
     let w = c.settle-file.new.self.vault in
     let o = c.in-Ok._receipt in
-    let done = ok_of (λ (o : Option Receipt). w ≡ record v { disk = w.disk; syncs = settled_by f.what f.number v.syncs o }) c.settle-file.result.1 o c.in-Ok.is c.settle-file.ensures.done in
+    let done = ok_of (λ (o : Option Receipt). w ≡ settled_to v w f.what f.number o) c.settle-file.result.1 o c.in-Ok.is c.settle-file.ensures.done in
     let file = c.join-file.ensures.file in
     subst (λ (s : SafeView _). IsPrefix s.vault.syncs w.syncs) c.join-file.ensures.safe
-    (grown_one (length f.seen) c.args.file f v w (ap (λ (f : FileDeskView). f.what) file) (ap (λ (f : FileDeskView). f.number) file) o (ap (λ (v : Vaulted _). v.syncs) done))
+    (grown_one (length f.seen) c.args.file f v w (ap (λ (f : FileDeskView). f.what) file) (ap (λ (f : FileDeskView). f.number) file) o done)
 
 pub returns-in-Ok-clause-done : goal.returns-in-Ok-clause-done
 returns-in-Ok-clause-done g c =
@@ -31,12 +31,12 @@ returns-in-Ok-clause-done g c =
     let v = c.join-file.new.self.vault in
     let w = c.settle-file.new.self.vault in
     let o = c.in-Ok._receipt in
-    let done = ok_of (λ (o : Option Receipt). w ≡ record v { disk = w.disk; syncs = settled_by f.what f.number v.syncs o }) c.settle-file.result.1 o c.in-Ok.is c.settle-file.ensures.done in
+    let done = ok_of (λ (o : Option Receipt). w ≡ settled_to v w f.what f.number o) c.settle-file.result.1 o c.in-Ok.is c.settle-file.ensures.done in
     let told = ok_of (λ (o : Option Receipt). IfSome o (λ r. r ≡ record { calls = (g.D.Disk.view w.disk).calls; entries = length f.seen })) c.settle-file.result.1 o c.in-Ok.is c.settle-file.ensures.receipt in
     let file = c.join-file.ensures.file in
     subst (λ (s : SafeView _). AreSettled (length c.args.shelf.now.history) (c.args.file ∷ []) s.vault.syncs w.syncs) c.join-file.ensures.safe
     (settled_one (length c.args.shelf.now.history) c.args.file f v w (ap (λ (f : FileDeskView). f.what) file) (ap (λ (f : FileDeskView). f.number) file) o (g.D.Disk.view w.disk).calls
-    (ap (λ (f : FileDeskView). length f.seen) file) (ap (λ (v : Vaulted _). v.syncs) done) told)
+    (ap (λ (f : FileDeskView). length f.seen) file) done told)
 
 pub returns-in-Ok-clause-clean : goal.returns-in-Ok-clause-clean
 returns-in-Ok-clause-clean g c =
@@ -45,11 +45,11 @@ returns-in-Ok-clause-clean g c =
     let v = c.join-file.new.self.vault in
     let w = c.settle-file.new.self.vault in
     let o = c.in-Ok._receipt in
-    let done = ok_of (λ (o : Option Receipt). w ≡ record v { disk = w.disk; syncs = settled_by f.what f.number v.syncs o }) c.settle-file.result.1 o c.in-Ok.is c.settle-file.ensures.done in
+    let done = ok_of (λ (o : Option Receipt). w ≡ settled_to v w f.what f.number o) c.settle-file.result.1 o c.in-Ok.is c.settle-file.ensures.done in
     let safe = c.join-file.ensures.safe in
     let listed = subst (λ (s : SafeView _). IsPrefix f.syncs s.vault.syncs) (sym safe) c.join-file.ensures.listed in
     let clean : IsClean S w.seen w.syncs f.what = ok_on c.settle-file.result.1 o c.in-Ok.is c.settle-file.ensures.clean listed in
-    let seen = ap (λ (v : Vaulted _). v.seen) done ∙ ap (λ (s : SafeView _). s.vault.seen) safe ∙ c.requires.whole in
+    let seen = settled_seen v w f o done ∙ ap (λ (s : SafeView _). s.vault.seen) safe ∙ c.requires.whole in
     let what = ap (λ (f : FileDeskView). f.what) c.join-file.ensures.file in
     subst (λ (f : FileDeskView). IsClean S c.args.shelf.now.history w.syncs f.what) c.join-file.ensures.file (subst (λ (h : List Entry). IsClean S h w.syncs f.what) seen clean)
 
@@ -73,3 +73,19 @@ returns-clause-safe g c =
     let e = c.settle-file.ensures in
     let left : Leaves g.D.Disk.view c.join-file.new.self new c.settle-file.result.1 = record { fault = e.fault; lost = λ l has. ((e.lost l has).0, (e.lost l has).1); failed = e.failed; goes_on = e.goes_on } in
     leaves_err g.D.Disk.view c.args.safe.now new c.settle-file.result.1 (subst (λ (s : SafeView _). Leaves g.D.Disk.view s new c.settle-file.result.1) c.join-file.ensures.safe left) c.in-Err.fault c.in-Err.is
+
+pub returns-in-Ok-clause-vault : goal.returns-in-Ok-clause-vault
+returns-in-Ok-clause-vault g c =
+    let f = c.join-file.result in
+    let v = c.join-file.new.self.vault in
+    let w = c.settle-file.new.self.vault in
+    let o = c.in-Ok._receipt in
+    let done = ok_of (λ (o : Option Receipt). w ≡ settled_to v w f.what f.number o) c.settle-file.result.1 o c.in-Ok.is c.settle-file.ensures.done in
+    subst (λ (s : SafeView _). w ≡ record s.vault { disk = w.disk; pool = w.pool; unsynced = w.unsynced; syncs = w.syncs }) c.join-file.ensures.safe (settled_same v w f o done)
+
+pub returns-clause-vault : goal.returns-clause-vault
+returns-clause-vault g c =
+    let v = c.join-file.new.self.vault in
+    let w = c.settle-file.new.self.vault in
+    let undone = err_on c.settle-file.result.1 c.in-Err.fault c.in-Err.is c.settle-file.ensures.undone in
+    subst (λ (s : SafeView _). w ≡ record s.vault { disk = w.disk; pool = w.pool; unsynced = w.unsynced; syncs = w.syncs }) c.join-file.ensures.safe (unsaved_same v w undone)

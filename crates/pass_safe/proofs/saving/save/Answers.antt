@@ -1,6 +1,6 @@
-use Rattle.std.proofs.Common.{◌≡◌, ◌++◌, ◌∷◌, [], ap, length}
+use Rattle.std.proofs.Common.{◌≡◌, ap, length}
 use Rattle.pass_vault.specs.declared.vault.Receipt.{Receipt}
-use Rattle.pass_vault.specs.Vaulted.{file_synced}
+use Rattle.pass_safe.specs.Commits.{saved_to}
 use Rattle.pass_safe.proofs.Lent.{saved_of, file_saved_of, ok_of}
 use Rattle.pass_safe.proofs.saving.save.Goals as goal
 
@@ -13,7 +13,7 @@ returns-in-Ok-clause-saved g c =
     let e = c.save-file.ensures in
     let all = ok_of (λ (r : Receipt). r ≡ record { calls = (g.D.Disk.view w.disk).calls; entries = length file.seen }) c.save-file.result.1 r c.in-Ok.is e.receipt in
     saved_of g.J.Whose.book v w file r c.note-told.result
-    (ok_of (λ (r : Receipt). w ≡ record v { disk = w.disk; syncs = v.syncs ++ file_synced file.what file.number r.calls r.entries ∷ [] }) c.save-file.result.1 r c.in-Ok.is e.done) c.requires.seen
+    (ok_of (λ (r : Receipt). w ≡ saved_to v w file.what file.number r) c.save-file.result.1 r c.in-Ok.is e.done) c.requires.seen
     (ap (λ (r : Receipt). r.entries) all) c.note-told.ensures.note c.durable-durable.ensures.sound
 
 pub returns-in-Ok-clause-of_file : goal.returns-in-Ok-clause-of_file
@@ -25,5 +25,5 @@ returns-in-Ok-clause-of_file g c =
     let e = c.save-file.ensures in
     let all = ok_of (λ (r : Receipt). r ≡ record { calls = (g.D.Disk.view w.disk).calls; entries = length file.seen }) c.save-file.result.1 r c.in-Ok.is e.receipt in
     file_saved_of g.J.Whose.book v w file r c.note-told.result
-    (ok_of (λ (r : Receipt). w ≡ record v { disk = w.disk; syncs = v.syncs ++ file_synced file.what file.number r.calls r.entries ∷ [] }) c.save-file.result.1 r c.in-Ok.is e.done) c.requires.seen
+    (ok_of (λ (r : Receipt). w ≡ saved_to v w file.what file.number r) c.save-file.result.1 r c.in-Ok.is e.done) c.requires.seen
     (ap (λ (r : Receipt). r.entries) all) c.note-told.ensures.note

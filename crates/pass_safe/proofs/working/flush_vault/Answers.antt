@@ -1,4 +1,4 @@
-use Rattle.std.proofs.Common.{refl, ap, sym, ◌∙◌, subst, arith, length, ◌++◌, ◌∷◌, []}
+use Rattle.std.proofs.Common.{ap, sym, ◌∙◌, subst, arith, length, ◌++◌, ◌∷◌, []}
 use Rattle.pass_plain.specs.Sound.{IsSound}
 use Rattle.pass_book.specs.Parting.{lists_of}
 use Rattle.pass_book.specs.Records.{AreParts}
@@ -57,4 +57,4 @@ returns-in-Ok-clause-safe g c =
     let few = c.requires.few in
     let last = ap (λ (v : Vaulted _). durable v.syncs) e.done ∙ durable_last v.syncs (flushed (g.D.Disk.view w.disk).calls (length h)) in
     safe_still g.J.Whose.book g.D.Disk.view v w c.requires.safe (ap (λ (v : Vaulted _). v.book) e.done) (ap (λ (v : Vaulted _). v.opened) e.done) (omega (arith, few, same))
-    (flushed (g.D.Disk.view w.disk).calls (length h)) (ap (λ (v : Vaulted _). v.syncs) e.done) refl e.made.1 (omega (arith, last, same))
+    e.made.1 (omega (arith, last, same))

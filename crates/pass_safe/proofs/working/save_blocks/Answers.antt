@@ -45,7 +45,7 @@ returns-in-Ok-clause-safe g c =
     let whole = c.requires.safe.stands.1 in
     let last = ap (λ (v : Vaulted _). durable v.syncs) e.done ∙ durable_last v.syncs (file_synced d.what c.number-number.result (g.D.Disk.view w.disk).calls (durable v.syncs)) in
     safe_still g.J.Whose.book g.D.Disk.view v w c.requires.safe (ap (λ (v : Vaulted _). v.book) e.done) (ap (λ (v : Vaulted _). v.opened) e.done) (omega (arith, few, same))
-    (file_synced d.what c.number-number.result (g.D.Disk.view w.disk).calls (durable v.syncs)) (ap (λ (v : Vaulted _). v.syncs) e.done) refl e.made.1 (omega (arith, last, whole, same))
+    e.made.1 (omega (arith, last, whole, same))
 
 pub returns-in-Err-clause-safe : goal.returns-in-Err-clause-safe
 returns-in-Err-clause-safe g c =
@@ -63,7 +63,7 @@ returns-in-Err-clause-safe g c =
     let few = c.requires.safe.few in
     let same = ap length seen in
     answered Receipt B view w c.fault_of.result (DiskFault opened now) (c.fault_of.ensures.disk opened now is)
-    (safe_lost B view v w c.requires.safe (ap (λ (v : Vaulted _). v.book) failed.3) (ap (λ (v : Vaulted _). v.opened) failed.3) (omega (arith, few, same)) (ap (λ (v : Vaulted _). v.syncs) failed.3) opened now failed.0 failed.1 failed.2 e.goes_on.1))
+    (safe_lost B view v w c.requires.safe (ap (λ (v : Vaulted _). v.book) failed.3) (ap (λ (v : Vaulted _). v.opened) failed.3) (omega (arith, few, same)) opened now failed.0 failed.1 failed.2 e.goes_on.1))
     (λ opened now is. not_broken B view v v c.requires.safe (e.only_broken opened now (c.in-Err.is ∙ ap (λ (k : KeepFault). Err k) is)))
     (λ is. answered Receipt B view w c.fault_of.result NoMemory (c.fault_of.ensures.memory is) (subst (λ (x : Vaulted _). IsSafe B view x None) (sym (e.no_memory (c.in-Err.is ∙ ap (λ (k : KeepFault). Err k) is)).0) c.requires.safe))
 

@@ -1,10 +1,11 @@
-use Rattle.std.proofs.Common.{◌≡◌, ◌++◌, ◌∷◌, [], ℕ, List, refl, sym, ◌∙◌, subst, arith, length}
+use Rattle.std.proofs.Common.{◌≡◌, ◌⊎◌, ℕ, false, List, refl, sym, ◌∙◌, subst, arith, length}
 use Rattle.std.specs.Vec.{vec_len}
 use Rattle.pass_entry.specs.declared.entry.Entry.{Entry}
 use Rattle.pass_clean.specs.Blocks.{IsRisingBy}
-use Rattle.pass_safe.specs.Settled.{IsClean}
-use Rattle.pass_safe.proofs.Clean.{clean_not_dirty, is_zero, none_dirty, not_zero, some_dirty, stays_clean}
-use Rattle.pass_vault.specs.Vaulted.{file_synced}
+use Rattle.pass_vault.specs.Vaulted.{HasWaiting}
+use Rattle.pass_safe.specs.Settled.{HasDirty, HasUnwritten, IsClean}
+use Rattle.pass_safe.proofs.Clean.{is_zero, none_dirty, none_unwritten, not_zero, some_dirty, some_unwritten, stays_clean}
+use Rattle.pass_safe.specs.Commits.{saved_to}
 use Rattle.pass_vault.specs.declared.vault.Receipt.{Receipt}
 use Rattle.pass_safe.proofs.Lent.{ok_of, ok_on}
 use Rattle.pass_safe.proofs.Settles.{receipt_of}
@@ -13,34 +14,39 @@ use Rattle.pass_safe.proofs.working.settle_file.Goals as goal
 pub save_blocks-file-requires-clause-rising : goal.save_blocks-file-requires-clause-rising
 save_blocks-file-requires-clause-rising g c = subst (λ (l : List (ℕ × List ℕ)). IsRisingBy l) (sym c.deref.ensures.value) c.in-Ok.ensures.rising
 
-pub returns-then-is_empty-clause-clean : goal.returns-then-is_empty-clause-clean
-returns-then-is_empty-clause-clean g c =
+pub returns-then-is_settled-clause-clean : goal.returns-then-is_settled-clause-clean
+returns-then-is_settled-clause-clean g c =
     let S = g.J.Whose.book.session in
     let v = c.args.vault.now in
     let f = c.args.file in
-    let empty = is_zero (vec_len c.in-Ok.blocks) (sym c.is_empty.ensures ∙ c.if-is_empty.true) in
+    let empty = is_zero (vec_len c.in-Ok.blocks) (sym c.is_empty.ensures ∙ (c.is_settled.ensures.none c.if-is_settled.true).0) in
     let long = c.in-Ok.blocks.ok.0 in
     let none : length c.in-Ok.blocks.items ≡ 0 = omega (arith, empty, long) in
     λ listed.
     subst (λ (h : List Entry). IsClean S h v.syncs f.what) c.requires.seen
     (stays_clean S f.seen f.syncs v.syncs f.what listed (none_dirty S f.seen f.syncs f.what c.in-Ok.blocks.items c.in-Ok.ensures.dirty none))
 
-pub returns-then-is_empty-clause-dirty : goal.returns-then-is_empty-clause-dirty
-returns-then-is_empty-clause-dirty g c =
+pub returns-then-is_settled-clause-dirty : goal.returns-then-is_settled-clause-dirty
+returns-then-is_settled-clause-dirty g c =
     let S = g.J.Whose.book.session in
+    let v = c.args.vault.now in
     let f = c.args.file in
-    let empty = is_zero (vec_len c.in-Ok.blocks) (sym c.is_empty.ensures ∙ c.if-is_empty.true) in
+    let settled = c.is_settled.ensures.none c.if-is_settled.true in
+    let empty = is_zero (vec_len c.in-Ok.blocks) (sym c.is_empty.ensures ∙ settled.0) in
     let long = c.in-Ok.blocks.ok.0 in
     let none : length c.in-Ok.blocks.items ≡ 0 = omega (arith, empty, long) in
-    (λ some. absurd (cc), λ dirty. absurd (clean_not_dirty S f.seen f.syncs f.what (none_dirty S f.seen f.syncs f.what c.in-Ok.blocks.items c.in-Ok.ensures.dirty none) dirty))
+    let clean = none_dirty S f.seen f.syncs f.what c.in-Ok.blocks.items c.in-Ok.ensures.dirty none in
+    (λ some. absurd (cc), λ (left : HasUnwritten S f v). none_unwritten S f v clean (λ waits. settled.1 (subst (HasWaiting v) (sym c.number.ensures.number) waits)) left)
 
 pub returns-in-Ok-result-clause-dirty : goal.returns-in-Ok-result-clause-dirty
 returns-in-Ok-result-clause-dirty g c =
     let S = g.J.Whose.book.session in
+    let v = c.args.vault.now in
     let f = c.args.file in
     let long = c.in-Ok.blocks.ok.0 in
-    let some : length c.in-Ok.blocks.items ≡ 0 → ⊥ = λ none. not_zero (vec_len c.in-Ok.blocks) (sym c.is_empty.ensures ∙ c.if-is_empty.false) (omega (arith, none, long)) in
-    (λ is. some_dirty S f.seen f.syncs f.what c.in-Ok.blocks.items c.in-Ok.ensures.dirty some, λ dirty. refl)
+    let some : c.is_empty.result ≡ false → HasDirty S f.seen f.syncs f.what = λ full.
+    some_dirty S f.seen f.syncs f.what c.in-Ok.blocks.items c.in-Ok.ensures.dirty (λ none. not_zero (vec_len c.in-Ok.blocks) (sym c.is_empty.ensures ∙ full) (omega (arith, none, long))) in
+    (λ is. some_unwritten S f v some (subst (λ n. (c.is_empty.result ≡ false) ⊎ HasWaiting v n) c.number.ensures.number (c.is_settled.ensures.some c.if-is_settled.false)), λ left. refl)
 
 pub returns-in-Ok-result-clause-clean : goal.returns-in-Ok-result-clause-clean
 returns-in-Ok-result-clause-clean g c = λ listed. ok_on c.save_blocks-file.result.1 c.in-Ok-result.receipt c.in-Ok-result.is c.save_blocks-file.ensures.clean
@@ -54,5 +60,5 @@ returns-in-Ok-result-clause-synced g c =
     let calls = (g.D.Disk.view w.disk).calls in
     let e = c.save_blocks-file.ensures in
     receipt_of v w f r calls c.requires.seen
-    (ok_of (λ (r : Receipt). w ≡ record v { disk = w.disk; syncs = v.syncs ++ file_synced f.what f.number r.calls r.entries ∷ [] }) c.save_blocks-file.result.1 r c.in-Ok-result.is e.done)
+    (ok_of (λ (r : Receipt). w ≡ saved_to v w f.what f.number r) c.save_blocks-file.result.1 r c.in-Ok-result.is e.done)
     (ok_of (λ (r : Receipt). r ≡ record { calls = calls; entries = length f.seen }) c.save_blocks-file.result.1 r c.in-Ok-result.is e.receipt)

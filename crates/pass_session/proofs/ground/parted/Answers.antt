@@ -1,4 +1,4 @@
-use Rattle.std.proofs.Common.{◌≡◌, ◌∷◌, ◌++◌, ◌∙◌, sym}
+use Rattle.std.proofs.Common.{◌∷◌, ◌++◌, ◌∙◌, sym}
 use Rattle.pass_session.proofs.Parted.{only, whole}
 use Rattle.pass_session.proofs.ground.parted.Goals as goal
 

@@ -1,4 +1,4 @@
-use Rattle.std.proofs.Common.{◌≡◌, ◌+◌, ap, sym, ◌∙◌, subst, arith}
+use Rattle.std.proofs.Common.{◌+◌, ap, sym, ◌∙◌, subst, arith}
 use Rattle.pass_session.proofs.Judging.{of_disk}
 use Rattle.pass_session.proofs.Told.{on_session, on_refusal, judged_by, of_first}
 use Rattle.pass_session.proofs.opening.open.Goals as goal

@@ -1,4 +1,4 @@
-use Rattle.std.proofs.Common.{◌≡◌, ◌+◌, ◌-◌, ◌≤◌, length, suc, ap, sym, ◌∙◌, arith}
+use Rattle.std.proofs.Common.{◌-◌, length, ap, sym, ◌∙◌, arith}
 use Rattle.pass_book.specs.Openings.{opening_desks}
 use Rattle.pass_plain.specs.Sessions.{Session}
 use Rattle.pass_registry.specs.States.{opened}

@@ -1,7 +1,7 @@
 -- What is left of a store that was closed.
-use Rattle.std.proofs.Common.{◌≡◌, ◌<◌, ◌≤◌, ℕ, List, [], ◌∷◌, ◌++◌, false, length, map, refl, ap, sym, ◌∙◌, subst, arith}
-use Rattle.std.specs.Prelude.{IsTrue, Some, slice_get}
-use Rattle.std.specs.Option.{option_map}
+use Rattle.std.proofs.Common.{◌≡◌, ◌<◌, ◌≤◌, ℕ, zero, suc, Bool, List, [], ◌∷◌, ◌++◌, false, true, length, map, refl, ap, sym, ◌∙◌, subst, arith}
+use Rattle.std.specs.Prelude.{IsTrue, Option, Some, None, cond, slice_get}
+use Rattle.std.specs.Option.{option_map, option_map_or}
 use Rattle.std.proofs.lemmas.List.{map-append}
 use Rattle.std.proofs.lemmas.Option.{slice_get-map}
 use Rattle.std.proofs.lemmas.List.Elements.{All-append, All-cons, All-nil}
@@ -14,6 +14,7 @@ use Rattle.pass_entry.proofs.Lists.{in_take}
 use Rattle.pass_outside.specs.Areas.{Image}
 use Rattle.pass_outside.specs.Moments.{Moment}
 use Rattle.pass_plain.proofs.Appends.{slice_get-last}
+use Rattle.pass_plain.proofs.Lists.{some_is}
 use Rattle.pass_range.specs.Places.{place, Holds}
 use Rattle.pass_range.specs.Rows.{IsUnmatched}
 use Rattle.pass_plain.specs.Sessions.{Session}
@@ -25,7 +26,7 @@ use Rattle.pass_book.specs.declared.view.FileMark.{FileMark}
 use Rattle.pass_book.specs.declared.view.VaultSync.{VaultSync}
 use Rattle.pass_clean.specs.Cleaned.{is_dirty}
 use Rattle.pass_keep.specs.Kept.{Story, list_to, source_to, range_to, AreOlder, AreTimed, HasRecords, IsBegun, IsLeft, bound_of}
-use Rattle.pass_vault.specs.Vaulted.{Vaulted, noted_of, story_of}
+use Rattle.pass_vault.specs.Vaulted.{Vaulted, is_real, noted_of, real_syncs, story_of}
 use Rattle.pass_vault.specs.Vaults.{handed_of}
 use Rattle.pass_vault.specs.declared.vault.Receipt.{Receipt}
 use Rattle.pass_safe.specs.Settled.{EndsWith}
@@ -33,14 +34,25 @@ use Rattle.pass_proc.specs.Ends.{TrailView}
 use Rattle.pass_store.specs.Closings.{IsBackedBy, IsClosed, IsSettled, IsTold, story_at, synced_as}
 use Rattle.pass_store.specs.Grounds.{Ground, ground_of}
 
+-- a sync of a list that is no staging is among those of the list without its stagings
+into_real : (ss : List VaultSync) (i : ℕ) (x : VaultSync) → slice_get ss i ≡ Some x → x.staged ≡ None → (j : ℕ) × (slice_get (real_syncs ss) j ≡ Some x)
+into_real [] i x at whole = absurd (cc)
+into_real (s ∷ ss) zero x at whole = let same : s ≡ x = some_is s x at in (0, ap (λ (b : Bool). slice_get (cond b (s ∷ real_syncs ss) (real_syncs ss)) 0) (ap is_real same ∙ ap (λ (o : Option (List ℕ)). option_map_or (λ blocks. false) o true) whole) ∙ ap (λ (s : VaultSync). Some s) same)
+into_real (s ∷ ss) (suc i) x at whole = by_test (is_real s) (into_real ss i x at whole)
+  where
+    by_test : (b : Bool) → (j : ℕ) × (slice_get (real_syncs ss) j ≡ Some x) → (j : ℕ) × (slice_get (cond b (s ∷ real_syncs ss) (real_syncs ss)) j ≡ Some x)
+    by_test true rest = (suc rest.0, rest.1)
+    by_test false rest = rest
+
 -- the syncs that a vault hands out back what its list does
-handed_backs : (session : Session) (history : List Entry) (ss : List VaultSync) → IsBacked session history ss → IsBackedBy history (map handed_of ss)
+handed_backs : (session : Session) (history : List Entry) (ss : List VaultSync) → IsBacked session history ss → IsBackedBy history (map handed_of (real_syncs ss))
 handed_backs session history ss backed = λ q p fd e k at kept there before who number keeps.
     let has = (backed q e at fd p k kept (in_take p q history k before there) who number keeps).0 in
+    let real = into_real ss has.0 has.1 has.2 has.3.0 in
     record {
-      i = has.0;
+      i = real.0;
       x = handed_of has.1;
-      is = slice_get-map handed_of ss has.0 ∙ ap (option_map handed_of) has.2;
+      is = slice_get-map handed_of (real_syncs ss) real.0 ∙ ap (option_map handed_of) real.1;
       above = has.3.1;
       within = has.3.2;
     }
@@ -53,19 +65,19 @@ module _ {D : Type 0} (v : Vaulted D) (book : BookId) (ground : Ground) (history
   -- what stands on its disk
   pub closes : (m : Moment) → IsBegun (story_of v) m
       → (IsTrue m.tells → (c : Image) → m.left_since v.ready c → IsLeft (story_of v) 0 (λ number. 0) c)
-      → (IsTrue m.tells → (i : ℕ) (x : VaultSync) → slice_get v.syncs i ≡ Some x → (c : Image) → m.left_since x.calls c → IsLeft (story_of v) x.entries (bound_of (noted_of x)) c)
-      → (IsTrue m.tells → (i : ℕ) (x : VaultSync) (f : FileMark) → slice_get v.syncs i ≡ Some x → x.file ≡ Some f → (c : Image) → m.left_since x.calls c
+      → (IsTrue m.tells → (i : ℕ) (x : VaultSync) → slice_get (real_syncs v.syncs) i ≡ Some x → (c : Image) → m.left_since x.calls c → IsLeft (story_of v) x.entries (bound_of (noted_of x)) c)
+      → (IsTrue m.tells → (i : ℕ) (x : VaultSync) (f : FileMark) → slice_get (real_syncs v.syncs) i ≡ Some x → x.file ≡ Some f → (c : Image) → m.left_since x.calls c
       → (n : ℕ) → n ≤ length v.seen → HasRecords (list_to (story_of v) n) c.log → (block at : ℕ) → source_to (story_of v) n f.pnode block ≡ Some at → at < x.entries
       → Holds (place f.number block) (range_to (story_of v) n f.pnode block) c.store × (IsUnmatched (list_to (story_of v) n) c.store f.pnode block → ⊥))
-      → AreTimed m (length v.seen) (map handed_of v.syncs) → IsBacked book.session history v.syncs
-      → (syncs : List Synced) → syncs ≡ map handed_of v.syncs → IsClosed (story_at book ground history) ground.ready m syncs
+      → AreTimed m (length v.seen) (map handed_of (real_syncs v.syncs)) → IsBacked book.session history v.syncs
+      → (syncs : List Synced) → syncs ≡ map handed_of (real_syncs v.syncs) → IsClosed (story_at book ground history) ground.ready m syncs
   closes m begun opened since matched timed backed syncs handed =
       let ready : v.ready ≡ ground.ready = ap (λ (g : Ground). g.ready) of_ground in
       subst (λ (s : Story). IsClosed s ground.ready m syncs) story_is
       (record {
         begun = begun;
         opened = subst (λ (n : ℕ). IsTrue m.tells → (c : Image) → m.left_since n c → IsLeft (story_of v) 0 (λ number. 0) c) ready opened;
-        all = v.syncs;
+        all = real_syncs v.syncs;
         handed = handed;
         since = since;
         matched = matched;
@@ -75,27 +87,27 @@ module _ {D : Type 0} (v : Vaulted D) (book : BookId) (ground : Ground) (history
 
   -- where its last sync has all entries, and no block is dirty
   pub settles : (m : Moment)
-      → (IsTrue m.tells → (i : ℕ) (x : VaultSync) → slice_get v.syncs i ≡ Some x → (c : Image) → m.left_since x.calls c → IsLeft (story_of v) x.entries (bound_of (noted_of x)) c)
-      → (IsTrue m.tells → (front : List VaultSync) (last : VaultSync) → v.syncs ≡ front ++ last ∷ [] → last.entries ≡ length v.seen
+      → (IsTrue m.tells → (i : ℕ) (x : VaultSync) → slice_get (real_syncs v.syncs) i ≡ Some x → (c : Image) → m.left_since x.calls c → IsLeft (story_of v) x.entries (bound_of (noted_of x)) c)
+      → (IsTrue m.tells → (front : List VaultSync) (last : VaultSync) → real_syncs v.syncs ≡ front ++ last ∷ [] → last.entries ≡ length v.seen
       → ((file block : ℕ) → block < block_count → is_dirty v.book.session v.seen v.syncs file block ≡ false)
-      → (c : Image) → m.left_since last.calls c
+      → v.pool.entries ≡ [] → v.unsynced ≡ false → (c : Image) → m.left_since last.calls c
       → HasRecords (list_to (story_of v) (length v.seen)) c.log
       × ((file block at : ℕ) → source_to (story_of v) (length v.seen) file block ≡ Some at → IsUnmatched (list_to (story_of v) (length v.seen)) c.store file block → ⊥))
-      → (syncs : List Synced) → syncs ≡ map handed_of v.syncs
-      → (r : Receipt) → EndsWith r.calls r.entries v.syncs → r.entries ≡ length history
+      → (syncs : List Synced) → syncs ≡ map handed_of (real_syncs v.syncs)
+      → (r : Receipt) → EndsWith r.calls r.entries (real_syncs v.syncs) → r.entries ≡ length history → (v.pool.entries ≡ []) × (v.unsynced ≡ false)
       → ((file block : ℕ) → block < block_count → is_dirty book.session history v.syncs file block ≡ false)
       → IsSettled (story_at book ground history) m syncs r
-  settles m since settled syncs handed r ends all clean =
+  settles m since settled syncs handed r ends all written clean =
       let long : r.entries ≡ length v.seen = all ∙ ap length (sym whole) in
       let here : ends.last.entries ≡ length v.seen = ends.has ∙ long in
       let cleaned : (file block : ℕ) → block < block_count → is_dirty v.book.session v.seen v.syncs file block ≡ false =
       subst (λ (h : List Entry). (file block : ℕ) → block < block_count → is_dirty v.book.session h v.syncs file block ≡ false) (sym whole)
       (subst (λ (b : BookId). (file block : ℕ) → block < block_count → is_dirty b.session history v.syncs file block ≡ false) (sym of_book) clean) in
-      let at : slice_get v.syncs (length ends.front) ≡ Some ends.last = ap (λ (ss : List VaultSync). slice_get ss (length ends.front)) ends.list ∙ slice_get-last ends.front ends.last in
+      let at : slice_get (real_syncs v.syncs) (length ends.front) ≡ Some ends.last = ap (λ (ss : List VaultSync). slice_get ss (length ends.front)) ends.list ∙ slice_get-last ends.front ends.last in
       let last_is : handed_of ends.last ≡ synced_as r = λ i. record { calls = ends.called i; entries = ends.has i } in
       let told : IsTrue m.tells → (c : Image) → m.left_since r.calls c → HasRecords (list_to (story_of v) (length v.seen)) c.log
       × ((file block at : ℕ) → source_to (story_of v) (length v.seen) file block ≡ Some at → IsUnmatched (list_to (story_of v) (length v.seen)) c.store file block → ⊥) =
-      λ tells c left. settled tells ends.front ends.last ends.list here cleaned c (subst (λ (n : ℕ). m.left_since n c) (sym ends.called) left) in
+      λ tells c left. settled tells ends.front ends.last ends.list here cleaned written.0 written.1 c (subst (λ (n : ℕ). m.left_since n c) (sym ends.called) left) in
       subst (λ (s : Story). IsSettled s m syncs r) story_is
       (record {
         front = map handed_of ends.front;

@@ -1,11 +1,10 @@
 -- What a vault was opened with stays, whatever a sync does.
-use Rattle.std.proofs.Common.{◌≡◌, ℕ, Bool, ◌<◌, ◌≤◌, List, inl, inr, ap, sym, subst, refl, ◌∙◌, ◌++◌, ◌∷◌, [], arith}
+use Rattle.std.proofs.Common.{◌≡◌, ℕ, Bool, List, inl, inr, ap, sym, subst, refl, ◌∙◌, arith}
 use Rattle.std.specs.Prelude.{Result, Ok, Err, IfOk, OnErr}
 use Rattle.pass_entry.specs.declared.entry.Entry.{Entry}
 use Rattle.pass_file.specs.Desks.{FileDeskView}
-use Rattle.pass_vault.specs.Vaulted.{Vaulted, file_synced}
-use Rattle.pass_vault.specs.declared.vault.Receipt.{Receipt}
-use Rattle.pass_safe.specs.Commits.{HasCommitted, HasNotFlushed, HasStopped, flushed_to}
+use Rattle.pass_vault.specs.Vaulted.{Vaulted}
+use Rattle.pass_safe.specs.Commits.{HasCommitted, HasNotFlushed, HasStopped, flushed_to, saved_to, unsaved_to}
 use Rattle.pass_safe.specs.Safes.{Leaves, SafeView}
 use Rattle.pass_safe.specs.declared.fault.SafeFault.{SafeFault}
 use Rattle.pass_safe.specs.declared.saving.Saved.{Saved}
@@ -23,7 +22,7 @@ committed ground f old new (Ok s) was done undone = ap ground_of done.vault ∙ 
 committed ground f old new (Err e) was done undone = stopped f.seen old new undone ∙ was
 
 pub shared : {D : Type 0} (ground : Ground) (f : FileDeskView) (old new : Vaulted D) (answer : Result Saved SafeFault) → ground_of old ≡ ground
-    → IfOk answer (λ s. new ≡ record old { disk = new.disk; syncs = old.syncs ++ file_synced f.what f.number s.receipt.calls s.receipt.entries ∷ [] }) → OnErr answer (new ≡ record old { disk = new.disk })
+    → IfOk answer (λ s. new ≡ saved_to old new f.what f.number s.receipt) → OnErr answer (new ≡ unsaved_to old new)
     → ground_of new ≡ ground
 shared ground f old new (Ok s) was done undone = ap ground_of done ∙ was
 shared ground f old new (Err e) was done undone = ap ground_of undone ∙ was

@@ -13,14 +13,16 @@ use pass_file::FileDesk;
 use pass_hold::Shelf;
 use pass_outside::Disk;
 use pass_proc::Proc;
+use pass_registry::RegistryDesk;
 use pass_safe::{
-    Copied, Keeping, Safe, SafeFault, Saved, commit, commit_entries, copy, copy_entries,
-    is_durable, is_seen, settle_copied, settle_shared, share, share_entries, told,
+    Copied, Keeping, Safe, SafeFault, Saved, commit, commit_entries, copy, copy_all, copy_entries,
+    flush_copied, is_durable, is_seen, settle_copied, settle_shared, share, share_entries,
+    stage_copied, stage_shared, told,
 };
 use pass_vault::Receipt;
 use std::alloc::{AllocError, Global};
 use std::marker::Model;
-use std::sync::{Mutex, Wait};
+use std::sync::{Mutex, MutexGuard, Wait};
 
 /// The vault of a store, which was opened as its store says.
 #[derive(Drop)]
@@ -30,7 +32,9 @@ pub struct Cellar<J: Opening, D: Disk> {
 
 impl<J: Opening, D: Disk> Model for Cellar<J, D> {
     ghost use Rattle.std.specs.Prelude.{◌≡◌};
-    ghost use Rattle.std.specs.Coded.{codes};
+    ghost use Rattle.std.specs.Coded.{codes, coded_ℕ, coded_list};
+    ghost use Rattle.lru.specs.LruCache.{lru_cache_code};
+    ghost use Rattle.pass_pool.specs.contracts.pool.FileBlock as block_type;
     ghost use Rattle.pass_entry.specs.contracts.entry.Entry as entry_type;
     ghost use Rattle.pass_entry.specs.contracts.record.Record as record_type;
     ghost use Rattle.pass_plain.specs.contracts.start.Start as start_type;
@@ -39,7 +43,7 @@ impl<J: Opening, D: Disk> Model for Cellar<J, D> {
 
     ghost Value = { SafeView D };
 
-    ghost coded = { Prim.hlevel (codes, entry_type.the_row.coded, record_type.the_row.coded, start_type.the_row.coded) };
+    ghost coded = { Prim.hlevel (codes, entry_type.the_row.coded, record_type.the_row.coded, start_type.the_row.coded, lru_cache_code block_type.the_row.coded (coded_list coded_ℕ)) };
 
     ghost view = { λ c. c.safe };
 
@@ -312,5 +316,106 @@ impl<J: Opening, D: Disk> Cellar<J, D> {
     {
         let (file, settled) = self.write_file(rt, alloc, book, file);
         (file, self.told(settled))
+    }
+}
+
+impl<J: Opening, D: Disk> Cellar<J, D> {
+    /// Copies what is not durable, in one hold of the book. The registry sees the whole history.
+    fn copy_known<R: Wait>(
+        &mut self,
+        rt: &R,
+        book: &Mutex<Shelf<J>>,
+        registry: &mut RegistryDesk<J>,
+    ) -> Result<Copied, AllocError>
+        ensures same { self.new ≡ self.old }
+        ensures copied { IfOk result (λ c. (seen : List AnyEntry) × IsCopy J.book self.old.vault c seen) }
+    {
+        let mut shelf = book.lock(rt);
+        copy_all(&mut self.safe, registry, &mut shelf)
+    }
+
+    #[tactic(auto, using(crate::proofs::Grounding::left_on, crate::proofs::Standing::flushed_stand, crate::proofs::Standing::fault_since))]
+    /// Makes the entries that were copied durable.
+    fn flush_known(&mut self, alloc: Global, copied: Copied) -> Result<Receipt, SafeFault>
+        requires { (seen : List AnyEntry) × IsCopy J.book self.old.vault copied seen }
+        ensures { IfErr result (IsFaultSince D.view J.ground.opened) }
+    {
+        flush_copied(alloc, &mut self.safe, copied)
+    }
+
+    /// Makes every entry durable. Registry and book are free while the disk is at work.
+    pub(crate) fn flush_history<R: Wait>(
+        &mut self,
+        rt: &R,
+        alloc: Global,
+        book: &Mutex<Shelf<J>>,
+        registry: MutexGuard<'_, RegistryDesk<J>>,
+    ) -> Result<Receipt, SafeFault>
+        ensures { IfErr result (IsFaultSince D.view J.ground.opened) }
+    {
+        let mut registry = registry;
+        let copied = self.copy_known(rt, book, &mut registry);
+        drop(registry);
+        match copied {
+            Ok(copied) => self.flush_known(alloc, copied),
+            Err(_) => Err(SafeFault::NoMemory),
+        }
+    }
+}
+
+impl<J: Opening, D: Disk> Cellar<J, D> {
+    #[tactic(auto, using(crate::proofs::Grounding::left_on, crate::proofs::Standing::staged_stand, crate::proofs::Standing::fault_since))]
+    /// Lets so many changed blocks of a file at most wait in memory, all of whose entries are durable.
+    fn stage_seen(
+        &mut self,
+        alloc: Global,
+        file: FileDesk<J>,
+        limit: u32,
+    ) -> (FileDesk<J>, Result<u32, SafeFault>)
+        requires { length file.seen ≤ durable self.old.vault.syncs }
+        ensures few { IfOk result.1 (λ n. n ≤ limit) }
+        ensures fault { IfErr result.1 (IsFaultSince D.view J.ground.opened) }
+    {
+        stage_shared(alloc, &mut self.safe, file, limit)
+    }
+
+    #[tactic(auto, using(crate::proofs::Grounding::left_on, crate::proofs::Standing::staged_stand, crate::proofs::Standing::fault_since))]
+    /// Makes the entries that were copied durable, and then does the same.
+    fn stage_unseen(
+        &mut self,
+        alloc: Global,
+        file: FileDesk<J>,
+        copied: Copied,
+        limit: u32,
+    ) -> (FileDesk<J>, Result<u32, SafeFault>)
+        requires { IsCopy J.book self.old.vault copied file.seen }
+        ensures few { IfOk result.1 (λ n. n ≤ limit) }
+        ensures fault { IfErr result.1 (IsFaultSince D.view J.ground.opened) }
+    {
+        stage_copied(alloc, &mut self.safe, file, copied, limit)
+    }
+
+    /// Lets so many changed blocks of a file at most wait in memory, once its entries are durable, and answers their number. The book is
+    /// locked while they are copied, and free while the disk is at work.
+    pub(crate) fn stage_file<R: Wait>(
+        &mut self,
+        rt: &R,
+        alloc: Global,
+        book: &Mutex<Shelf<J>>,
+        file: FileDesk<J>,
+        limit: u32,
+    ) -> (FileDesk<J>, Result<u32, SafeFault>)
+        ensures few { IfOk result.1 (λ n. n ≤ limit) }
+        ensures fault { IfErr result.1 (IsFaultSince D.view J.ground.opened) }
+    {
+        let (file, seen) = is_seen(&self.safe, file);
+        if seen {
+            return self.stage_seen(alloc, file, limit);
+        }
+        let mut file = file;
+        match self.copy_file(rt, book, &mut file) {
+            Ok(copied) => self.stage_unseen(alloc, file, copied, limit),
+            Err(_) => (file, Err(SafeFault::NoMemory)),
+        }
     }
 }

@@ -1,13 +1,15 @@
 //! The end of a store.
-ghost use Rattle.std.specs.Prelude.{◌≡◌, ◌<◌, ℕ, false, IfErr, IfOk, OnOk, length};
+ghost use Rattle.std.specs.Prelude.{◌≡◌, ◌<◌, [], ℕ, false, IfErr, IfOk, OnOk, length};
 ghost use Rattle.std.specs.List.{All};
 ghost use Rattle.pass_entry.specs.Limits.{block_count};
 ghost use Rattle.pass_plain.specs.Legal.{IsLegal};
 ghost use Rattle.pass_plain.specs.Sound.{IsSound};
 ghost use Rattle.pass_book.specs.Syncs.{IsBacked};
 ghost use Rattle.pass_clean.specs.Cleaned.{is_dirty};
+ghost use Rattle.pass_vault.specs.Vaulted.{real_syncs};
 ghost use Rattle.pass_vault.specs.declared.vault.Receipt.{Receipt as AnyReceipt};
 ghost use Rattle.pass_safe.specs.Settled.{EndsWith};
+ghost use Rattle.pass_safe.specs.Syncings.{end_of};
 ghost use Rattle.pass_store.specs.Closings.{IsClosed, IsSettled, IsTold, IsUnsettled, answer_of, story_at};
 ghost use Rattle.pass_store.specs.Grounds.{HasGoneOn, ground_of};
 
@@ -63,7 +65,7 @@ fn close<J: Opening, D: Disk>(
     ensures start { result.start ≡ start }
     ensures disk { result.disk ≡ vault.disk }
     ensures closed { IsClosed (story_at J.book J.ground result.history.items) J.ground.ready (D.view result.disk) result.syncs.items }
-    ensures settled { (r : AnyReceipt) → EndsWith r.calls r.entries vault.syncs → r.entries ≡ length history.items
+    ensures settled { (r : AnyReceipt) → EndsWith r.calls r.entries (real_syncs vault.syncs) → r.entries ≡ length history.items → (vault.pool.entries ≡ []) × (vault.unsynced ≡ false)
         → ((file block : ℕ) → block < block_count → is_dirty J.book.session history.items vault.syncs file block ≡ false)
         → IsSettled (story_at J.book J.ground result.history.items) (D.view result.disk) result.syncs.items r }
 {
@@ -98,14 +100,23 @@ fn tell_all<J: Whose>(shelf: &mut Shelf<J>, trails: Vec<Trail<J>>)
     }
 }
 
+/// A fault of the vault, as a call answers it.
+pub(crate) fn ended_by(fault: SafeFault) -> CallEnd
+    ensures { result ≡ end_of fault }
+{
+    match fault {
+        SafeFault::DiskFault { opened, now } => CallEnd::DiskFault { opened, now },
+        SafeFault::NoMemory => CallEnd::NoMemory,
+    }
+}
+
 /// How settling went, as a call answers it.
 pub(crate) fn answered(settled: Result<Receipt, SafeFault>) -> Result<Receipt, CallEnd>
     ensures { result ≡ answer_of settled }
 {
     match settled {
         Ok(receipt) => Ok(receipt),
-        Err(SafeFault::DiskFault { opened, now }) => Err(CallEnd::DiskFault { opened, now }),
-        Err(SafeFault::NoMemory) => Err(CallEnd::NoMemory),
+        Err(fault) => Err(ended_by(fault)),
     }
 }
 

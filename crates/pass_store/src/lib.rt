@@ -20,6 +20,7 @@ mod slot;
 mod store;
 mod syncing;
 mod transfers;
+mod trickling;
 mod waiting;
 
 pub use cellar::Cellar;

@@ -1,10 +1,11 @@
 //! The end of a session: its files come out of their locks, and everything becomes durable.
-ghost use Rattle.std.specs.Prelude.{◌≡◌, ◌<◌, ℕ, Err, false, IfOk, OnOk, length};
+ghost use Rattle.std.specs.Prelude.{◌≡◌, ◌<◌, [], ℕ, Err, false, IfOk, OnOk, length};
 ghost use Rattle.pass_entry.specs.Limits.{block_count};
 ghost use Rattle.pass_plain.specs.Legal.{IsLegal};
 ghost use Rattle.pass_plain.specs.Sound.{IsSound};
 ghost use Rattle.pass_book.specs.Syncs.{IsBacked};
 ghost use Rattle.pass_clean.specs.Cleaned.{is_dirty};
+ghost use Rattle.pass_vault.specs.Vaulted.{real_syncs};
 ghost use Rattle.pass_safe.specs.Safes.{IsLost};
 ghost use Rattle.pass_safe.specs.Settled.{AreAll, EndsWith};
 ghost use Rattle.pass_safe.specs.declared.fault.SafeFault.TheVariants.{DiskFault};
@@ -137,7 +138,7 @@ pub(crate) fn unsettled<J: Whose, D: Disk>(
     (shelf.into_history(), vault)
 }
 
-/// Makes every entry durable, and then writes the changed blocks of each of these files.
+/// Makes every entry durable, and then writes the changed blocks of each of these files, and those that wait.
 fn settle_files<J: Whose, D: Disk>(
     alloc: Global,
     registry: RegistryDesk<J>,
@@ -154,8 +155,9 @@ fn settle_files<J: Whose, D: Disk>(
     ensures backed { IsBacked J.book.session result.history.items result.vault.syncs }
     ensures ground { ground_of result.vault ≡ ground_of safe.vault }
     ensures goes_on { GoesOn (D.view safe.vault.disk) (D.view result.vault.disk) }
-    ensures done { IfOk result.settled (λ r. EndsWith r.calls r.entries result.vault.syncs × (r.entries ≡ length result.history.items)) }
+    ensures done { IfOk result.settled (λ r. EndsWith r.calls r.entries (real_syncs result.vault.syncs) × (r.entries ≡ length result.history.items)) }
     ensures clean { OnOk result.settled ((file block : ℕ) → block < block_count → is_dirty J.book.session result.history.items result.vault.syncs file block ≡ false) }
+    ensures written { OnOk result.settled ((result.vault.pool.entries ≡ []) × (result.vault.unsynced ≡ false)) }
     ensures healthy { OnOk result.settled ((D.view result.vault.disk).faults ≡ safe.vault.opened) }
     ensures failed { (opened found : ℕ) → result.settled ≡ Err (DiskFault opened found) → IsLost (D.view result.vault.disk) safe.vault.opened (record { opened = opened; found = found }) }
 {
@@ -176,7 +178,7 @@ fn settle_files<J: Whose, D: Disk>(
 }
 
 #[tactic(auto, using(crate::proofs::Grounding::stays_on))]
-/// Makes every entry of a session durable, and then writes the changed blocks of its files, which lie in these locks.
+/// Makes every entry of a session durable, and then writes the changed blocks of its files, which lie in these locks, and those that wait.
 pub(crate) fn settle_all<J: Whose, D: Disk>(
     alloc: Global,
     slots: Vec<Mutex<Slot<J>>>,
@@ -192,8 +194,9 @@ pub(crate) fn settle_all<J: Whose, D: Disk>(
     ensures backed { IsBacked J.book.session result.history.items result.vault.syncs }
     ensures ground { ground_of result.vault ≡ ground_of safe.vault }
     ensures goes_on { GoesOn (D.view safe.vault.disk) (D.view result.vault.disk) }
-    ensures done { IfOk result.settled (λ r. EndsWith r.calls r.entries result.vault.syncs × (r.entries ≡ length result.history.items)) }
+    ensures done { IfOk result.settled (λ r. EndsWith r.calls r.entries (real_syncs result.vault.syncs) × (r.entries ≡ length result.history.items)) }
     ensures clean { OnOk result.settled ((file block : ℕ) → block < block_count → is_dirty J.book.session result.history.items result.vault.syncs file block ≡ false) }
+    ensures written { OnOk result.settled ((result.vault.pool.entries ≡ []) × (result.vault.unsynced ≡ false)) }
     ensures healthy { OnOk result.settled ((D.view result.vault.disk).faults ≡ safe.vault.opened) }
     ensures failed { (opened found : ℕ) → result.settled ≡ Err (DiskFault opened found) → IsLost (D.view result.vault.disk) safe.vault.opened (record { opened = opened; found = found }) }
 {

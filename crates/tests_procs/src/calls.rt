@@ -24,6 +24,8 @@ pub enum Call {
     Sync(u8),
     /// Makes all durable that stands.
     Settle,
+    /// Puts so many changed blocks aside at most.
+    Trickle(u32),
     /// Meets the process at this place.
     Meet(usize),
     /// Ends, and the process at this place meets what it had seen.
@@ -134,6 +136,10 @@ fn on_held<J: Opening, D: Disk, G: Gate, R: Wait>(
         Call::Seen => Answer::Number(proc.seen()),
         Call::Settle => match store.settle(rt, alloc, proc) {
             Ok(receipt) => Answer::Synced(receipt.calls, receipt.entries),
+            Err(end) => ended(&end),
+        },
+        Call::Trickle(limit) => match store.trickle(rt, alloc, limit) {
+            Ok(count) => Answer::Number(u64::from(count)),
             Err(end) => ended(&end),
         },
         _ => Answer::Other,

@@ -13,10 +13,10 @@ returns-clause-closed g c =
     (closes v J.book g.J.Opening.ground c.args.history.items c.requires.book c.requires.ground c.requires.whole (g.D.Disk.view v.disk) e.begun e.opened e.since e.matched e.timed c.requires.backed syncs c.into_disk-disk.ensures.syncs)
 
 pub returns-clause-settled : goal.returns-clause-settled
-returns-clause-settled g c = λ r ends all clean.
+returns-clause-settled g c = λ r ends all written clean.
     let J = g.J.Whose in
     let v = c.args.vault in
     let e = c.images.ensures in
     let syncs = c.into_disk-disk.result.1.items in
     subst (λ d. IsSettled (story_at J.book g.J.Opening.ground c.args.history.items) (g.D.Disk.view d) syncs r) (sym c.into_disk-disk.ensures.disk)
-    (settles v J.book g.J.Opening.ground c.args.history.items c.requires.book c.requires.ground c.requires.whole (g.D.Disk.view v.disk) e.since e.settled syncs c.into_disk-disk.ensures.syncs r ends all clean)
+    (settles v J.book g.J.Opening.ground c.args.history.items c.requires.book c.requires.ground c.requires.whole (g.D.Disk.view v.disk) e.since e.settled syncs c.into_disk-disk.ensures.syncs r ends all written clean)

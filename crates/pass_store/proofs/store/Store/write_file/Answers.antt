@@ -1,10 +1,11 @@
-use Rattle.std.proofs.Common.{◌≡◌, false, length, subst, sym, true}
+use Rattle.std.proofs.Common.{◌≡◌, ap, false, length, subst, sym, true}
 use Rattle.std.specs.Prelude.{None, Some}
 use Rattle.std.specs.FinMap as finite_map
 use Rattle.pass_entry.specs.declared.entry.Ask.TheVariants as ask
 use Rattle.pass_entry.specs.declared.objects.Descriptor.{Descriptor}
 use Rattle.pass_plain.specs.declared.request.Request.TheVariants as requests
 use Rattle.pass_plain.specs.Processes.{is_file, refusal}
+use Rattle.pass_file.specs.Desks.{FileDeskView}
 use Rattle.pass_proc.specs.Procs.{is_way}
 use Rattle.pass_calls.specs.Answers.{Answers}
 use Rattle.pass_store.proofs.store.Store.write_file.Goals as goal
@@ -15,7 +16,7 @@ write_file-requires-clause-free g c =
 
 pub write_file-requires-clause-object : goal.write_file-requires-clause-object
 write_file-requires-clause-object g c =
-    subst (λ what. (d : Descriptor) → finite_map.get c.args.proc.now.state.descriptors c.args.fd ≡ Some d → is_file d ≡ true × what ≡ d.pnode) (sym c.in_ok-ready.ensures.what) c.requires.object
+    subst (λ what. (d : Descriptor) → finite_map.get c.args.proc.now.state.descriptors c.args.fd ≡ Some d → is_file d ≡ true × what ≡ d.pnode) (sym (ap (λ (f : FileDeskView). f.what) c.in_ok-ready.ensures.same)) c.requires.object
 
 pub write_file-requires-clause-new : goal.write_file-requires-clause-new
 write_file-requires-clause-new g c = subst (λ bytes. is_way c.args.proc.now.way c.args.fd bytes ≡ false) (sym c.in_ok-ready.ensures.bytes) c.requires.new

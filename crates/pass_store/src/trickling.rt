@@ -1,0 +1,128 @@
+//! The call `trickle`, while the store's other calls go on.
+ghost use Rattle.std.specs.Prelude.{◌≤◌, IfErr, IfOk};
+ghost use Rattle.pass_store.specs.Closings.{IsFaultSince, IsStopped};
+
+use crate::cellar::Cellar;
+use crate::ending::ended_by;
+use crate::ground::Opening;
+use crate::slot::Slot;
+use crate::store::Store;
+use pass_calls::CallEnd;
+use pass_file::FileDesk;
+use pass_hold::Shelf;
+use pass_outside::{Disk, Gate};
+use pass_safe::SafeFault;
+use pass_vault::Receipt;
+use std::alloc::Global;
+use std::mem;
+use std::sync::{Mutex, Wait};
+
+/// Lets changed blocks of a file wait in memory, under the vault's lock.
+fn stage_held<R: Wait, J: Opening, D: Disk>(
+    rt: &R,
+    alloc: Global,
+    file: FileDesk<J>,
+    vault: &Mutex<Cellar<J, D>>,
+    book: &Mutex<Shelf<J>>,
+    limit: u32,
+) -> (FileDesk<J>, Result<u32, SafeFault>)
+    ensures few { IfOk result.1 (λ n. n ≤ limit) }
+    ensures fault { IfErr result.1 (IsFaultSince D.view J.ground.opened) }
+{
+    let mut vault = vault.lock(rt);
+    vault.stage_file(rt, alloc, book, file, limit)
+}
+
+/// The same of the file that lies in a slot.
+fn stage_in<R: Wait, J: Opening, D: Disk>(
+    rt: &R,
+    alloc: Global,
+    slot: &mut Slot<J>,
+    vault: &Mutex<Cellar<J, D>>,
+    book: &Mutex<Shelf<J>>,
+    limit: u32,
+) -> Result<u32, SafeFault>
+    ensures few { IfOk result (λ n. n ≤ limit) }
+    ensures fault { IfErr result (IsFaultSince D.view J.ground.opened) }
+{
+    if !matches!(slot, Slot::File(_)) {
+        return Ok(0);
+    }
+    match mem::replace(slot, Slot::Empty) {
+        Slot::File(file) => {
+            let (file, staged) = stage_held(rt, alloc, file, vault, book, limit);
+            slot.lay(Slot::File(file));
+            staged
+        }
+        other => {
+            slot.lay(other);
+            Ok(0)
+        }
+    }
+}
+
+impl<'g, J: Opening, D: Disk, G: Gate> Store<'g, J, D, G> {
+    /// Makes the entries durable that were made before. Registry and book are free while the disk is at work.
+    fn flush_entries<R: Wait>(&self, rt: &R, alloc: Global) -> Result<Receipt, SafeFault>
+        ensures { IfErr result (IsFaultSince D.view J.ground.opened) }
+    {
+        let registry = self.locks.registry.lock(rt);
+        let mut vault = self.vault.lock(rt);
+        vault.flush_history(rt, alloc, &self.locks.book, registry)
+    }
+
+    /// Lets changed blocks of the file that lies in a lock wait in memory.
+    fn stage_lock<R: Wait>(
+        &self,
+        rt: &R,
+        alloc: Global,
+        lock: &Mutex<Slot<J>>,
+        limit: u32,
+    ) -> Result<u32, SafeFault>
+        ensures few { IfOk result (λ n. n ≤ limit) }
+        ensures fault { IfErr result (IsFaultSince D.view J.ground.opened) }
+    {
+        let mut slot = lock.lock(rt);
+        stage_in(rt, alloc, &mut slot, &self.vault, &self.locks.book, limit)
+    }
+
+    /// Lets changed blocks wait in memory, by ascending numbers of the files, until they are so many in all.
+    fn stage_files<R: Wait>(&self, rt: &R, alloc: Global, limit: u32) -> Result<u32, SafeFault>
+        ensures few { IfOk result (λ n. n ≤ limit) }
+        ensures fault { IfErr result (IsFaultSince D.view J.ground.opened) }
+    {
+        let mut staged = 0;
+        for lock in self.locks.slots.iter() {
+            if staged == limit {
+                return Ok(staged);
+            }
+            staged += self.stage_lock(rt, alloc, lock, limit - staged)?;
+        }
+        Ok(staged)
+    }
+
+    /// Makes the entries durable, and then lets changed blocks wait.
+    fn stage_each<R: Wait>(&self, rt: &R, alloc: Global, limit: u32) -> Result<u32, SafeFault>
+        ensures few { IfOk result (λ n. n ≤ limit) }
+        ensures fault { IfErr result (IsFaultSince D.view J.ground.opened) }
+    {
+        match self.flush_entries(rt, alloc) {
+            Ok(_) => self.stage_files(rt, alloc, limit),
+            Err(fault) => Err(fault),
+        }
+    }
+
+    #[tactic(auto, using(crate::proofs::Causes::stopped_by))]
+    /// Makes the entries so far durable, and lets so many changed blocks at most wait in memory, by ascending numbers of the files, each
+    /// once its file's later entries are durable too; what memory has no room for is written. It answers their number, and makes no entry.
+    /// Other calls go on meanwhile.
+    pub fn trickle<R: Wait>(&self, rt: &R, alloc: Global, limit: u32) -> Result<u32, CallEnd>
+        ensures few { IfOk result (λ n. n ≤ limit) }
+        ensures stopped { IfErr result (IsStopped D.view J.ground.opened) }
+    {
+        match self.stage_each(rt, alloc, limit) {
+            Ok(count) => Ok(count),
+            Err(fault) => Err(ended_by(fault)),
+        }
+    }
+}

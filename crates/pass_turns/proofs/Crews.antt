@@ -18,7 +18,7 @@ use Rattle.pass_turns.specs.declared.ends.Cause.{Cause}
 use Rattle.pass_turns.specs.declared.ends.Cause.TheVariants as causes
 use Rattle.pass_turns.specs.declared.ends.Last.{Last}
 use Rattle.pass_turns.specs.declared.ends.Last.TheVariants as lasts
-use Rattle.pass_turns.specs.Causes.{IsCauseOf}
+use Rattle.pass_turns.specs.Causes.{IsSeen}
 use Rattle.pass_turns.specs.Performed.{IsPerformed}
 use Rattle.pass_turns.specs.Runs.{IsRanBy, IsSomeCause, trail_of}
 use Rattle.pass_turns.specs.Turners.{TurnerState, task_member, task_trail, HasTask, AreTasks, AreAllStill, HasCause, IsKnown, IsStill}
@@ -85,7 +85,7 @@ ran_by session places lines trails last is = record {
   done = λ done m h. let (t, there, same) = of_members is.tasks m h in
       ap (λ (m : Member). m.ended) (sym same) ∙ (All-contains (IsKnown session places) is.tasks t is.known there).through (All-contains (λ t. t.left ≡ 0) is.tasks t (is.done done) there);
   stuck = λ stuck. all_still session places lines (session.start.ceiling + 1) is.tasks is.are is.known (is.stuck stuck);
-  failed = λ cause failed other. some_cause session places lines (session.start.ceiling + 1) is.tasks is.are is.known cause (is.failed cause failed other);
+  failed = λ cause failed seen. some_cause session places lines (session.start.ceiling + 1) is.tasks is.are is.known cause (is.failed cause failed seen);
 }
 
 -- one task whose process has made no entry
@@ -126,9 +126,12 @@ unmade_so session places lines p newborn first = record {
   trails_are = refl;
   done = λ h. absurd (let z : lasts.Failed causes.NoMemory ≡ lasts.Done = h in cc);
   stuck = λ h. absurd (let z : lasts.Failed causes.NoMemory ≡ lasts.Stuck = h in cc);
-  failed = λ cause h other. absurd (other (let z : lasts.Failed causes.NoMemory ≡ lasts.Failed cause = h in cc));
+  failed = λ cause h seen. absurd (subst IsSeen (starved cause h) seen);
 }
   where
+    starved : (cause : Cause) → lasts.Failed causes.NoMemory ≡ lasts.Failed cause → cause ≡ causes.NoMemory
+    starved cause h = cc
+
     only : (u : TurnerState) → Among u (unmade_task lines p ∷ []) → IsKnown session places u
     only u (inl same) = subst (IsKnown session places) same (unmade_known session places lines p newborn)
     only u (inr none) = absurd none

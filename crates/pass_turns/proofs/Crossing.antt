@@ -10,6 +10,7 @@ use Rattle.pass_entry.proofs.record.Record.TheSendSync as record_type
 use Rattle.pass_plain.proofs.start.Start.TheSendSync as start_type
 use Rattle.pass_book.proofs.vault.VaultSeat.TheSendSync as seat_type
 use Rattle.pass_keep.proofs.keeper.Keeper.TheSendSync as keeper_type
+use Rattle.pass_pool.proofs.pool.Pool.TheSendSync as pool_type
 use Rattle.pass_file.proofs.desk.FileDesk.TheSendSync as file_type
 use Rattle.pass_pipe.proofs.desk.PipeDesk.TheSendSync as pipe_type
 use Rattle.pass_flow.proofs.app.AppDesk.TheSendSync as app_type
@@ -37,6 +38,7 @@ ruleset known = (
   start_type.the_sync,
   seat_type.the_send,
   keeper_type.the_send,
+  pool_type.the_send,
   file_type.the_send,
   pipe_type.the_send,
   app_type.the_send,

@@ -104,7 +104,7 @@ module _ (run_law : RunLaw) (done_law : DoneLaw) (stuck_law : StuckLaw) (fork_la
 
   no_lack : last ≢ lasts.Failed causes.TooFewPlaces
   no_lack failed =
-      let some = ran.failed causes.TooFewPlaces failed (λ h. let z : causes.TooFewPlaces ≡ causes.NoMemory = h in cc) in
+      let some = ran.failed causes.TooFewPlaces failed tt in
       let lack = some.is in
       let left = places_law session (plain_trace lines) ran.members history has_run places enough some.one some.among lack.right lack.done lack.call lack.stands lack.none in
       let few = lack.lacks in
@@ -112,7 +112,7 @@ module _ (run_law : RunLaw) (done_law : DoneLaw) (stuck_law : StuckLaw) (fork_la
 
   none_refused : last ≢ lasts.Failed causes.Refused
   none_refused failed =
-      let some = ran.failed causes.Refused failed (λ h. let z : causes.Refused ≡ causes.NoMemory = h in cc) in
+      let some = ran.failed causes.Refused failed tt in
       let refused = some.is in
       let begins = (told_of some.one some.among).0 in
       let at : slice_get history refused.place ≡ Some refused.entry = ap (λ h. slice_get h refused.place) (sym begins.1) ∙ slice_get-append some.one.seen begins.0 refused.place refused.entry refused.stands in

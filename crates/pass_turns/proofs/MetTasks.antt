@@ -1,5 +1,5 @@
 -- Tasks whose processes have met.
-use Rattle.std.proofs.Common.{◌≡◌, ◌≢◌, ◌≤◌, ℕ, List, [], length, refl, ap, sym, ◌∙◌, subst, arith, Bool, true, false}
+use Rattle.std.proofs.Common.{◌≡◌, ◌≢◌, ◌≤◌, ℕ, List, [], length, refl, ap, sym, ◌∙◌, subst, arith, inl, inr, Bool, true, false}
 use Rattle.std.specs.Prelude.{Option, Some, None}
 use mathlib.Core.List.{IsPrefix}
 use Rattle.pass_plain.specs.Sessions.{Session}
@@ -53,9 +53,11 @@ module _ {J : Type 0} (session : Session) (places : ℕ) (lines others : List Tr
     met = met;
   })
 
-  together : (l : Living J) (e : EndedProcess J) (r : Walker J × Walker J) → HaveMet session (plain_trace lines) (walker.Living l) (walker.Ended e) r → IsWalkerOf session places (plain_trace others) (walker.Ended e)
+  together : (l : Living J) (e : EndedProcess J) (r : Walker J × Walker J) → HaveMet session (plain_trace lines) (walker.Living l) (walker.Ended e) r → IsWalkerOf session places (plain_trace lines) (walker.Living l) → IsWalkerOf session places (plain_trace others) (walker.Ended e)
       → HaveMetSo session places lines others (walker.Living l) (walker.Ended e) r
-  together l e r (m, f, same, on, more, one) is_e = subst (λ r. HaveMetSo session places lines others (walker.Living l) (walker.Ended e) r) (sym same) (record {
+  together l e r (m, f, same, inl (first, second, less)) is_l is_e =
+      apart (walker.Living l) (walker.Ended e) r (same ∙ (λ i. (walker.Living (first i), walker.Ended (second i)))) is_l is_e (λ lives no_cause ended. less)
+  together l e r (m, f, same, inr (on, more, one)) is_l is_e = subst (λ r. HaveMetSo session places lines others (walker.Living l) (walker.Ended e) r) (sym same) (record {
     first_is = on.living;
     second_is = seen_more session (plain_trace others) e f is_e more;
     first = λ turns last waits. record {
@@ -74,7 +76,7 @@ module _ {J : Type 0} (session : Session) (places : ℕ) (lines others : List Tr
   })
 
   pub met_so : (v w : Walker J) (r : Walker J × Walker J) → HaveMet session (plain_trace lines) v w r → IsWalkerOf session places (plain_trace lines) v → IsWalkerOf session places (plain_trace others) w → HaveMetSo session places lines others v w r
-  met_so (walker.Living l) (walker.Ended e) r met is_v is_w = together l e r met is_w
+  met_so (walker.Living l) (walker.Ended e) r met is_v is_w = together l e r met is_v is_w
   met_so (walker.Living l) (walker.Living m) r met is_v is_w = apart (walker.Living l) (walker.Living m) r met is_v is_w (λ a b c. absurd (let z : false ≡ true = c in cc))
   met_so (walker.Living l) (walker.Left m) r met is_v is_w = apart (walker.Living l) (walker.Left m) r met is_v is_w (λ a b c. absurd (let z : false ≡ true = c in cc))
   met_so (walker.Living l) walker.Gone r met is_v is_w = absurd is_w

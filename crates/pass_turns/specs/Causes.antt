@@ -35,3 +35,10 @@ IsCauseOf session places trace m causes.NoMemory = Unit {0}
 IsCauseOf session places trace m (causes.DiskFault opened now) = Unit {0}
 IsCauseOf session places trace m causes.TooFewPlaces = LacksPlaces session places trace m
 IsCauseOf session places trace m causes.Refused = HasRefusedFork m.seen
+
+-- a cause that a process has seen: want of memory and faults of the disk come from outside of the history
+abbrev pub IsSeen : Cause → Type 0
+IsSeen causes.NoMemory = ⊥
+IsSeen (causes.DiskFault opened now) = ⊥
+IsSeen causes.TooFewPlaces = Unit {0}
+IsSeen causes.Refused = Unit {0}

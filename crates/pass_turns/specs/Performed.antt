@@ -1,10 +1,10 @@
 -- What passes have made of the processes of a run.
-use Rattle.std.specs.Prelude.{ℕ, ◌+◌, ◌≡◌, ◌≢◌, List, All, map}
+use Rattle.std.specs.Prelude.{ℕ, ◌+◌, ◌≡◌, List, All, map}
 use Rattle.pass_plain.specs.Sessions.{Session}
 use Rattle.pass_trace.specs.declared.trace.TraceLine.{TraceLine}
 use Rattle.pass_proc.specs.Ends.{TrailView}
 use Rattle.pass_turns.specs.declared.ends.Cause.{Cause}
-use Rattle.pass_turns.specs.declared.ends.Cause.TheVariants as causes
+use Rattle.pass_turns.specs.Causes.{IsSeen}
 use Rattle.pass_turns.specs.declared.ends.Last.{Last}
 use Rattle.pass_turns.specs.declared.ends.Last.TheVariants as lasts
 use Rattle.pass_turns.specs.Turners.{TurnerState, AreTasks, AreAllStill, HasCause, IsKnown, task_trail}
@@ -16,4 +16,4 @@ pub record IsPerformed (session : Session) (places : ℕ) (lines : List TraceLin
   pub trails_are : trails ≡ map task_trail tasks
   pub done : last ≡ lasts.Done → All (λ t. t.left ≡ 0) tasks
   pub stuck : last ≡ lasts.Stuck → AreAllStill session tasks
-  pub failed : (cause : Cause) → last ≡ lasts.Failed cause → cause ≢ causes.NoMemory → HasCause tasks cause
+  pub failed : (cause : Cause) → last ≡ lasts.Failed cause → IsSeen cause → HasCause tasks cause

@@ -16,7 +16,7 @@ use Rattle.pass_replay.specs.Lines.{AreLinesBehind}
 use Rattle.pass_replay.specs.Members.{Member, AreMembers, AreStill}
 use Rattle.pass_replay.specs.Needs.{places_of}
 use Rattle.pass_replay.specs.Replays.{HasRun}
-use Rattle.pass_turns.specs.Causes.{IsCauseOf}
+use Rattle.pass_turns.specs.Causes.{IsCauseOf, IsSeen}
 use Rattle.pass_turns.specs.declared.ends.Cause.{Cause}
 use Rattle.pass_turns.specs.declared.ends.Cause.TheVariants as causes
 use Rattle.pass_turns.specs.declared.ends.Last.{Last}
@@ -38,7 +38,7 @@ pub record IsRanBy (session : Session) (places : ℕ) (trace : List Line) (trail
   pub made : AreMembers (session.start.ceiling + 1) trace members
   pub done : last ≡ lasts.Done → (m : Member) → Contains members m → m.ended ≡ true
   pub stuck : last ≡ lasts.Stuck → (count : ℕ) × AreStill session trace members count
-  pub failed : (cause : Cause) → last ≡ lasts.Failed cause → (cause ≡ causes.NoMemory → ⊥) → IsSomeCause session places trace members cause
+  pub failed : (cause : Cause) → last ≡ lasts.Failed cause → IsSeen cause → IsSomeCause session places trace members cause
 
 -- The history is a run of the trace, which ended so: no process is open, or none can move, or it failed; and never for want of places or for a fork
 -- that was refused.

@@ -1,8 +1,17 @@
 //! What all processes of a run share.
+ghost use Rattle.std.specs.Prelude.{IfSome};
+ghost use Rattle.pass_turns.specs.Causes.{IsSeen};
+
+use crate::ends::Cause;
 use crate::plan::Plan;
+use pass_calls::CallEnd;
 use pass_outside::{Disk, Gate};
 use pass_store::{Opening, Store};
 use std::alloc::Global;
+use std::sync::Wait;
+
+/// How many changed blocks are put aside behind a pass, to be written later.
+const ASIDE: u32 = 1024;
 
 /// A store, the plan of the trace that is run over it, and the gate before each call of a line.
 pub(crate) struct Ground<'a, 'g, R, J: Opening, D: Disk, G: Gate> {
@@ -11,4 +20,26 @@ pub(crate) struct Ground<'a, 'g, R, J: Opening, D: Disk, G: Gate> {
     pub store: &'a Store<'g, J, D, G>,
     pub plan: &'a Plan<'a>,
     pub gate: &'a G,
+}
+
+impl<'a, 'g, R: Wait, J: Opening, D: Disk, G: Gate> Ground<'a, 'g, R, J, D, G> {
+    /// Makes the entries so far durable and puts changed blocks aside. Where that fails, why.
+    pub(crate) fn trickle(&self) -> Option<Cause>
+        ensures { IfSome result (λ cause. IsSeen cause → ⊥) }
+    {
+        match self.store.trickle(self.rt, self.alloc, ASIDE) {
+            Ok(_) => None,
+            Err(end) => Some(outside_cause(end)),
+        }
+    }
+}
+
+// Why a call of the store itself failed. The other ends are those of a process's calls.
+fn outside_cause(end: CallEnd) -> Cause
+    ensures { IsSeen result → ⊥ }
+{
+    match end {
+        CallEnd::DiskFault { opened, now } => Cause::DiskFault { opened, now },
+        _ => Cause::NoMemory,
+    }
 }

@@ -2,7 +2,7 @@
 ghost use Rattle.std.specs.Prelude.{◌≡◌, ◌≤◌, ◌<◌, ℕ, List, Some, None, false, true, length, slice_get, sum_by};
 ghost use Rattle.pass_trace.specs.TraceLines.{plain_trace};
 ghost use Rattle.pass_trace.specs.declared.trace.TraceLine.{TraceLine as AnyLine};
-ghost use Rattle.pass_turns.specs.Meetings.{HasComeOn, HasMetAll, HasSeenMore, HaveMet};
+ghost use Rattle.pass_turns.specs.Meetings.{HasComeOn, HasMetAll, HasSeenMore, HaveJoined, HaveMet, KnowsIfEnded, KnowsSeen};
 ghost use Rattle.pass_turns.specs.Tasks.{task_room};
 ghost use Rattle.pass_turns.specs.Turners.{AreTasks, TurnerState};
 ghost use Rattle.pass_turns.specs.Walkers.{IsLivingOf, IsWalkerOf};
@@ -42,7 +42,8 @@ pub(crate) fn met<'a, 'g, R: Wait, J: Opening, D: Disk, G: Gate>(
     other: &mut Walker<J>,
     ground: &Ground<'a, 'g, R, J, D, G>,
 )
-    requires { IsWalkerOf J.book.session J.places (plain_trace ground.now.plan.now) first.old }
+    requires first { IsWalkerOf J.book.session J.places (plain_trace ground.now.plan.now) first.old }
+    requires other { KnowsIfEnded other.old }
     ensures { HaveMet J.book.session (plain_trace ground.now.plan.now) first.old other.old (first.new, other.new) }
 {
     if let Walker::Ended(ended) = other {
@@ -53,8 +54,24 @@ pub(crate) fn met<'a, 'g, R: Wait, J: Opening, D: Disk, G: Gate>(
 }
 
 impl<J: Opening> Living<J> {
-    /// Comes to one history with a process that has ended.
+    /// Comes to one history with a process that has ended, unless that one is known to have seen no more.
     fn meet<'a, 'g, R: Wait, D: Disk, G: Gate>(
+        &mut self,
+        ended: &mut Ended<J>,
+        ground: &Ground<'a, 'g, R, J, D, G>,
+    )
+        requires living { IsLivingOf J.book.session (plain_trace ground.now.plan.now) self.old }
+        requires ended { KnowsSeen ended.old }
+        ensures { HaveJoined J.book.session (plain_trace ground.now.plan.now) self.old ended.old self.new ended.new }
+    {
+        if ended.has_seen(self.proc.seen()) {
+            return;
+        }
+        self.join(ended, ground);
+    }
+
+    /// Comes to one history with a process that has ended.
+    fn join<'a, 'g, R: Wait, D: Disk, G: Gate>(
         &mut self,
         ended: &mut Ended<J>,
         ground: &Ground<'a, 'g, R, J, D, G>,

@@ -1,10 +1,12 @@
 //! Passes over the processes of a run.
-ghost use Rattle.std.specs.Prelude.{◌≡◌, ◌≢◌, ◌≤◌, ◌<◌, ℕ, All, IfSome, List, None, Some, false, length, slice_get, true, sum_by};
+ghost use Rattle.std.specs.Prelude.{◌≡◌, ◌≤◌, ◌<◌, ℕ, All, IfSome, List, None, Some, false, length, slice_get, true, sum_by};
 ghost use Rattle.pass_trace.specs.declared.trace.TraceLine.{TraceLine as AnyLine};
+ghost use Rattle.pass_turns.specs.Causes.{IsSeen};
 ghost use Rattle.pass_turns.specs.Turners.{AreAllStill, AreTasks, HasCause, IsStill, TurnerState};
 ghost use Rattle.pass_turns.specs.Tasks.{task_room};
 
 use crate::ends::{Cause, Last};
+use crate::ground::Ground;
 use crate::meeting::meet_ended;
 use crate::task::Turner;
 use pass_outside::{Disk, Gate};
@@ -15,7 +17,8 @@ use std::sync::Wait;
 use std::thread::Threads;
 
 /// Makes passes until all have ended or one was left. Where none moves, the first living process meets those that have ended, and the next
-/// pass is made by one worker; where none moves in that one either, and all living ones have seen as much, none can.
+/// pass is made by one worker; where none moves in that one either, and all living ones have seen as much, none can. Behind each pass in
+/// which some moved its entries are made durable, and changed blocks are put aside; where that fails, no further pass is made.
 pub(crate) fn passes<
     'a,
     'g,
@@ -24,8 +27,7 @@ pub(crate) fn passes<
     D: Disk + Send,
     G: Gate + Sync,
 >(
-    rt: &R,
-    alloc: Global,
+    ground: &'a Ground<'a, 'g, R, J, D, G>,
     mut tasks: Vec<Turner<'a, 'g, R, J, D, G>>,
     workers: u32,
 ) -> (Vec<Turner<'a, 'g, R, J, D, G>>, Last)
@@ -34,12 +36,12 @@ pub(crate) fn passes<
     ensures room { sum_by task_room result.0.items ≤ sum_by task_room tasks.entry.items }
     ensures done { result.1 ≡ Last.Done → All (λ t. t.left ≡ 0) result.0.items }
     ensures stuck { result.1 ≡ Last.Stuck → AreAllStill J.book.session result.0.items }
-    ensures failed { (cause : Cause) → result.1 ≡ Last.Failed cause → cause ≢ Cause.NoMemory → HasCause result.0.items cause }
+    ensures failed { (cause : Cause) → result.1 ≡ Last.Failed cause → IsSeen cause → HasCause result.0.items cause }
 {
     let mut now = workers;
     let mut alone = false;
-    for _ in rt.forever() {
-        let Passed { tasks: after, end } = pass(rt, alloc, tasks, now);
+    for _ in ground.rt.forever() {
+        let Passed { tasks: after, end } = pass(ground.rt, ground.alloc, tasks, now);
         tasks = after;
         match end {
             PassEnd::AllEnded => return (tasks, Last::Done),
@@ -49,6 +51,9 @@ pub(crate) fn passes<
             }
             PassEnd::NoMemory => return (tasks, Last::Failed(Cause::NoMemory)),
             PassEnd::GoOn => {
+                if let Some(cause) = ground.trickle() {
+                    return (tasks, Last::Failed(cause));
+                }
                 now = workers;
                 alone = false;
             }
@@ -97,7 +102,7 @@ fn met_ended<'a, 'g, R: Wait, J: Opening, D: Disk, G: Gate>(
 fn cause_of<'a, 'g, R: Wait, J: Opening, D: Disk, G: Gate>(
     tasks: &[Turner<'a, 'g, R, J, D, G>],
 ) -> Cause
-    ensures { result ≢ Cause.NoMemory → HasCause tasks.now result }
+    ensures { IsSeen result → HasCause tasks.now result }
 {
     for place in 0..tasks.len() {
         if let Some(cause) = tasks[place].cause() {

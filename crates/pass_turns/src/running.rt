@@ -93,7 +93,7 @@ fn perform<'a, 'g, R: Threads + Wait + Sync, J: Opening + Send, D: Disk + Send, 
         proc: first,
     };
     tasks.push_reserved(Turner::new(ground, living));
-    let (tasks, last) = passes(ground.rt, ground.alloc, tasks, workers);
+    let (tasks, last) = passes(ground, tasks, workers);
     Ran {
         trails: trails(tasks, room),
         last,

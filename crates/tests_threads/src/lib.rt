@@ -2,6 +2,8 @@
 #![tactic(auto)]
 
 #[cfg(test)]
+mod aside;
+#[cfg(test)]
 mod crowd;
 #[cfg(test)]
 mod entering;

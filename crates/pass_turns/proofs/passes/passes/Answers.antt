@@ -10,6 +10,9 @@ returns-in-OneFailed-clause-tasks g c lines first are = c.pass-after.ensures.tas
 pub returns-in-NoMemory-clause-tasks : goal.returns-in-NoMemory-clause-tasks
 returns-in-NoMemory-clause-tasks g c lines first are = c.pass-after.ensures.tasks lines first (c.loop.invariant.tasks lines first are)
 
+pub returns-in-Some-trickle-clause-tasks : goal.returns-in-Some-trickle-clause-tasks
+returns-in-Some-trickle-clause-tasks g c lines first are = c.pass-after.ensures.tasks lines first (c.loop.invariant.tasks lines first are)
+
 pub returns-then-are_still-clause-tasks : goal.returns-then-are_still-clause-tasks
 returns-then-are_still-clause-tasks g c lines first are = c.pass-after.ensures.tasks lines first (c.loop.invariant.tasks lines first are)
 

@@ -3,7 +3,12 @@ use Rattle.pass_turns.specs.Meetings.{IsLater}
 use Rattle.pass_turns.specs.Tasks.{task_of}
 use Rattle.pass_turns.specs.Turners.{TurnerState}
 use Rattle.pass_turns.proofs.task.Turner.meet.Goals as goal
+use Rattle.pass_trace.specs.TraceLines.{plain_trace}
 use Rattle.pass_turns.proofs.MetTasks.{met_so}
+use Rattle.pass_turns.proofs.MetWalkers.{knows}
+
+pub met-requires-clause-other : goal.met-requires-clause-other
+met-requires-clause-other g c = knows g.J.Whose.book.session g.J.Whose.places (plain_trace c.other.inside.ground.now.plan.now) c.other.inside.walker c.other.invariant.0
 
 pub returns-clause-first : goal.returns-clause-first
 returns-clause-first g c =

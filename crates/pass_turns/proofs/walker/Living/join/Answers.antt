@@ -2,7 +2,7 @@ use Rattle.std.proofs.Common.{◌≡◌, ◌∙◌, List, Some, ap, length, refl
 use Rattle.pass_entry.specs.declared.entry.Entry.{Entry}
 use Rattle.pass_plain.specs.Legal.{IsLegal}
 use Rattle.pass_trace.specs.TraceLines.{plain_trace}
-use Rattle.pass_turns.proofs.walker.Living.meet.Goals as goal
+use Rattle.pass_turns.proofs.walker.Living.join.Goals as goal
 use Rattle.pass_turns.proofs.Meetings.{come_on}
 
 pub returns-clause-living : goal.returns-clause-living

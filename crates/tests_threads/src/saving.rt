@@ -9,11 +9,12 @@ use std::sync::Wait;
 use std::test::*;
 use std::thread::Threads;
 
-/// The second process makes a file durable; the third makes one of its own, and then goes on.
-const TRACE: &[u8] = b"1 creat 3 a\n1 fork 2\n1 fork 3\n2 sync 3\n3 creat 4 b\n3 close 4\n";
+/// The second process changes a file and makes it durable; the third makes one of its own, and then goes on.
+const TRACE: &[u8] =
+    b"1 creat 3 a\n1 fork 2\n1 fork 3\n2 write 3 t:abc\n2 sync 3\n3 creat 4 b\n3 close 4\n";
 
 /// The line by which the third process makes its file.
-const CREAT: u32 = 5;
+const CREAT: u32 = 6;
 
 /// How far the two threads are.
 #[derive(Drop)]

@@ -25,3 +25,4 @@ mod Turning
 mod Gathering
 mod Performing
 mod Crossing
+mod Faults

@@ -2,6 +2,7 @@
 use Rattle.std.specs.Prelude.{ℕ, ◌+◌, ◌≡◌, ◌<◌, true, List, [], Some, slice_get}
 use Rattle.pass_entry.specs.declared.entry.Entry.{Entry}
 use Rattle.pass_entry.specs.declared.entry.CallName.TheVariants as call_name
+use Rattle.pass_outside.specs.Moments.{Moment}
 use Rattle.pass_plain.specs.Histories.{call_entries, is_fault}
 use Rattle.pass_plain.specs.Places.{left_places}
 use Rattle.pass_plain.specs.Runs.{pnode_of_process}
@@ -9,6 +10,7 @@ use Rattle.pass_plain.specs.Sessions.{Session}
 use Rattle.pass_plain.specs.Traces.{Line, LineCall, calls_of}
 use Rattle.pass_replay.specs.Members.{Member}
 use Rattle.pass_replay.specs.Needs.{need_of_line}
+use Rattle.pass_store.specs.Closings.{HasFailed}
 use Rattle.pass_turns.specs.declared.ends.Cause.{Cause}
 use Rattle.pass_turns.specs.declared.ends.Cause.TheVariants as causes
 
@@ -42,3 +44,8 @@ IsSeen causes.NoMemory = ⊥
 IsSeen (causes.DiskFault opened now) = ⊥
 IsSeen causes.TooFewPlaces = Unit {0}
 IsSeen causes.Refused = Unit {0}
+
+-- where it is a fault of the disk, the disk has failed since the store was opened
+abbrev pub IsTrueCause : {D : Type 0} → (D → Moment) → ℕ → Cause → Type 0
+IsTrueCause view opened (causes.DiskFault first now) = HasFailed view opened first now
+IsTrueCause view opened _ = Unit {0}

@@ -5,6 +5,7 @@ use Rattle.std.specs.Option.{option_map_or}
 use mathlib.Core.List.{IsPrefix}
 use Rattle.pass_entry.specs.declared.entry.Entry.{Entry}
 use Rattle.pass_entry.specs.declared.entry.Act.TheVariants as act
+use Rattle.pass_outside.specs.Moments.{Moment}
 use Rattle.pass_plain.specs.Legal.{IsLegal, is_over}
 use Rattle.pass_plain.specs.Processes.{Held, has_ended}
 use Rattle.pass_plain.specs.Sessions.{Session}
@@ -22,7 +23,7 @@ use Rattle.pass_turns.specs.declared.walker.Walker.{Walker}
 use Rattle.pass_turns.specs.declared.walker.Walker.TheVariants as walker
 use Rattle.pass_turns.specs.declared.walker.Went.{Went}
 use Rattle.pass_turns.specs.declared.ends.Cause.{Cause}
-use Rattle.pass_turns.specs.Causes.{IsCauseOf}
+use Rattle.pass_turns.specs.Causes.{IsCauseOf, IsTrueCause}
 use Rattle.pass_turns.specs.Lefts.{left_at}
 use Rattle.pass_turns.specs.Local.{IsLocal}
 
@@ -86,6 +87,11 @@ left_of trace walker.Gone = 0
 abbrev pub cause_of : {J : Type 0} → Walker J → Option Cause
 cause_of (walker.Left l) = Some l.cause
 cause_of _ = None
+
+-- where it was left for a fault of the disk, there was one
+abbrev pub IsLeftTruly : {D : Type 0} {J : Type 0} → (D → Moment) → ℕ → Walker J → Type 0
+IsLeftTruly view opened (walker.Left l) = IsTrueCause view opened l.cause
+IsLeftTruly view opened _ = Unit {0}
 
 -- the entry bears this child, by the fork of a line
 pub record IsBirthOf {J : Type 0} (trace : List Line) (process : ℕ) (e : Entry) (child : Living J) : Type 0 where

@@ -1,10 +1,11 @@
 //! The calls of lines.
-ghost use Rattle.std.specs.Prelude.{◌≢◌, ℕ};
+ghost use Rattle.std.specs.Prelude.{◌≢◌, ℕ, IfErr};
 ghost use Rattle.pass_plain.specs.Traces.{fork_as};
 ghost use Rattle.pass_trace.specs.TraceLines.{call_of, write_of};
 ghost use Rattle.pass_replay.specs.Lines.{IsLineCall};
 ghost use Rattle.pass_plain.specs.declared.request.Request.TheVariants as requests;
 ghost use Rattle.pass_progress.specs.Progress.{MayGoOn, Progresses};
+ghost use Rattle.pass_store.specs.Closings.{HasCause};
 ghost use Rattle.pass_turns.specs.Calls.{AnswersAny, Forks, request_with};
 
 use crate::ground::Ground;
@@ -19,10 +20,12 @@ use pass_trace::{Command, Payload};
 use std::sync::Wait;
 
 impl<'a, 'g, R: Wait, J: Opening, D: Disk, G: Gate> Ground<'a, 'g, R, J, D, G> {
+    #[tactic(auto, using(crate::proofs::Faults::unfaulted))]
     /// Makes the write of a line. Of what the process read last it writes a copy.
     fn write(&self, proc: &mut Proc<J>, fd: u8, payload: &Payload) -> Result<Moved, CallEnd>
         requires call { IsLineCall (write_of fd payload.now) }
-        ensures { AnswersAny J.book.session J.places proc.old proc.new (request_with 0 proc.old (write_of fd payload.now)) result }
+        ensures call { AnswersAny J.book.session J.places proc.old proc.new (request_with 0 proc.old (write_of fd payload.now)) result }
+        ensures fault { IfErr result (HasCause D.view J.ground.opened) }
     {
         match payload {
             Payload::Given(bytes) => self.store.pass_write(self.rt, self.alloc, proc, fd, bytes),
@@ -35,11 +38,13 @@ impl<'a, 'g, R: Wait, J: Opening, D: Disk, G: Gate> Ground<'a, 'g, R, J, D, G> {
         }
     }
 
+    #[tactic(auto, using(crate::proofs::Faults::unfaulted))]
     /// Makes the call of a line that is no fork. `waited` is the child that it waits for.
     fn call(&self, proc: &mut Proc<J>, command: &Command, waited: Pnode) -> Result<Moved, CallEnd>
         requires call { IsLineCall (call_of command.now) }
         requires other { (child : ℕ) → call_of command.now ≢ fork_as child }
-        ensures { AnswersAny J.book.session J.places proc.old proc.new (request_with waited proc.old (call_of command.now)) result }
+        ensures call { AnswersAny J.book.session J.places proc.old proc.new (request_with waited proc.old (call_of command.now)) result }
+        ensures fault { IfErr result (HasCause D.view J.ground.opened) }
     {
         let store = self.store;
         let rt = self.rt;
@@ -81,7 +86,8 @@ impl<'a, 'g, R: Wait, J: Opening, D: Disk, G: Gate> Ground<'a, 'g, R, J, D, G> {
         requires call { IsLineCall (call_of command.now) }
         requires other { (child : ℕ) → call_of command.now ≢ fork_as child }
         requires goes { MayGoOn proc.old (request_with waited proc.old (call_of command.now)) }
-        ensures { Progresses J.book.session J.places proc.old proc.new (request_with waited proc.old (call_of command.now)) result }
+        ensures call { Progresses J.book.session J.places proc.old proc.new (request_with waited proc.old (call_of command.now)) result }
+        ensures fault { IfErr result (HasCause D.view J.ground.opened) }
     {
         calls();
         standing();
@@ -94,7 +100,8 @@ impl<'a, 'g, R: Wait, J: Opening, D: Disk, G: Gate> Ground<'a, 'g, R, J, D, G> {
     /// Makes a fork for a process that may make it.
     pub(crate) fn fork(&self, proc: &mut Proc<J>) -> Result<Proc<J>, CallEnd>
         requires { MayGoOn proc.old requests.Fork }
-        ensures { Forks J.book.session J.places proc.old proc.new result }
+        ensures call { Forks J.book.session J.places proc.old proc.new result }
+        ensures fault { IfErr result (HasCause D.view J.ground.opened) }
     {
         calls();
         standing();

@@ -1,6 +1,6 @@
 //! What all processes of a run share.
 ghost use Rattle.std.specs.Prelude.{IfSome};
-ghost use Rattle.pass_turns.specs.Causes.{IsSeen};
+ghost use Rattle.pass_turns.specs.Causes.{IsSeen, IsTrueCause};
 
 use crate::ends::Cause;
 use crate::plan::Plan;
@@ -25,21 +25,13 @@ pub(crate) struct Ground<'a, 'g, R, J: Opening, D: Disk, G: Gate> {
 impl<'a, 'g, R: Wait, J: Opening, D: Disk, G: Gate> Ground<'a, 'g, R, J, D, G> {
     /// Makes the entries so far durable and puts changed blocks aside. Where that fails, why.
     pub(crate) fn trickle(&self) -> Option<Cause>
-        ensures { IfSome result (λ cause. IsSeen cause → ⊥) }
+        ensures unseen { IfSome result (λ cause. IsSeen cause → ⊥) }
+        ensures fault { IfSome result (IsTrueCause D.view J.ground.opened) }
     {
         match self.store.trickle(self.rt, self.alloc, ASIDE) {
             Ok(_) => None,
-            Err(end) => Some(outside_cause(end)),
+            Err(CallEnd::DiskFault { opened, now }) => Some(Cause::DiskFault { opened, now }),
+            Err(_) => Some(Cause::NoMemory),
         }
-    }
-}
-
-// Why a call of the store itself failed. The other ends are those of a process's calls.
-fn outside_cause(end: CallEnd) -> Cause
-    ensures { IsSeen result → ⊥ }
-{
-    match end {
-        CallEnd::DiskFault { opened, now } => Cause::DiskFault { opened, now },
-        _ => Cause::NoMemory,
     }
 }

@@ -2,6 +2,7 @@
 ghost use Rattle.std.specs.Prelude.{◌≡◌, ◌≤◌, ◌+◌, [], ◌∷◌, vec_len, vec_capacity, map, All};
 ghost use Rattle.pass_trace.specs.TraceLines.{plain_trace};
 ghost use Rattle.pass_proc.specs.Ends.{trail_of_proc};
+ghost use Rattle.pass_turns.specs.Causes.{IsTrueCause};
 ghost use Rattle.pass_turns.specs.Lefts.{HasRoomFor};
 ghost use Rattle.pass_turns.specs.Performed.{IsPerformed};
 ghost use Rattle.pass_turns.specs.Runs.{IsRanBy};
@@ -48,7 +49,8 @@ pub fn run<'g, R: Threads + Wait + Sync, J: Opening + Send, D: Disk + Send, G: G
     requires workers { (1 ≤ workers) × (workers ≤ 64) }
     requires first { (first.who ≡ J.book.session.start.ceiling + 1) × (first.number ≡ 0) }
     requires room { HasRoomFor (plain_trace plan.now) room }
-    ensures { IsRanBy J.book.session J.places (plain_trace plan.now) result.trails.items result.last }
+    ensures ran { IsRanBy J.book.session J.places (plain_trace plan.now) result.trails.items result.last }
+    ensures fault { (cause : Cause) → result.last ≡ Last.Failed cause → IsTrueCause D.view J.ground.opened cause }
 {
     let ground = Ground {
         rt,
@@ -78,7 +80,8 @@ fn perform<'a, 'g, R: Threads + Wait + Sync, J: Opening + Send, D: Disk + Send, 
     requires workers { (1 ≤ workers) × (workers ≤ 64) }
     requires first { (first.who ≡ J.book.session.start.ceiling + 1) × (first.number ≡ 0) }
     requires room { HasRoomFor (plain_trace ground.now.plan.now) room }
-    ensures { IsPerformed J.book.session J.places ground.now.plan.now result.trails.items result.last }
+    ensures performed { IsPerformed J.book.session J.places ground.now.plan.now result.trails.items result.last }
+    ensures fault { (cause : Cause) → result.last ≡ Last.Failed cause → IsTrueCause D.view J.ground.opened cause }
 {
     lives();
     ground.plan.ordered();

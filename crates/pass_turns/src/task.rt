@@ -1,11 +1,12 @@
 //! The processes of a run as tasks.
-ghost use Rattle.std.specs.Prelude.{◌≡◌, ◌≢◌, ◌<◌, ◌≤◌, ◌+◌, ◌++◌, ℕ, vec_len, vec_capacity, false, true, Some, None, IsSome, length};
+ghost use Rattle.std.specs.Prelude.{◌≡◌, ◌≢◌, ◌<◌, ◌≤◌, ◌+◌, ◌++◌, ℕ, vec_len, vec_capacity, false, true, Some, None, IfSome, IsSome, length};
 ghost use Rattle.pass_trace.specs.TraceLines.{plain_trace};
 ghost use Rattle.pass_sched.specs.Turns.{Rises};
+ghost use Rattle.pass_turns.specs.Causes.{IsTrueCause};
 ghost use Rattle.pass_turns.specs.Meetings.{IsLater};
 ghost use Rattle.pass_turns.specs.Turners.{IsKnown, IsStill, task_trail};
 ghost use Rattle.pass_turns.specs.Tasks.{kid_tasks, new_task};
-ghost use Rattle.pass_turns.specs.Walkers.{IsKidIfAny, IsLivingOf, IsWalkerOf, WalkerWent};
+ghost use Rattle.pass_turns.specs.Walkers.{IsKidIfAny, IsLeftTruly, IsLivingOf, IsWalkerOf, WalkerWent};
 
 use crate::ends::Cause;
 use crate::ground::Ground;
@@ -38,7 +39,7 @@ impl<'a, 'g, R, J: Opening, D: Disk, G: Gate> Model for Turner<'a, 'g, R, J, D, 
     ghost use Rattle.pass_replay.specs.Members.{Waits};
     ghost use Rattle.pass_turns.specs.Tasks.{task_of};
     ghost use Rattle.pass_turns.specs.Turners.{TurnerState};
-    ghost use Rattle.pass_turns.specs.Walkers.{IsWalkerOf, member_of};
+    ghost use Rattle.pass_turns.specs.Walkers.{IsLeftTruly, IsWalkerOf, member_of};
 
     ghost Value = { TurnerState };
 
@@ -46,7 +47,7 @@ impl<'a, 'g, R, J: Opening, D: Disk, G: Gate> Model for Turner<'a, 'g, R, J, D, 
 
     ghost view = { λ t. task_of t.ground.now.plan.now t.walker t.turns t.last t.waits };
 
-    ghost invariant = { λ t. IsWalkerOf J.book.session J.places (plain_trace t.ground.now.plan.now) t.walker × (is_none t.last ≡ (t.turns == 0)) × (t.waits ≡ true → Waits J.book.session (plain_trace t.ground.now.plan.now) (member_of t.walker)) };
+    ghost invariant = { λ t. IsWalkerOf J.book.session J.places (plain_trace t.ground.now.plan.now) t.walker × (is_none t.last ≡ (t.turns == 0)) × (t.waits ≡ true → Waits J.book.session (plain_trace t.ground.now.plan.now) (member_of t.walker)) × IsLeftTruly D.view J.ground.opened t.walker };
 }
 
 impl<'a, 'g, R: Wait, J: Opening, D: Disk, G: Gate> Task for Turner<'a, 'g, R, J, D, G> {
@@ -139,8 +140,10 @@ fn go<'a, 'g, R: Wait, J: Opening, D: Disk, G: Gate>(
     walker: Walker<J>,
     ground: &Ground<'a, 'g, R, J, D, G>,
 ) -> Went<J>
-    requires { IsWalkerOf J.book.session J.places (plain_trace ground.now.plan.now) walker }
-    ensures { WalkerWent J.book.session J.places (plain_trace ground.now.plan.now) walker result }
+    requires walker { IsWalkerOf J.book.session J.places (plain_trace ground.now.plan.now) walker }
+    requires fault { IsLeftTruly D.view J.ground.opened walker }
+    ensures went { WalkerWent J.book.session J.places (plain_trace ground.now.plan.now) walker result }
+    ensures fault { IsLeftTruly D.view J.ground.opened result.walker }
 {
     match walker {
         Walker::Living(living) => living.turn(ground),
@@ -188,7 +191,8 @@ impl<'a, 'g, R: Wait, J: Opening, D: Disk, G: Gate> Turner<'a, 'g, R, J, D, G> {
 
     /// Why its process was left.
     pub(crate) fn cause(&self) -> Option<Cause>
-        ensures { result ≡ self.now.cause }
+        ensures cause { result ≡ self.now.cause }
+        ensures fault { IfSome result (IsTrueCause D.view J.ground.opened) }
     {
         match &self.walker {
             Walker::Left(left) => Some(left.cause),

@@ -4,7 +4,7 @@ ghost use Rattle.std.specs.Prelude.{◌≡◌, ◌≢◌, ◌<◌, ◌≤◌, �
 ghost use Rattle.pass_plain.specs.Traces.{Line as AnyLine, fork_as, wait_for};
 ghost use Rattle.pass_trace.specs.TraceLines.{call_of, plain_trace};
 ghost use Rattle.pass_turns.specs.Outcomes.{HasBorne, IsAfter, left_as, outcome_of, unfinished_of};
-ghost use Rattle.pass_turns.specs.Walkers.{HasWent, IsLivingOf, pnode_among};
+ghost use Rattle.pass_turns.specs.Walkers.{HasWent, IsLeftTruly, IsLivingOf, pnode_among};
 
 use crate::children::Children;
 use crate::ends::Cause;
@@ -198,7 +198,8 @@ impl<J: Opening> Living<J> {
         ground: &Ground<'a, 'g, R, J, D, G>,
     ) -> Went<J>
         requires { IsLivingOf J.book.session (plain_trace ground.now.plan.now) self }
-        ensures { HasWent J.book.session J.places (plain_trace ground.now.plan.now) self result }
+        ensures went { HasWent J.book.session J.places (plain_trace ground.now.plan.now) self result }
+        ensures fault { IsLeftTruly D.view J.ground.opened result.walker }
     {
         let Some(place) = self.line else {
             return self.exit(ground);
@@ -215,7 +216,8 @@ impl<J: Opening> Living<J> {
     fn exit<'a, 'g, R: Wait, D: Disk, G: Gate>(self, ground: &Ground<'a, 'g, R, J, D, G>) -> Went<J>
         requires living { IsLivingOf J.book.session (plain_trace ground.now.plan.now) self }
         requires line { self.line ≡ None }
-        ensures { HasWent J.book.session J.places (plain_trace ground.now.plan.now) self result }
+        ensures went { HasWent J.book.session J.places (plain_trace ground.now.plan.now) self result }
+        ensures fault { IsLeftTruly D.view J.ground.opened result.walker }
     {
         lives();
         ground.plan.ordered();
@@ -243,7 +245,8 @@ impl<J: Opening> Living<J> {
         requires living { IsLivingOf J.book.session (plain_trace ground.now.plan.now) self }
         requires line { self.line ≡ Some place }
         requires forks { (l : AnyLine) → slice_get (plain_trace ground.now.plan.now) place ≡ Some l → l.call ≡ fork_as child }
-        ensures { HasWent J.book.session J.places (plain_trace ground.now.plan.now) self result }
+        ensures went { HasWent J.book.session J.places (plain_trace ground.now.plan.now) self result }
+        ensures fault { IsLeftTruly D.view J.ground.opened result.walker }
     {
         ground.plan.ordered();
         let mut living = self;
@@ -267,7 +270,8 @@ impl<J: Opening> Living<J> {
         requires living { IsLivingOf J.book.session (plain_trace ground.now.plan.now) self }
         requires line { self.line ≡ Some place }
         requires other { (l : AnyLine) (child : ℕ) → slice_get (plain_trace ground.now.plan.now) place ≡ Some l → l.call ≢ fork_as child }
-        ensures { HasWent J.book.session J.places (plain_trace ground.now.plan.now) self result }
+        ensures went { HasWent J.book.session J.places (plain_trace ground.now.plan.now) self result }
+        ensures fault { IsLeftTruly D.view J.ground.opened result.walker }
     {
         standing();
         lives();

@@ -41,7 +41,7 @@ pub hand_out-requires-clause-enough : goal.hand_out-requires-clause-enough
 hand_out-requires-clause-enough g c =
     let ran = has_ran g.D.Disk.view (g.D.Disk.view c.args.first.value) c.args.trace.now.lines.items c.args.opened c.ends.ensures.ran c.requires.trace c.requires.session g.J.Whose.book c.requires.book g.J.Whose.places c.requires.places
     c.run-trails.result.trails.items c.run-trails.result.last c.finish-finished.result.closed.history.items
-    (subst (λ (ls : List TraceLine). IsRanBy g.J.Whose.book.session g.J.Whose.places (plain_trace ls) c.run-trails.result.trails.items c.run-trails.result.last) c.requires.plan c.run-trails.ensures)
+    (subst (λ (ls : List TraceLine). IsRanBy g.J.Whose.book.session g.J.Whose.places (plain_trace ls) c.run-trails.result.trails.items c.run-trails.result.last) c.requires.plan c.run-trails.ensures.ran)
     c.finish-finished.ensures.legal c.finish-finished.ensures.trails in
     ran.enough
 
@@ -49,7 +49,7 @@ pub hand_out-requires-clause-forked : goal.hand_out-requires-clause-forked
 hand_out-requires-clause-forked g c =
     let ran = has_ran g.D.Disk.view (g.D.Disk.view c.args.first.value) c.args.trace.now.lines.items c.args.opened c.ends.ensures.ran c.requires.trace c.requires.session g.J.Whose.book c.requires.book g.J.Whose.places c.requires.places
     c.run-trails.result.trails.items c.run-trails.result.last c.finish-finished.result.closed.history.items
-    (subst (λ (ls : List TraceLine). IsRanBy g.J.Whose.book.session g.J.Whose.places (plain_trace ls) c.run-trails.result.trails.items c.run-trails.result.last) c.requires.plan c.run-trails.ensures)
+    (subst (λ (ls : List TraceLine). IsRanBy g.J.Whose.book.session g.J.Whose.places (plain_trace ls) c.run-trails.result.trails.items c.run-trails.result.last) c.requires.plan c.run-trails.ensures.ran)
     c.finish-finished.ensures.legal c.finish-finished.ensures.trails in
     ran.forked
 
@@ -69,7 +69,7 @@ returns g c =
     let e = c.hand_out.result in
     let ran = has_ran g.D.Disk.view (g.D.Disk.view c.args.first.value) c.args.trace.now.lines.items c.args.opened c.ends.ensures.ran c.requires.trace c.requires.session g.J.Whose.book c.requires.book g.J.Whose.places c.requires.places
     c.run-trails.result.trails.items c.run-trails.result.last c.finish-finished.result.closed.history.items
-    (subst (λ (ls : List TraceLine). IsRanBy g.J.Whose.book.session g.J.Whose.places (plain_trace ls) c.run-trails.result.trails.items c.run-trails.result.last) c.requires.plan c.run-trails.ensures)
+    (subst (λ (ls : List TraceLine). IsRanBy g.J.Whose.book.session g.J.Whose.places (plain_trace ls) c.run-trails.result.trails.items c.run-trails.result.last) c.requires.plan c.run-trails.ensures.ran)
     c.finish-finished.ensures.legal c.finish-finished.ensures.trails in
     let start : SameButBytes f.start book.session.start × IsBare f.start = subst (λ (s : Start). SameButBytes s book.session.start × IsBare s) (sym said.start) begun.start in
     subst (λ (r : RunEnd g.row.D.Denot). IsRunOver view old lines r)

@@ -4,6 +4,7 @@ use Rattle.pass_turns.specs.Tasks.{task_of}
 use Rattle.pass_turns.specs.Turners.{TurnerState}
 use Rattle.pass_turns.proofs.task.Turner.meet.Goals as goal
 use Rattle.pass_trace.specs.TraceLines.{plain_trace}
+use Rattle.pass_turns.proofs.Faults.{met_truly}
 use Rattle.pass_turns.proofs.MetTasks.{met_so}
 use Rattle.pass_turns.proofs.MetWalkers.{knows}
 
@@ -44,7 +45,8 @@ invariant_of-self g c =
     let lines = c.self.inside.ground.now.plan.now in
     let others = c.other.inside.ground.now.plan.now in
     let so = met_so session places lines others c.self.inside.walker c.other.inside.walker (c.met.new.first, c.met.new.other) c.met.ensures c.self.invariant.0 c.other.invariant.0 in
-    (so.first_is, c.self.invariant.1, λ h. absurd (let z : false ≡ true = h in cc))
+    let truly = met_truly g.D.Disk.view g.J.Opening.ground.opened session (plain_trace lines) c.self.inside.walker c.other.inside.walker (c.met.new.first, c.met.new.other) c.met.ensures c.self.invariant.3 c.other.invariant.3 in
+    (so.first_is, c.self.invariant.1, λ h. absurd (let z : false ≡ true = h in cc), truly.0)
 
 pub invariant_of-other : goal.invariant_of-other
 invariant_of-other g c =
@@ -53,4 +55,5 @@ invariant_of-other g c =
     let lines = c.self.inside.ground.now.plan.now in
     let others = c.other.inside.ground.now.plan.now in
     let so = met_so session places lines others c.self.inside.walker c.other.inside.walker (c.met.new.first, c.met.new.other) c.met.ensures c.self.invariant.0 c.other.invariant.0 in
-    (so.second_is, c.other.invariant.1, λ h. absurd (let z : false ≡ true = h in cc))
+    let truly = met_truly g.D.Disk.view g.J.Opening.ground.opened session (plain_trace lines) c.self.inside.walker c.other.inside.walker (c.met.new.first, c.met.new.other) c.met.ensures c.self.invariant.3 c.other.invariant.3 in
+    (so.second_is, c.other.invariant.1, λ h. absurd (let z : false ≡ true = h in cc), truly.1)

@@ -15,7 +15,7 @@ bear-requires-clause-room g c =
     let session = g.J.Whose.book.session in
     let places = g.J.Whose.places in
     let lines = c.self.inside.ground.now.plan.now in
-    let went = subst (λ v. WalkerWent session places (plain_trace lines) v c.go-walker.result) c.replace-walker.ensures.value c.go-walker.ensures in
+    let went = subst (λ v. WalkerWent session places (plain_trace lines) v c.go-walker.result) c.replace-walker.ensures.value c.go-walker.ensures.went in
     room_for _ (length (kid_tasks lines c.go-walker.result.kid)) (left_of (plain_trace lines) c.self.inside.walker) c.args.self.now.left _ c.requires (ap (λ (t : TurnerState). t.left) c.self.view_is)
     (kid_fits session places lines c.self.inside.walker c.go-walker.result went)
 
@@ -24,7 +24,7 @@ returns-clause-turn g c =
     let session = g.J.Whose.book.session in
     let places = g.J.Whose.places in
     let lines = c.self.inside.ground.now.plan.now in
-    let went = subst (λ v. WalkerWent session places (plain_trace lines) v c.go-walker.result) c.replace-walker.ensures.value c.go-walker.ensures in
+    let went = subst (λ v. WalkerWent session places (plain_trace lines) v c.go-walker.result) c.replace-walker.ensures.value c.go-walker.ensures.went in
     let both = turned session places lines c.self.inside.walker c.go-walker.result c.self.invariant.0 went c.self.inside.turns c.one_more-self-inside.result c.self.inside.last c.self.inside.waits c.is_waiting-self-inside.result c.one_more-self-inside.ensures in
     let whole = subst (λ (before : TurnerState). IsWholeTurn before (kid_tasks lines c.go-walker.result.kid) c.go-walker.result.answer (task_of lines c.go-walker.result.walker c.one_more-self-inside.result (Some c.go-walker.result.answer) c.is_waiting-self-inside.result)) c.self.view_is both in
     (kid_tasks lines c.go-walker.result.kid, c.bear.ensures.born, whole.0, whole.1)
@@ -34,8 +34,9 @@ invariant_of-self g c =
     let session = g.J.Whose.book.session in
     let places = g.J.Whose.places in
     let lines = c.self.inside.ground.now.plan.now in
-    let went = subst (λ v. WalkerWent session places (plain_trace lines) v c.go-walker.result) c.replace-walker.ensures.value c.go-walker.ensures in (
+    let went = subst (λ v. WalkerWent session places (plain_trace lines) v c.go-walker.result) c.replace-walker.ensures.value c.go-walker.ensures.went in (
       walker_is session places lines c.self.inside.walker c.go-walker.result c.self.invariant.0 went,
       rises_some c.self.inside.turns c.one_more-self-inside.result c.one_more-self-inside.ensures,
       λ h. walker_waits session places lines c.self.inside.walker c.go-walker.result went (c.is_waiting-self-inside.ensures h),
+      c.go-walker.ensures.fault,
     )

@@ -1,7 +1,8 @@
 use Rattle.std.proofs.Common.{◌≡◌, subst}
 use Rattle.pass_trace.specs.TraceLines.{plain_line}
-use Rattle.pass_turns.specs.Outcomes.{IsAfter}
+use Rattle.pass_turns.specs.Outcomes.{IsAfter, outcome_of}
 use Rattle.pass_turns.proofs.walker.Living.call.Goals as goal
+use Rattle.pass_turns.proofs.Faults.{after_truly, answered_truly}
 use Rattle.pass_turns.proofs.Linked.{plain_at}
 use Rattle.pass_turns.proofs.LinesAt.{within_lines}
 use Rattle.pass_turns.proofs.Turning.{called_so, may_call, may_make_it}
@@ -25,9 +26,15 @@ make-end-requires-clause-goes g c =
     may_make_it g.J.Whose.book.session c.args.ground.now.plan.now c.ordered.ensures c.args.self c.requires.living c.args.place c.requires.line c.line.result.now c.line.ensures
     c.standing.ensures.last_read c.between.ensures c.waited-waited.result c.waited-waited.ensures
 
-pub returns : goal.returns
-returns g c =
+pub returns-clause-went : goal.returns-clause-went
+returns-clause-went g c =
     called_so g.J.Whose.book.session c.args.ground.now.plan.now c.ordered.ensures c.args.self c.requires.living c.args.place c.requires.line c.line.result.now c.line.ensures
-    c.standing.ensures.last_read c.between.ensures c.waited-waited.result c.waited-waited.ensures c.requires.other c.lives.ensures.birth g.J.Whose.places c.make-end.new.proc c.make-end.result c.make-end.ensures
+    c.standing.ensures.last_read c.between.ensures c.waited-waited.result c.waited-waited.ensures c.requires.other c.lives.ensures.birth g.J.Whose.places c.make-end.new.proc c.make-end.result c.make-end.ensures.call
     c.next-next.result c.next-next.ensures c.left-left.result c.left-left.ensures c.after.result
+    (subst (λ o. IsAfter o c.next-next.result c.left-left.result (record c.args.self { proc = c.make-end.new.proc }) c.after.result) c.answered.ensures c.after.ensures)
+
+pub returns-clause-fault : goal.returns-clause-fault
+returns-clause-fault g c =
+    after_truly g.D.Disk.view g.J.Opening.ground.opened (outcome_of c.make-end.result) (answered_truly g.D.Disk.view g.J.Opening.ground.opened c.make-end.result c.make-end.ensures.fault)
+    c.next-next.result c.left-left.result (record c.args.self { proc = c.make-end.new.proc }) c.after.result
     (subst (λ o. IsAfter o c.next-next.result c.left-left.result (record c.args.self { proc = c.make-end.new.proc }) c.after.result) c.answered.ensures c.after.ensures)

@@ -1,5 +1,5 @@
 -- A turn by the call of a line.
-use Rattle.std.proofs.Common.{◌≡◌, ◌≢◌, ◌<◌, ◌≤◌, ◌+◌, ℕ, List, [], length, drop, take, refl, ap, sym, ◌∙◌, subst, arith, inl, true, false}
+use Rattle.std.proofs.Common.{◌≡◌, ◌≢◌, ◌<◌, ◌+◌, ℕ, List, [], length, drop, take, refl, ap, sym, ◌∙◌, subst, arith, false}
 use Rattle.std.specs.Prelude.{Option, Some, None, Result, Ok, Err, slice_get}
 use Rattle.std.proofs.lemmas.Option.{slice_get_within}
 use mathlib.Core.List.{IsPrefix}
@@ -11,7 +11,6 @@ use Rattle.pass_plain.specs.Places.{left_places, need_of}
 use Rattle.pass_plain.specs.Processes.{has_ended}
 use Rattle.pass_plain.specs.Sessions.{Session}
 use Rattle.pass_plain.specs.Traces.{Line, LineCall, given, write_last, fork_as, wait_for, request_of, lines_of, calls_of}
-use Rattle.pass_plain.specs.Runs.{next_number}
 use Rattle.pass_plain.proofs.Lists.{some_is}
 use Rattle.pass_calls.specs.declared.answer.CallEnd.{CallEnd}
 use Rattle.pass_calls.specs.declared.answer.CallEnd.TheVariants as ends
@@ -35,7 +34,7 @@ use Rattle.pass_turns.specs.Outcomes.{IsAfter, outcome_of}
 use Rattle.pass_turns.specs.Walkers.{HasWent, IsLivingOf, pnode_among}
 use Rattle.pass_turns.proofs.LeftLemmas.{left_line}
 use Rattle.pass_turns.proofs.Placed.{line_there, next_line}
-use Rattle.pass_turns.proofs.Walks.{known_after, left_went, makes_now, may_go_on, no_fork, request, right_now, stayed, waits, went_on}
+use Rattle.pass_turns.proofs.Walks.{known_after, left_went, makes_now, may_go_on, no_fork, right_now, stayed, waits, went_on}
 
 pub waited_same : (pnode : ℕ → ℕ) (waited : ℕ) (last : List ℕ) (call : LineCall) → ((q : ℕ) → call ≡ wait_for q → waited ≡ pnode q) → request_of (λ p. waited) last call ≡ request_of pnode last call
 waited_same pnode waited last (given r) known = refl

@@ -1,13 +1,12 @@
 -- From the tasks of a run to the history that its store hands out.
-use Rattle.std.proofs.Common.{◌≡◌, ◌≢◌, ◌<◌, ◌≤◌, ◌+◌, ℕ, List, [], ◌∷◌, map, refl, ap, sym, ◌∙◌, subst, true, false, All, inl, inr, Some, None, length, arith}
-use Rattle.std.specs.Prelude.{slice_get, Contains, Option}
+use Rattle.std.proofs.Common.{◌≡◌, ◌≢◌, ◌≤◌, ◌+◌, ℕ, List, [], ◌∷◌, map, refl, ap, sym, ◌∙◌, subst, true, false, All, inl, inr, Some, None, length, arith}
+use Rattle.std.specs.Prelude.{slice_get, Contains}
 use Rattle.std.proofs.lemmas.List.Elements.{All-contains, Contains-push}
 use Rattle.pass_entry.specs.declared.entry.Entry.{Entry}
 use Rattle.pass_plain.specs.Legal.{is_over}
 use Rattle.pass_plain.specs.Processes.{has_ended}
-use Rattle.pass_plain.specs.Runs.{pnode_of_process}
 use Rattle.pass_plain.specs.Sessions.{Session}
-use Rattle.pass_plain.specs.Traces.{Line, calls_of}
+use Rattle.pass_plain.specs.Traces.{calls_of}
 use Rattle.pass_trace.specs.TraceLines.{plain_trace}
 use Rattle.pass_trace.specs.declared.trace.TraceLine.{TraceLine}
 use Rattle.pass_proc.specs.Ends.{TrailView}

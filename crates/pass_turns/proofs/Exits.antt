@@ -1,16 +1,15 @@
 -- A turn by the exit of a process.
-use Rattle.std.proofs.Common.{◌≡◌, ◌≢◌, ◌<◌, ◌≤◌, ◌+◌, ℕ, List, [], ◌∷◌, ◌++◌, length, map, refl, ap, sym, ◌∙◌, subst, arith, inl, inr, true, false}
+use Rattle.std.proofs.Common.{◌≡◌, ℕ, List, [], length, map, refl, ap, sym, ◌∙◌, subst, arith, inl, inr, true, false}
 use Rattle.std.specs.Prelude.{Option, Some, None, slice_get}
 use Rattle.std.proofs.lemmas.List.{length-map}
 use Rattle.pass_plain.specs.declared.request.Request.TheVariants as requests
 use Rattle.pass_plain.specs.Legal.{is_over}
 use Rattle.pass_plain.specs.Sessions.{Session}
 use Rattle.pass_plain.specs.Traces.{Line, given, lines_of, calls_of}
-use Rattle.pass_plain.specs.Runs.{next_number}
 use Rattle.pass_plain.proofs.Appends.{slice_get-last}
 use Rattle.pass_lives.specs.Exits.{HasExited}
 use Rattle.pass_proc.specs.Ends.{TrailView}
-use Rattle.pass_progress.specs.Progress.{BirthLaw, ExitLaw, IsAtRest, IsBetween, MayGoOn}
+use Rattle.pass_progress.specs.Progress.{BirthLaw, ExitLaw, IsAtRest, IsBetween}
 use Rattle.pass_replay.specs.Lines.{AreLinesBehind, IsLineAt}
 use Rattle.pass_replay.specs.Members.{MakesSteps}
 use Rattle.pass_replay.proofs.NextCalls.{calls_length}

@@ -1,6 +1,6 @@
 -- A process is left for a fault of the disk only where there was one.
-use Rattle.std.proofs.Common.{◌≡◌, ℕ, List, refl, sym, subst}
-use Rattle.std.specs.Prelude.{IfErr, Option, Some, None, Result, Ok, Err}
+use Rattle.std.proofs.Common.{◌≡◌, ℕ, List, sym, subst}
+use Rattle.std.specs.Prelude.{IfErr, Option, Result, Ok, Err}
 use Rattle.pass_outside.specs.Moments.{Moment}
 use Rattle.pass_plain.specs.Sessions.{Session}
 use Rattle.pass_plain.specs.Traces.{Line}
@@ -12,9 +12,6 @@ use Rattle.pass_calls.specs.declared.answer.Moved.{Moved}
 use Rattle.pass_proc.specs.Procs.{ProcView}
 use Rattle.pass_store.specs.Closings.{HasCause}
 use Rattle.pass_turns.specs.declared.ends.Cause.{Cause}
-use Rattle.pass_turns.specs.declared.ends.Cause.TheVariants as causes
-use Rattle.pass_turns.specs.declared.walker.Ended.{Ended as EndedProcess}
-use Rattle.pass_turns.specs.declared.walker.Left.{Left as LeftProcess}
 use Rattle.pass_turns.specs.declared.walker.Living.{Living}
 use Rattle.pass_turns.specs.declared.walker.Outcome.{Outcome}
 use Rattle.pass_turns.specs.declared.walker.Outcome.TheVariants as outcomes

@@ -1,17 +1,16 @@
 -- A turn by the fork of a line.
 use Rattle.std.proofs.Common.{◌≡◌, ◌≢◌, ◌<◌, ◌≤◌, ◌+◌, ◌-◌, ℕ, zero, suc, List, [], ◌∷◌, ◌++◌, length, drop, take, refl, ap, sym, ◌∙◌, subst, arith, inl, inr, true, false, cond, ◌==◌}
-use Rattle.std.specs.Prelude.{Option, Some, None, Err, slice_get}
+use Rattle.std.specs.Prelude.{Option, Some, None, slice_get}
 use Rattle.std.proofs.lemmas.Bool.{cases_lt}
 use Rattle.std.proofs.lemmas.List.{append-nil}
 use Rattle.std.proofs.lemmas.Option.{slice_get_within}
-use Rattle.pass_entry.specs.declared.entry.Entry.{Entry}
 use Rattle.pass_plain.specs.declared.request.Request.TheVariants as requests
 use Rattle.pass_plain.specs.Histories.{call_entries}
 use Rattle.pass_plain.specs.Calls.{pnode_at}
-use Rattle.pass_plain.specs.Legal.{is_over, last_number}
+use Rattle.pass_plain.specs.Legal.{is_over}
 use Rattle.pass_plain.specs.Sessions.{Session}
 use Rattle.pass_plain.specs.Traces.{Line, LineCall, fork_as, lines_of, calls_of}
-use Rattle.pass_plain.specs.Runs.{next_number, pnode_of_process}
+use Rattle.pass_plain.specs.Runs.{pnode_of_process}
 use Rattle.pass_plain.proofs.Lists.{some_is, any_of, same_itself, filtered, slice_get-front}
 use Rattle.pass_calls.specs.declared.answer.CallEnd.{CallEnd}
 use Rattle.pass_calls.specs.declared.answer.CallEnd.TheVariants as ends
@@ -27,17 +26,15 @@ use Rattle.pass_replay.proofs.NextCalls.{behind_at, calls_length, line_behind}
 use Rattle.pass_replay.proofs.Positions.{equal, unequal, lines-append}
 use Rattle.pass_sched.specs.declared.task.Turn.TheVariants as turn
 use Rattle.pass_turns.specs.declared.children.Children.{Children}
-use Rattle.pass_turns.specs.declared.ends.Cause.{Cause}
 use Rattle.pass_turns.specs.declared.ends.Cause.TheVariants as causes
 use Rattle.pass_turns.specs.declared.walker.Living.{Living}
 use Rattle.pass_turns.specs.declared.walker.Outcome.TheVariants as outcomes
 use Rattle.pass_turns.specs.declared.walker.Walker.TheVariants as walker
 use Rattle.pass_turns.specs.declared.walker.Went.{Went}
 use Rattle.pass_turns.specs.Calls.{HasForked, HasNotForked}
-use Rattle.pass_turns.specs.Causes.{IsCauseOf}
 use Rattle.pass_turns.specs.Local.{IsLocal}
 use Rattle.pass_turns.specs.Lefts.{of_child, left_in, left_at}
-use Rattle.pass_turns.specs.Outcomes.{HasBorne, IsAfter, unfinished_of}
+use Rattle.pass_turns.specs.Outcomes.{IsAfter, unfinished_of}
 use Rattle.pass_turns.specs.Walkers.{HasWent, IsLivingOf, pnode_among}
 use Rattle.pass_turns.proofs.CallTurns.{another, call_stands, in_lines, its_request, lacks, left_after, left_with, line_after, waits_there}
 use Rattle.pass_turns.proofs.LeftBounds.{behind_from}

@@ -1,8 +1,7 @@
 -- What a store's history at the end makes of a run.
-use Rattle.std.proofs.Common.{◌≡◌, ◌≢◌, ◌<◌, ◌≤◌, ◌+◌, ℕ, zero, suc, List, [], ◌∷◌, ◌++◌, map, take, refl, ap, sym, ◌∙◌, subst, true, false, Bool, ◌&&◌, ◌==◌, cond, All, Some, length, length-append, arith}
+use Rattle.std.proofs.Common.{◌≡◌, ◌≢◌, ◌<◌, ◌≤◌, ◌+◌, ℕ, List, [], ◌∷◌, map, refl, ap, sym, ◌∙◌, subst, true, false, Bool, ◌&&◌, ◌==◌, cond, Some, length, length-append, arith}
 use Rattle.std.specs.Prelude.{slice_get, Contains}
 use Rattle.std.proofs.lemmas.List.Elements.{All-contains}
-use Rattle.std.proofs.lemmas.Option.{slice_get_within}
 use mathlib.Core.List.{IsPrefix}
 use Rattle.pass_entry.specs.declared.entry.Act.TheVariants as act
 use Rattle.pass_entry.specs.declared.entry.CallName.{CallName}
@@ -28,14 +27,14 @@ use Rattle.pass_trace.specs.declared.trace.TraceLine.{TraceLine}
 use Rattle.pass_proc.specs.Ends.{TrailView}
 use Rattle.pass_replay.specs.Lines.{AreLinesBehind}
 use Rattle.pass_replay.specs.Making.{first_entry}
-use Rattle.pass_replay.specs.Members.{Member, IsHistoryOf}
-use Rattle.pass_replay.specs.Needs.{need_of_line, places_of}
+use Rattle.pass_replay.specs.Members.{Member}
+use Rattle.pass_replay.specs.Needs.{places_of}
 use Rattle.pass_replay.specs.Replays.{HasRun, RunLaw, DoneLaw, StuckLaw, ForkLaw, PlacesLaw}
 use Rattle.pass_replay.specs.Starts.{RoomLaw}
 use Rattle.pass_turns.specs.declared.ends.Last.{Last}
 use Rattle.pass_turns.specs.declared.ends.Last.TheVariants as lasts
 use Rattle.pass_turns.specs.declared.ends.Cause.TheVariants as causes
-use Rattle.pass_turns.specs.Runs.{IsRanBy, IsRanTo, IsTold, RanLaw, trail_of}
+use Rattle.pass_turns.specs.Runs.{IsRanBy, IsRanTo, IsTold, trail_of}
 use Rattle.pass_turns.proofs.Among.{among, contains, to_map}
 
 -- The first entry of a history

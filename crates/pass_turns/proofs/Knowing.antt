@@ -10,7 +10,6 @@ use Rattle.pass_replay.specs.Members.{Waits}
 use Rattle.pass_replay.proofs.Parts.{contains_at}
 use Rattle.pass_replay.proofs.Positions.{unequal}
 use Rattle.pass_plain.proofs.Lists.{some_is}
-use Rattle.pass_turns.specs.declared.ends.Cause.{Cause}
 use Rattle.pass_turns.specs.declared.walker.Living.{Living}
 use Rattle.pass_turns.specs.declared.walker.Walker.{Walker}
 use Rattle.pass_turns.specs.declared.walker.Walker.TheVariants as walker

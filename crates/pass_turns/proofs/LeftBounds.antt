@@ -1,12 +1,12 @@
 -- At most two turns for each line are left to a process, and its exit: no two of its lines, or of those that it will bear, fork the same child.
-use Rattle.std.proofs.Common.{◌≡◌, ◌≢◌, ◌<◌, ◌≤◌, ◌+◌, ℕ, zero, suc, List, [], ◌∷◌, ◌++◌, length, take, drop, refl, ap, sym, ◌∙◌, subst, arith, Bool, true, false, ◌==◌, cond, append_assoc, length-append}
+use Rattle.std.proofs.Common.{◌≡◌, ◌≢◌, ◌≤◌, ◌+◌, ℕ, suc, List, [], ◌∷◌, ◌++◌, length, take, drop, refl, ap, sym, ◌∙◌, subst, arith, Bool, true, false, ◌==◌, cond, append_assoc, length-append}
 use Rattle.std.specs.Prelude.{Some, slice_get}
 use Rattle.std.proofs.lemmas.List.{append-nil}
 use Rattle.pass_plain.specs.Traces.{Line, LineCall, given, write_last, fork_as, wait_for}
 use Rattle.pass_plain.proofs.Lists.{same_numbers}
-use Rattle.pass_replay.specs.Lines.{AreLinesBehind, IsLineBehind, is_there}
+use Rattle.pass_replay.specs.Lines.{AreLinesBehind, is_there}
 use Rattle.pass_replay.proofs.Begun.{there_now, there_stays}
-use Rattle.pass_replay.proofs.Positions.{equal, unequal}
+use Rattle.pass_replay.proofs.Positions.{unequal}
 use Rattle.pass_turns.specs.Lefts.{of_child, left_in}
 use Rattle.pass_turns.proofs.Placed.{parts_at}
 use Rattle.pass_turns.proofs.LeftLemmas.{drop_at}

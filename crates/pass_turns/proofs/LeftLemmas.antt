@@ -1,7 +1,7 @@
 -- How many turns are left from one line of a process to its next one.
 use Rattle.std.proofs.Common.{◌≡◌, ◌≢◌, ◌<◌, ◌≤◌, ◌+◌, ◌-◌, ℕ, zero, suc, List, [], ◌∷◌, length, drop, refl, ap, sym, ◌∙◌, arith, Bool, true, false, ◌==◌, cond}
 use Rattle.std.specs.Prelude.{Option, Some, None, slice_get}
-use Rattle.pass_plain.specs.Traces.{Line, LineCall, fork_as}
+use Rattle.pass_plain.specs.Traces.{Line}
 use Rattle.pass_plain.proofs.Lists.{some_is}
 use Rattle.pass_replay.specs.Lines.{IsNextLine}
 use Rattle.pass_replay.proofs.Positions.{equal, unequal}

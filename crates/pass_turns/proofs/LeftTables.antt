@@ -1,12 +1,12 @@
 -- How many turns are left to each process, from one line earlier on.
-use Rattle.std.proofs.Common.{◌≡◌, ◌≢◌, ◌<◌, ◌≤◌, ◌+◌, ℕ, zero, suc, List, [], ◌∷◌, length, drop, refl, ap, sym, ◌∙◌, subst, arith, inl, inr, cond}
-use Rattle.std.specs.Prelude.{Option, Some, None, slice_get, slice_set}
+use Rattle.std.proofs.Common.{◌≡◌, ◌≤◌, ◌+◌, ℕ, suc, List, [], length, drop, refl, ap, sym, ◌∙◌, arith, inl, inr, cond}
+use Rattle.std.specs.Prelude.{Some, slice_get, slice_set}
 use Rattle.std.specs.Option.{option_map_or}
 use Rattle.std.specs.Ordering.{nat_cmp}
-use Rattle.std.specs.BTreeMap.{BTreeMap, get, Updates, IsEmpty}
+use Rattle.std.specs.BTreeMap.{BTreeMap, Updates, IsEmpty}
 use Rattle.std.proofs.lemmas.Bool.{cases_lt}
 use Rattle.std.proofs.lemmas.Option.{slice_get_within}
-use Rattle.pass_plain.specs.Traces.{Line, LineCall}
+use Rattle.pass_plain.specs.Traces.{Line}
 use Rattle.pass_plain.proofs.Lists.{some_is}
 use Rattle.pass_replay.specs.Lines.{AreLinesBehind}
 use Rattle.pass_replay.proofs.Positions.{equal, unequal}

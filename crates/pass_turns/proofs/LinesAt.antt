@@ -1,10 +1,9 @@
 -- The line of the text that a process stands at.
-use Rattle.std.proofs.Common.{◌≡◌, ◌<◌, ℕ, List, length, refl, ap, sym, ◌∙◌, subst}
-use Rattle.std.specs.Prelude.{Option, Some, None, slice_get}
+use Rattle.std.proofs.Common.{◌≡◌, ◌<◌, ℕ, List, length, subst}
+use Rattle.std.specs.Prelude.{Option, Some}
 use Rattle.std.proofs.lemmas.Option.{slice_get_within}
 use Rattle.pass_plain.specs.Sessions.{Session}
-use Rattle.pass_plain.specs.Traces.{Line}
-use Rattle.pass_trace.specs.TraceLines.{plain_line, plain_trace}
+use Rattle.pass_trace.specs.TraceLines.{plain_trace}
 use Rattle.pass_trace.specs.declared.trace.TraceLine.{TraceLine}
 use Rattle.pass_replay.specs.Lines.{IsLineAt}
 use Rattle.pass_turns.specs.declared.walker.Living.{Living}

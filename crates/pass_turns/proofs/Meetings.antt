@@ -1,25 +1,23 @@
 -- Processes that come to one history.
-use Rattle.std.proofs.Common.{◌≡◌, ◌≢◌, ◌<◌, ◌≤◌, ◌+◌, ℕ, zero, suc, List, [], ◌∷◌, ◌++◌, length, take, drop, refl, ap, sym, ◌∙◌, subst, arith, All, true, false, sum_by, inl, inr, Bool, ◌==◌}
-use Rattle.std.specs.Prelude.{Option, Some, None, slice_get, slice_set, Contains, max}
+use Rattle.std.proofs.Common.{◌≡◌, ◌<◌, ◌≤◌, ℕ, zero, suc, List, [], ◌∷◌, ◌++◌, length, take, drop, refl, ap, sym, ◌∙◌, subst, arith, true, false, sum_by, inl, inr, ◌==◌}
+use Rattle.std.specs.Prelude.{Some, slice_get, slice_set, max}
 use Rattle.std.specs.List.{list_any}
 use Rattle.std.proofs.lemmas.Bool.{cases_lt}
-use Rattle.std.proofs.lemmas.List.{append-nil, take-append-le}
+use Rattle.std.proofs.lemmas.List.{take-append-le}
 use Rattle.std.proofs.lemmas.List.Elements.{All-nil, All-contains}
 use Rattle.std.proofs.lemmas.List.Sums.{sum_by-append}
-use Rattle.std.proofs.lemmas.Option.{slice_get_within}
 use mathlib.Core.List.{IsPrefix}
 use Rattle.pass_entry.specs.declared.entry.Entry.{Entry}
-use Rattle.pass_plain.specs.declared.request.Request.{Request}
 use Rattle.pass_plain.specs.Lawful.{AgreeBy}
 use Rattle.pass_plain.specs.Legal.{IsLegal, ends_call, is_over}
-use Rattle.pass_plain.specs.Processes.{Process, has_begun}
+use Rattle.pass_plain.specs.Processes.{has_begun}
 use Rattle.pass_plain.specs.Sessions.{Session}
-use Rattle.pass_plain.specs.Traces.{Line, LineCall, calls_of}
+use Rattle.pass_plain.specs.Traces.{Line, calls_of}
 use Rattle.pass_plain.proofs.TwoPrefixes.{SameCaller, caller_agrees, none_later}
 use Rattle.pass_plain.proofs.Lists.{same_itself, slice_get-front, some_is}
 use Rattle.pass_hold.specs.Goings.{Goes, HasNotAnswered, LookLaw, StillLaw, UnansweredLaw}
 use Rattle.pass_proc.specs.Procs.{ProcView}
-use Rattle.pass_progress.specs.Progress.{IsBetween, LookedLaw, MayGoOn, UnderWayLaw}
+use Rattle.pass_progress.specs.Progress.{IsBetween, LookedLaw, UnderWayLaw}
 use Rattle.pass_replay.specs.Lines.{AreLinesBehind}
 use Rattle.pass_replay.specs.Members.{IsLineStep, MakesSteps}
 use Rattle.pass_replay.proofs.Parts.{own_within}
@@ -32,7 +30,7 @@ use Rattle.pass_turns.specs.declared.walker.Ended.{Ended as EndedProcess}
 use Rattle.pass_turns.specs.Meetings.{AreLater, HasComeOn, HasSeenMore, IsLater}
 use Rattle.pass_turns.specs.Tasks.{task_room}
 use Rattle.pass_turns.specs.Turners.{AreTasks, HasTask, IsBirthAmong, IsNewTask, Turned, TurnerState}
-use Rattle.pass_turns.specs.Walkers.{IsEndedOf, IsLivingOf, pnode_among}
+use Rattle.pass_turns.specs.Walkers.{IsEndedOf, IsLivingOf}
 use Rattle.pass_turns.proofs.Among.{Among, among, contains, all_of, in_both, in_left, in_right}
 use Rattle.pass_turns.proofs.Placed.{call_at, parts_at}
 use Rattle.pass_turns.proofs.Passing.{turned_not, turned_twice}

@@ -1,19 +1,16 @@
 -- Tasks whose processes have met.
-use Rattle.std.proofs.Common.{◌≡◌, ◌≢◌, ◌≤◌, ℕ, List, [], length, refl, ap, sym, ◌∙◌, subst, arith, inl, inr, Bool, true, false}
+use Rattle.std.proofs.Common.{◌≡◌, ◌≤◌, ℕ, List, length, refl, ap, sym, ◌∙◌, subst, arith, inl, inr, Bool, true, false}
 use Rattle.std.specs.Prelude.{Option, Some, None}
-use mathlib.Core.List.{IsPrefix}
 use Rattle.pass_plain.specs.Sessions.{Session}
-use Rattle.pass_plain.specs.Traces.{Line}
 use Rattle.pass_sched.specs.declared.task.Turn.{Turn}
 use Rattle.pass_trace.specs.TraceLines.{plain_trace}
 use Rattle.pass_trace.specs.declared.trace.TraceLine.{TraceLine}
-use Rattle.pass_turns.specs.declared.ends.Cause.{Cause}
 use Rattle.pass_turns.specs.declared.walker.Living.{Living}
 use Rattle.pass_turns.specs.declared.walker.Ended.{Ended as EndedProcess}
 use Rattle.pass_turns.specs.declared.walker.Walker.{Walker}
 use Rattle.pass_turns.specs.declared.walker.Walker.TheVariants as walker
 use Rattle.pass_turns.specs.Lefts.{left_at}
-use Rattle.pass_turns.specs.Meetings.{HasComeOn, HasSeenMore, HaveMet, IsLater}
+use Rattle.pass_turns.specs.Meetings.{HaveMet, IsLater}
 use Rattle.pass_turns.specs.Tasks.{task_of}
 use Rattle.pass_turns.specs.Walkers.{IsWalkerOf, cause_of, member_of}
 use Rattle.pass_turns.proofs.Meetings.{later_same, seen_more, turned_more}

@@ -8,15 +8,14 @@ use Rattle.std.proofs.lemmas.List.Elements.{All-nil, All-append, All-contains, A
 use Rattle.std.proofs.lemmas.List.Sorted.{Contains-permutation, IsPermutation-filter_both, IsPermutation-sym, sum_by-IsPermutation}
 use Rattle.std.proofs.lemmas.List.Sums.{sum_by-append}
 use Rattle.std.proofs.lemmas.Option.{slice_get_within}
-use mathlib.Core.List.{IsPrefix}
 use Rattle.pass_entry.specs.declared.entry.Entry.{Entry}
 use Rattle.pass_entry.specs.declared.entry.Act.TheVariants as act
-use Rattle.pass_plain.specs.Traces.{Line, fork_as, calls_of}
+use Rattle.pass_plain.specs.Traces.{Line}
 use Rattle.pass_plain.proofs.Lists.{slice_get-front, below_is, true_left, true_right, same_numbers}
 use Rattle.pass_trace.specs.TraceLines.{plain_trace}
 use Rattle.pass_sched.specs.declared.task.Task.{Ghosts}
 use Rattle.pass_sched.specs.declared.task.Turn.{Turn}
-use Rattle.pass_sched.specs.Passes.{Run, Moves, start, more, RunsOut, IsRun, IsPass, room_of, takes_part, joining, staying, end_of, end_by, has_ended, has_failed, has_moved}
+use Rattle.pass_sched.specs.Passes.{Run, Moves, start, more, IsRun, IsPass, room_of, takes_part, joining, staying, end_of, end_by, has_ended, has_failed, has_moved}
 use Rattle.pass_sched.specs.declared.pass.PassEnd.{PassEnd}
 use Rattle.pass_sched.specs.declared.pass.PassEnd.TheVariants as pass_end
 use Rattle.pass_trace.specs.declared.trace.TraceLine.{TraceLine}

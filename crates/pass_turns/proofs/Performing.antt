@@ -1,6 +1,6 @@
 -- A run, from its first process on.
 use Rattle.std.proofs.Common.{◌≡◌, ◌≤◌, ◌+◌, ℕ, List, [], ◌∷◌, length, refl, ap, sym, ◌∙◌, subst, arith, sum_by}
-use Rattle.std.specs.Prelude.{Option, Some, max}
+use Rattle.std.specs.Prelude.{Option, Some}
 use Rattle.pass_plain.specs.Sessions.{Session}
 use Rattle.pass_proc.specs.Procs.{ProcView}
 use Rattle.pass_progress.specs.Progress.{IsBetween, NewbornLaw}
@@ -11,7 +11,7 @@ use Rattle.pass_trace.specs.TraceLines.{plain_trace}
 use Rattle.pass_trace.specs.declared.trace.TraceLine.{TraceLine}
 use Rattle.pass_turns.specs.declared.children.Children.{Children}
 use Rattle.pass_turns.specs.declared.walker.Living.{Living}
-use Rattle.pass_turns.specs.Lefts.{left_at, left_in}
+use Rattle.pass_turns.specs.Lefts.{left_in}
 use Rattle.pass_turns.specs.Tasks.{new_task, task_room}
 use Rattle.pass_turns.specs.Turners.{AreTasks, TurnerState}
 use Rattle.pass_turns.specs.Walkers.{IsLivingOf}

@@ -1,5 +1,5 @@
 -- A turn by a line of the text.
-use Rattle.std.proofs.Common.{◌≡◌, ◌≢◌, ◌+◌, ◌==◌, ℕ, List, [], refl, ap, sym, ◌∙◌, subst, cond}
+use Rattle.std.proofs.Common.{◌≡◌, ◌≢◌, ◌+◌, ◌==◌, ℕ, List, [], ap, sym, ◌∙◌, subst, cond}
 use Rattle.std.specs.Prelude.{Option, Some, Result, slice_get}
 use Rattle.pass_plain.specs.declared.request.Request.TheVariants as requests
 use Rattle.pass_plain.specs.Sessions.{Session}
@@ -11,7 +11,6 @@ use Rattle.pass_proc.specs.Procs.{ProcView}
 use Rattle.pass_progress.specs.Progress.{BirthLaw, IsBetween, LastReadLaw, MayGoOn, Progresses}
 use Rattle.pass_replay.specs.Lines.{AreLinesBehind, IsLineAt, IsLineCall, IsNextLine}
 use Rattle.pass_trace.specs.TraceLines.{call_of, plain_line, plain_trace}
-use Rattle.pass_trace.specs.declared.trace.Command.{Command}
 use Rattle.pass_trace.specs.declared.trace.Command.TheVariants as command
 use Rattle.pass_trace.specs.declared.trace.TraceLine.{TraceLine}
 use Rattle.pass_turns.specs.declared.children.Children.{Children}

@@ -1,11 +1,10 @@
 -- Processes that come to one history. This project's own rule.
-use Rattle.std.specs.Prelude.{ℕ, ◌≡◌, ◌⊎◌, ◌≤◌, true, false, List, [], ◌∷◌, All, Contains, None, Some, length, slice_get}
+use Rattle.std.specs.Prelude.{ℕ, ◌≡◌, ◌⊎◌, ◌≤◌, true, false, List, [], ◌∷◌, All, Contains, Some, length}
 use mathlib.Core.List.{IsPrefix}
 use Rattle.pass_plain.specs.Lawful.{AgreeBy}
 use Rattle.pass_plain.specs.Sessions.{Session}
 use Rattle.pass_plain.specs.Legal.{IsLegal}
 use Rattle.pass_plain.specs.Traces.{Line}
-use Rattle.pass_proc.specs.Ends.{TrailView}
 use Rattle.pass_turns.specs.declared.walker.Living.{Living}
 use Rattle.pass_turns.specs.declared.walker.Ended.{Ended as EndedProcess}
 use Rattle.pass_turns.specs.declared.walker.Walker.{Walker}

@@ -1,4 +1,4 @@
-use Rattle.std.proofs.Common.{◌≡◌, ap, get_or, sym, arith, ◌∙◌}
+use Rattle.std.proofs.Common.{ap, get_or, sym, arith, ◌∙◌}
 use Rattle.std.proofs.lemmas.List.Elements.{Contains-get_or}
 use Rattle.pass_turns.specs.Turners.{TurnerState}
 use Rattle.pass_turns.proofs.passes.cause_of.Goals as goal

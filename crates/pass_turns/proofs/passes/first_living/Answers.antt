@@ -1,5 +1,5 @@
-use Rattle.std.proofs.Common.{◌≡◌, get_or, sym, subst, refl, arith, ap, ◌∙◌}
-use Rattle.std.specs.Prelude.{IsSome, Some}
+use Rattle.std.proofs.Common.{get_or, sym, subst, refl, arith, ap, ◌∙◌}
+use Rattle.std.specs.Prelude.{IsSome}
 use Rattle.std.proofs.lemmas.Option.{slice_get-get_or}
 use Rattle.pass_plain.proofs.Lists.{some_is}
 use Rattle.pass_turns.specs.Turners.{TurnerState}

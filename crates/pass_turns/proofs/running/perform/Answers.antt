@@ -1,4 +1,4 @@
-use Rattle.std.proofs.Common.{◌≡◌, ◌≤◌, ◌+◌, ◌∙◌, ℕ, List, [], ◌∷◌, ◌++◌, ap, arith, subst, sym, sum_by, length}
+use Rattle.std.proofs.Common.{◌≡◌, ◌≤◌, ◌+◌, ◌∙◌, ℕ, List, [], ◌∷◌, ◌++◌, ap, arith, subst, sym, sum_by}
 use Rattle.pass_trace.specs.TraceLines.{plain_trace}
 use Rattle.pass_proc.specs.Ends.{TrailView}
 use Rattle.pass_turns.specs.declared.ends.Last.{Last}

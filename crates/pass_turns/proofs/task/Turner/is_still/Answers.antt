@@ -1,4 +1,4 @@
-use Rattle.std.proofs.Common.{◌≡◌, ◌∙◌, sym, subst}
+use Rattle.std.proofs.Common.{◌∙◌, sym, subst}
 use Rattle.pass_plain.proofs.Lists.{same_numbers}
 use Rattle.pass_turns.specs.Turners.{IsStill}
 use Rattle.pass_turns.proofs.task.Turner.is_still.Goals as goal

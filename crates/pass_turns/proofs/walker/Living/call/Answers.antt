@@ -1,4 +1,4 @@
-use Rattle.std.proofs.Common.{◌≡◌, subst}
+use Rattle.std.proofs.Common.{subst}
 use Rattle.pass_trace.specs.TraceLines.{plain_line}
 use Rattle.pass_turns.specs.Outcomes.{IsAfter, outcome_of}
 use Rattle.pass_turns.proofs.walker.Living.call.Goals as goal

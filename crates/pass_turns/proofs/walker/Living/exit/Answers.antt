@@ -1,4 +1,3 @@
-use Rattle.std.proofs.Common.{◌≡◌}
 use Rattle.pass_trace.specs.TraceLines.{plain_trace}
 use Rattle.pass_turns.proofs.walker.Living.exit.Goals as goal
 use Rattle.pass_turns.proofs.Exits.{exited}

@@ -1,4 +1,4 @@
-use Rattle.std.proofs.Common.{◌≡◌, ◌∙◌, List, Some, ap, length, refl, subst, sym}
+use Rattle.std.proofs.Common.{◌∙◌, List, Some, ap, length, refl, subst, sym}
 use Rattle.pass_entry.specs.declared.entry.Entry.{Entry}
 use Rattle.pass_plain.specs.Legal.{IsLegal}
 use Rattle.pass_trace.specs.TraceLines.{plain_trace}

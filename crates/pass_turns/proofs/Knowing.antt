@@ -9,7 +9,7 @@ use Rattle.pass_trace.specs.declared.trace.TraceLine.{TraceLine}
 use Rattle.pass_replay.specs.Members.{Waits}
 use Rattle.pass_replay.proofs.Parts.{contains_at}
 use Rattle.pass_replay.proofs.Positions.{unequal}
-use Rattle.pass_plain.proofs.Lists.{some_is}
+use Rattle.pass_plain.proofs.Lists.{is_place, some_is}
 use Rattle.pass_turns.specs.declared.walker.Living.{Living}
 use Rattle.pass_turns.specs.declared.walker.Walker.{Walker}
 use Rattle.pass_turns.specs.declared.walker.Walker.TheVariants as walker
@@ -18,7 +18,6 @@ use Rattle.pass_turns.specs.Tasks.{task_of}
 use Rattle.pass_turns.specs.Turners.{HasLiving, IsKnown, IsStill, TurnerState}
 use Rattle.pass_turns.specs.Walkers.{IsWalkerOf, member_of, left_member}
 use Rattle.pass_turns.proofs.LeftLemmas.{left_at_some}
-use Rattle.pass_turns.proofs.Planned.{at_place}
 
 pub known : {J : Type 0} (session : Session) (places : ℕ) (lines : List TraceLine) (w : Walker J) (turns : ℕ) (last : Option Turn) (waits : Bool) → IsWalkerOf session places (plain_trace lines) w → IsKnown session places (task_of lines w turns last waits)
 known session places lines (walker.Living l) turns last waits is = record {
@@ -60,5 +59,5 @@ rises_some a b (inr top) = sym (unequal b 0 (λ z. let y = top.1 in omega (arith
 -- the task at that place lives
 pub some_living : (tasks : List TurnerState) (place : ℕ) → place < length tasks → ((t : TurnerState) → slice_get tasks place ≡ Some t → (t.ended ≡ false) × (t.cause ≡ None)) → HasLiving tasks
 some_living tasks place within lives =
-    let (t, at) = at_place tasks place within in
+    let (t, at) = is_place tasks place within in
     record { one = t; among = contains_at tasks place t at; lives = (lives t at).0 }

@@ -1,10 +1,10 @@
 -- What a plan says of the lines of a process.
-use Rattle.std.proofs.Common.{◌≡◌, ◌<◌, ◌≤◌, ◌+◌, ℕ, zero, suc, List, [], ◌∷◌, length, drop, refl, ap, sym, ◌∙◌, subst, arith}
+use Rattle.std.proofs.Common.{◌≡◌, ◌<◌, ◌≤◌, ◌+◌, ℕ, List, [], ◌∷◌, length, drop, refl, ap, sym, ◌∙◌, subst, arith}
 use Rattle.std.specs.Prelude.{Option, Some, Result, Ok, Err, IfOk, slice_get, vec_capacity}
 use Rattle.std.specs.Global.{Vec}
 use Rattle.std.proofs.lemmas.Option.{slice_get_within}
 use Rattle.pass_plain.specs.Traces.{Line}
-use Rattle.pass_plain.proofs.Lists.{some_is}
+use Rattle.pass_plain.proofs.Lists.{is_place, some_is}
 use Rattle.pass_trace.specs.TraceLines.{plain_line, plain_trace}
 use Rattle.pass_trace.specs.declared.trace.TraceLine.{TraceLine}
 use Rattle.pass_replay.specs.Lines.{IsLineAt, IsNextLine}
@@ -13,12 +13,6 @@ use Rattle.pass_turns.specs.Lefts.{AreLefts, HasRoomFor, left_at, left_in}
 use Rattle.pass_turns.specs.Tables.{ArePlaces}
 use Rattle.pass_turns.proofs.LeftLemmas.{left_from}
 use Rattle.pass_turns.proofs.Linked.{plain_at}
-
--- something stands at each place
-pub at_place : {X : Type 0} (xs : List X) (i : ℕ) → i < length xs → (x : X) × (slice_get xs i ≡ Some x)
-at_place [] i within = absurd (omega (arith, within))
-at_place (x ∷ xs) zero within = (x, refl)
-at_place (x ∷ xs) (suc i) within = at_place xs i (omega (arith, within))
 
 -- the turns that are left from a line on stand in the table
 pub its_left : (trace : List Line) (lefts : List ℕ) → AreLefts trace lefts → (process done : ℕ) (line : Option ℕ) (place : ℕ) → line ≡ Some place → IsLineAt trace process done line
@@ -37,7 +31,7 @@ left_is trace lefts are process done line place is at n found = some_is n (left_
 -- the place of the next line stands in the table
 pub next_within : (lines : List TraceLine) (places : Places) → ArePlaces (plain_trace lines) places → (place : ℕ) → place < length lines → place < length places.nexts.items
 next_within lines places are place within =
-    let (l, there) = at_place lines place within in
+    let (l, there) = is_place lines place within in
     let (o, at, next) = are.next place (plain_line l) (plain_at lines place l there) in
     slice_get_within places.nexts.items place o at
 

@@ -20,7 +20,7 @@ use Rattle.pass_turns.specs.declared.ends.Last.TheVariants as lasts
 use Rattle.pass_turns.specs.Causes.{IsSeen}
 use Rattle.pass_turns.specs.Performed.{IsPerformed}
 use Rattle.pass_turns.specs.Runs.{IsRanBy, IsSomeCause, trail_of}
-use Rattle.pass_turns.specs.Turners.{TurnerState, task_member, task_trail, HasTask, AreTasks, AreAllStill, HasCause, IsKnown, IsStill}
+use Rattle.pass_turns.specs.Turners.{TurnerState, task_member, task_trail, HasTask, AreTasks, AreAllStill, HasLeftFor, IsKnown, IsStill}
 use Rattle.pass_turns.proofs.Among.{Among, among, contains, of_map, to_map, all_of}
 
 -- a member comes of a task
@@ -73,7 +73,7 @@ module _ (session : Session) (places : ℕ) (lines : List TraceLine) (first : �
         },
       )
 
-  some_cause : (cause : Cause) → HasCause tasks cause → IsSomeCause session places (plain_trace lines) (map task_member tasks) cause
+  some_cause : (cause : Cause) → HasLeftFor tasks cause → IsSomeCause session places (plain_trace lines) (map task_member tasks) cause
   some_cause cause has = record { one = task_member has.one; among = a_member tasks has.one has.among; is = (know has.one has.among).cause cause has.is }
 
 pub ran_by : (session : Session) (places : ℕ) (lines : List TraceLine) (trails : List TrailView) (last : Last) → IsPerformed session places lines trails last → IsRanBy session places (plain_trace lines) trails last

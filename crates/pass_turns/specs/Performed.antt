@@ -7,7 +7,7 @@ use Rattle.pass_turns.specs.declared.ends.Cause.{Cause}
 use Rattle.pass_turns.specs.Causes.{IsSeen}
 use Rattle.pass_turns.specs.declared.ends.Last.{Last}
 use Rattle.pass_turns.specs.declared.ends.Last.TheVariants as lasts
-use Rattle.pass_turns.specs.Turners.{TurnerState, AreTasks, AreAllStill, HasCause, IsKnown, task_trail}
+use Rattle.pass_turns.specs.Turners.{TurnerState, AreTasks, AreAllStill, HasLeftFor, IsKnown, task_trail}
 
 pub record IsPerformed (session : Session) (places : ℕ) (lines : List TraceLine) (trails : List TrailView) (last : Last) : Type 0 where
   pub tasks : List TurnerState
@@ -16,4 +16,4 @@ pub record IsPerformed (session : Session) (places : ℕ) (lines : List TraceLin
   pub trails_are : trails ≡ map task_trail tasks
   pub done : last ≡ lasts.Done → All (λ t. t.left ≡ 0) tasks
   pub stuck : last ≡ lasts.Stuck → AreAllStill session tasks
-  pub failed : (cause : Cause) → last ≡ lasts.Failed cause → IsSeen cause → HasCause tasks cause
+  pub failed : (cause : Cause) → last ≡ lasts.Failed cause → IsSeen cause → HasLeftFor tasks cause

@@ -98,7 +98,7 @@ pub record AreAllStill (session : Session) (tasks : List TurnerState) : Type 0 w
   pub all : All (IsStill session count) tasks
 
 -- one was left for this cause
-pub record HasCause (tasks : List TurnerState) (cause : Cause) : Type 0 where
+pub record HasLeftFor (tasks : List TurnerState) (cause : Cause) : Type 0 where
   pub one : TurnerState
   pub among : Contains tasks one
   pub is : one.cause ≡ Some cause

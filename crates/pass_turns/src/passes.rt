@@ -2,7 +2,7 @@
 ghost use Rattle.std.specs.Prelude.{◌≡◌, ◌≤◌, ◌<◌, ℕ, All, IfSome, List, None, Some, false, length, slice_get, true, sum_by};
 ghost use Rattle.pass_trace.specs.declared.trace.TraceLine.{TraceLine as AnyLine};
 ghost use Rattle.pass_turns.specs.Causes.{IsSeen, IsTrueCause};
-ghost use Rattle.pass_turns.specs.Turners.{AreAllStill, AreTasks, HasCause, IsStill, TurnerState};
+ghost use Rattle.pass_turns.specs.Turners.{AreAllStill, AreTasks, HasLeftFor, IsStill, TurnerState};
 ghost use Rattle.pass_turns.specs.Tasks.{task_room};
 
 use crate::ends::{Cause, Last};
@@ -36,7 +36,7 @@ pub(crate) fn passes<
     ensures room { sum_by task_room result.0.items ≤ sum_by task_room tasks.entry.items }
     ensures done { result.1 ≡ Last.Done → All (λ t. t.left ≡ 0) result.0.items }
     ensures stuck { result.1 ≡ Last.Stuck → AreAllStill J.book.session result.0.items }
-    ensures failed { (cause : Cause) → result.1 ≡ Last.Failed cause → IsSeen cause → HasCause result.0.items cause }
+    ensures failed { (cause : Cause) → result.1 ≡ Last.Failed cause → IsSeen cause → HasLeftFor result.0.items cause }
     ensures fault { (cause : Cause) → result.1 ≡ Last.Failed cause → IsTrueCause D.view J.ground.opened cause }
 {
     let mut now = workers;
@@ -103,7 +103,7 @@ fn met_ended<'a, 'g, R: Wait, J: Opening, D: Disk, G: Gate>(
 fn cause_of<'a, 'g, R: Wait, J: Opening, D: Disk, G: Gate>(
     tasks: &[Turner<'a, 'g, R, J, D, G>],
 ) -> Cause
-    ensures seen { IsSeen result → HasCause tasks.now result }
+    ensures seen { IsSeen result → HasLeftFor tasks.now result }
     ensures fault { IsTrueCause D.view J.ground.opened result }
 {
     for place in 0..tasks.len() {

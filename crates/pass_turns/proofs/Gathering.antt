@@ -1,11 +1,9 @@
 -- A process that meets others, one after the other.
-use Rattle.std.proofs.Common.{◌≡◌, ◌<◌, ◌≤◌, ◌+◌, ℕ, List, [], ◌∷◌, ◌++◌, length, ap, sym, ◌∙◌, subst, arith, get_or, inl, inr, true, false, length-append}
+use Rattle.std.proofs.Common.{◌≡◌, ◌<◌, ◌≤◌, ◌+◌, ℕ, List, length, ap, sym, ◌∙◌, subst, arith, inl, inr, true, length-append}
 use Rattle.std.specs.Prelude.{Some, slice_get, slice_set}
 use Rattle.std.proofs.lemmas.Bool.{cases_lt}
-use Rattle.std.proofs.lemmas.List.Elements.{All-append, All-cons, All-nil, Contains-push}
-use Rattle.std.proofs.lemmas.Option.{slice_get-get_or}
 use Rattle.pass_plain.proofs.Lists.{some_is}
-use Rattle.pass_turns.specs.Meetings.{HasMetAll, IsLater}
+use Rattle.pass_turns.specs.Meetings.{IsLater}
 use Rattle.pass_turns.specs.Turners.{TurnerState}
 use Rattle.pass_turns.proofs.Linked.{set_here, set_other}
 
@@ -29,15 +27,3 @@ one_more_met tasks place other first now within later met before k t less at end
       let one : other ≡ t = some_is other t (sym (set_here tasks place other within) ∙ ap (λ k. slice_get (slice_set tasks place other) k) (sym same) ∙ at) in
       subst (λ (t : TurnerState). length t.seen ≤ length now.seen) one (met (ap (λ (t : TurnerState). t.ended) one ∙ ended))
 ]
-
--- it has met them all
-pub all_met : (others : List TurnerState) (one first : TurnerState) → IsLater one first → one.ended ≡ false → HaveSeenNoMore others (length others) first → HasMetAll one.process (others ++ first ∷ [])
-all_met others one first later lives met =
-    let NoMore : TurnerState → Type 0 = λ t. t.ended ≡ true → length t.seen ≤ length first.seen in
-    record {
-      first = first;
-      among = Contains-push others first;
-      number = later.turned.process;
-      lives = later.ended ∙ lives;
-      all = All-append NoMore others (first ∷ []) (λ k d less. met k (get_or others k d) less (slice_get-get_or others k d less)) (All-cons NoMore first [] (λ ended. omega arith) (All-nil NoMore));
-    }

@@ -9,6 +9,7 @@ mod Exits
 mod Forks
 mod Knowing
 mod TaskTurns
+mod Aside
 mod Passing
 mod Crews
 mod Handing

@@ -1,11 +1,10 @@
 -- Processes that come to one history.
-use Rattle.std.proofs.Common.{◌≡◌, ◌<◌, ◌≤◌, ℕ, zero, suc, List, [], ◌∷◌, ◌++◌, length, take, drop, refl, ap, sym, ◌∙◌, subst, arith, true, false, sum_by, inl, inr, ◌==◌}
+use Rattle.std.proofs.Common.{◌≡◌, ◌<◌, ◌≤◌, ℕ, zero, suc, List, [], ◌∷◌, ◌++◌, length, take, refl, ap, sym, ◌∙◌, subst, arith, true, false, sum_by, inl, inr, ◌==◌, All}
 use Rattle.std.specs.Prelude.{Some, slice_get, slice_set, max}
 use Rattle.std.specs.List.{list_any}
 use Rattle.std.proofs.lemmas.Bool.{cases_lt}
 use Rattle.std.proofs.lemmas.List.{take-append-le}
-use Rattle.std.proofs.lemmas.List.Elements.{All-nil, All-contains}
-use Rattle.std.proofs.lemmas.List.Sums.{sum_by-append}
+use Rattle.std.proofs.lemmas.List.Elements.{All-cons, All-contains, All-head, All-nil, All-tail}
 use mathlib.Core.List.{IsPrefix}
 use Rattle.pass_entry.specs.declared.entry.Entry.{Entry}
 use Rattle.pass_plain.specs.Lawful.{AgreeBy}
@@ -31,8 +30,8 @@ use Rattle.pass_turns.specs.Meetings.{AreLater, HasComeOn, HasSeenMore, IsLater}
 use Rattle.pass_turns.specs.Tasks.{task_room}
 use Rattle.pass_turns.specs.Turners.{AreTasks, HasTask, IsBirthAmong, IsNewTask, Turned, TurnerState}
 use Rattle.pass_turns.specs.Walkers.{IsEndedOf, IsLivingOf}
-use Rattle.pass_turns.proofs.Among.{Among, among, contains, all_of, in_both, in_left, in_right}
-use Rattle.pass_turns.proofs.Placed.{call_at, parts_at}
+use Rattle.pass_turns.proofs.Among.{Among, among, contains, all_of}
+use Rattle.pass_turns.proofs.Placed.{call_at}
 use Rattle.pass_turns.proofs.Passing.{turned_not, turned_twice}
 use Rattle.pass_turns.proofs.Walks.{request, stayed}
 
@@ -136,63 +135,46 @@ earlier_of (t ∷ ts) [] are u there = absurd there
 earlier_of (t ∷ ts) (x ∷ us) (one, are) u (inl same) = (t, inl refl, subst (λ x. IsLater t x) same one)
 earlier_of (t ∷ ts) (x ∷ us) (one, are) u (inr rest) = let (v, there, is) = earlier_of ts us are u rest in (v, inr there, is)
 
-later_room : (ts us : List TurnerState) → AreLater ts us → sum_by task_room us ≡ sum_by task_room ts
+-- with as much left
+pub later_none : (ts us : List TurnerState) → AreLater ts us → All (λ (t : TurnerState). t.left ≡ 0) ts → All (λ (t : TurnerState). t.left ≡ 0) us
+later_none [] [] are left = left
+later_none [] (u ∷ us) are left = absurd are
+later_none (t ∷ ts) [] are left = absurd are
+later_none (t ∷ ts) (u ∷ us) (one, are) left =
+    All-cons (λ (t : TurnerState). t.left ≡ 0) u us (one.left ∙ All-head (λ (t : TurnerState). t.left ≡ 0) t ts left) (later_none ts us are (All-tail (λ (t : TurnerState). t.left ≡ 0) t ts left))
+
+-- those behind them, too
+pub are_later_both : (ts us vs ws : List TurnerState) → AreLater ts us → AreLater vs ws → AreLater (ts ++ vs) (us ++ ws)
+are_later_both [] [] vs ws are more = more
+are_later_both [] (u ∷ us) vs ws are more = absurd are
+are_later_both (t ∷ ts) [] vs ws are more = absurd are
+are_later_both (t ∷ ts) (u ∷ us) vs ws (one, are) more = (one, are_later_both ts us vs ws are more)
+
+pub later_room : (ts us : List TurnerState) → AreLater ts us → sum_by task_room us ≡ sum_by task_room ts
 later_room [] [] are = refl
 later_room [] (u ∷ us) are = absurd are
 later_room (t ∷ ts) [] are = absurd are
 later_room (t ∷ ts) (u ∷ us) (one, are) =
     (let a = sum_of_cons task_room t ts in let b = sum_of_cons task_room u us in let c = later_room ts us are in let d = ap (λ n. max 1 n) one.left in omega (arith, a, b, c, d))
 
--- one was taken out and put behind the others, and all are later
-module _ (tasks others : List TurnerState) (place : ℕ) (one first : TurnerState) (at : slice_get tasks place ≡ Some one) (are : AreLater (take place tasks ++ drop (suc place) tasks) others) (is : IsLater one first) where
-  parts : tasks ≡ take place tasks ++ one ∷ drop (suc place) tasks
-  parts = parts_at tasks place one at
-
-  on : (t : TurnerState) → Among t tasks → (u : TurnerState) × Among u (others ++ first ∷ []) × IsLater t u
-  on t there = elim (in_both (take place tasks) (one ∷ drop (suc place) tasks) t (subst (λ xs. Among t xs) parts there)) [
-    | inl l ↦ with_rest t (in_left (take place tasks) (drop (suc place) tasks) t l)
-    | inr r ↦ elim r [
-      | inl same ↦ (first, in_right others (first ∷ []) first (inl refl), subst (λ t. IsLater t first) same is)
-      | inr rest ↦ with_rest t (in_right (take place tasks) (drop (suc place) tasks) t rest)
-    ]
-  ]
-    where
-      with_rest : (t : TurnerState) → Among t (take place tasks ++ drop (suc place) tasks) → (u : TurnerState) × Among u (others ++ first ∷ []) × IsLater t u
-      with_rest t h = let (u, there, later) = later_of (take place tasks ++ drop (suc place) tasks) others are t h in (u, in_left others (first ∷ []) u there, later)
-
-  back : (u : TurnerState) → Among u (others ++ first ∷ []) → (t : TurnerState) × Among t tasks × IsLater t u
-  back u there = elim (in_both others (first ∷ []) u there) [
-    | inl l ↦
-        let (t, h, later) = earlier_of (take place tasks ++ drop (suc place) tasks) others are u l in (
-          t,
-          subst (λ xs. Among t xs) (sym parts) (elim (in_both (take place tasks) (drop (suc place) tasks) t h) [
-            | inl a ↦ in_left (take place tasks) (one ∷ drop (suc place) tasks) t a
-            | inr b ↦ in_right (take place tasks) (one ∷ drop (suc place) tasks) t (inr b)
-          ]),
-          later,
-        )
-    | inr r ↦ elim r [
-      | inl same ↦ (one, subst (λ xs. Among one xs) (sym parts) (in_right (take place tasks) (one ∷ drop (suc place) tasks) one (inl refl)), subst (λ u. IsLater one u) same is)
-      | inr none ↦ absurd none
-    ]
-  ]
-
-  has_on : (q w : ℕ) → HasTask tasks q w → HasTask (others ++ first ∷ []) q w
+module _ (tasks others : List TurnerState) (are : AreLater tasks others) where
+  has_on : (q w : ℕ) → HasTask tasks q w → HasTask others q w
   has_on q w has =
-      let (u, there, later) = on has.task (among tasks has.task has.among) in
-      record { task = u; among = contains (others ++ first ∷ []) u there; number = later.turned.process ∙ has.number; is = later.turned.who ∙ has.is }
+      let (u, there, later) = later_of tasks others are has.task (among tasks has.task has.among) in
+      record { task = u; among = contains others u there; number = later.turned.process ∙ has.number; is = later.turned.who ∙ has.is }
 
-  pub tasks_met : (lines : List TraceLine) (number : ℕ) → AreTasks lines number tasks → AreTasks lines number (others ++ first ∷ [])
+  -- they are the tasks of the run still
+  pub tasks_met : (lines : List TraceLine) (number : ℕ) → AreTasks lines number tasks → AreTasks lines number others
   tasks_met lines number given = record {
     first_is = has_on 1 number given.first_is;
-    each = all_of (λ t. t.lines ≡ lines) (others ++ first ∷ []) (λ u h.
-        let (t, there, later) = back u (among (others ++ first ∷ []) u h) in later.turned.lines ∙ All-contains (λ t. t.lines ≡ lines) tasks t given.each (contains tasks t there));
+    each = all_of (λ t. t.lines ≡ lines) others (λ u h.
+        let (t, there, later) = earlier_of tasks others are u (among others u h) in later.turned.lines ∙ All-contains (λ t. t.lines ≡ lines) tasks t given.each (contains tasks t there));
     bears = λ u h n e out descriptors at_n by born.
-        let (t, there, later) = back u (among (others ++ first ∷ []) u h) in
+        let (t, there, later) = earlier_of tasks others are u (among others u h) in
         elim (cases_lt n (length t.seen)) [
           | inl early ↦
               let b = given.bears t (contains tasks t there) n e out descriptors (slice_get-front t.seen later.turned.begins.0 n e early (ap (λ h. slice_get h n) later.turned.begins.1 ∙ at_n)) (by ∙ later.turned.who) born in
-              subst (λ p. IsBirthAmong (plain_trace lines) (others ++ first ∷ []) p e) (sym later.turned.process)
+              subst (λ p. IsBirthAmong (plain_trace lines) others p e) (sym later.turned.process)
               (record { number = b.number; child = b.child; counted = b.counted; forks = b.forks; there = has_on b.child e.what b.there })
           | inr late ↦ absurd (nobody (plain_trace t.lines) t.process e (later.turned.births n e out descriptors at_n late (by ∙ later.turned.who) born))
         ];
@@ -200,15 +182,3 @@ module _ (tasks others : List TurnerState) (place : ℕ) (one first : TurnerStat
     where
       nobody : (trace : List Line) (process : ℕ) (e : Entry) → IsBirthAmong trace [] process e → ⊥
       nobody trace process e b = among [] b.there.task b.there.among
-
-  pub room_met : sum_by task_room (others ++ first ∷ []) ≡ sum_by task_room tasks
-  room_met =
-      let a = sum_by-append task_room others (first ∷ []) in
-      let b = sum_of_cons task_room first [] in
-      let c = later_room (take place tasks ++ drop (suc place) tasks) others are in
-      let d = ap (λ n. max 1 n) is.left in
-      let e = sum_by-append task_room (take place tasks) (drop (suc place) tasks) in
-      let f = ap (λ xs. sum_by task_room xs) parts in
-      let g = sum_by-append task_room (take place tasks) (one ∷ drop (suc place) tasks) in
-      let h = sum_of_cons task_room one (drop (suc place) tasks) in
-      omega (arith, a, b, c, d, e, f, g, h)

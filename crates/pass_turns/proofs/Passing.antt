@@ -5,7 +5,7 @@ use Rattle.std.specs.List.{flat_map, list_all, list_any}
 use Rattle.std.proofs.lemmas.Bool.{cases_lt}
 use Rattle.std.proofs.lemmas.List.{append-nil}
 use Rattle.std.proofs.lemmas.List.Elements.{All-nil, All-append, All-contains, All-head, All-tail}
-use Rattle.std.proofs.lemmas.List.Sorted.{Contains-permutation, IsPermutation-filter_both, IsPermutation-sym, sum_by-IsPermutation}
+use Rattle.std.proofs.lemmas.List.Sorted.{Contains-permutation, IsPermutation-append_left, IsPermutation-filter_both, IsPermutation-sym, sum_by-IsPermutation}
 use Rattle.std.proofs.lemmas.List.Sums.{sum_by-append}
 use Rattle.std.proofs.lemmas.Option.{slice_get_within}
 use Rattle.pass_entry.specs.declared.entry.Entry.{Entry}
@@ -24,6 +24,7 @@ use Rattle.pass_sched.proofs.Plays.{sum_of_cons}
 use Rattle.pass_sched.proofs.Underway.{fits}
 use Rattle.pass_turns.specs.Tasks.{task_room}
 use Rattle.pass_turns.specs.Turners.{TurnerState, IsNewTask, HasTask, IsBirthAmong, Turned, AreTasks}
+use Rattle.pass_turns.proofs.Aside.{pass_aside, with_idle}
 use Rattle.pass_turns.proofs.Among.{Among, among, contains, all_of, in_left, in_right, in_both, of_map, to_map, of_filter, to_filter, of_flat, to_flat}
 
 -- no turn, and two in a row
@@ -222,7 +223,8 @@ module _ (t : Ghosts TurnerState) (gives : (before : TurnerState) (kids : List T
     }
 
 -- in another order they are the same tasks
-perm_tasks : (lines : List TraceLine) (first : ℕ) (given answer : List TurnerState) → IsPermutation given answer → AreTasks lines first given → AreTasks lines first answer
+-- in another order they are the same tasks
+pub perm_tasks : (lines : List TraceLine) (first : ℕ) (given answer : List TurnerState) → IsPermutation given answer → AreTasks lines first given → AreTasks lines first answer
 perm_tasks lines first given answer perm tasks =
     let there : (q w : ℕ) → HasTask given q w → HasTask answer q w =
     λ q w has. record { task = has.task; among = Contains-permutation given answer has.task perm has.among; number = has.number; is = has.is } in
@@ -235,21 +237,22 @@ perm_tasks lines first given answer perm tasks =
           record { number = b.number; child = b.child; counted = b.counted; forks = b.forks; there = there b.child e.what b.there };
     }
 
--- after a pass they are still the tasks of the run
+-- after a pass they are still the tasks of the run, with those that had ended and stand aside
 pub after_pass : (t : Ghosts TurnerState) → ((before : TurnerState) (kids : List TurnerState) (answer : Turn) (after : TurnerState) → t.turn_gives before kids answer after → Turned before kids after)
     → (lines : List TraceLine) (first : ℕ) (alone : Bool) (given answer : List TurnerState) (end : PassEnd) → (end ≡ pass_end.NoMemory → IsPermutation given answer)
-    → (end ≢ pass_end.NoMemory → (runs : List (Run TurnerState)) × IsPass t alone given runs answer × (end ≡ end_of t runs answer)) → AreTasks lines first given → AreTasks lines first answer
-after_pass t gives lines first alone given answer end same passed tasks = at end same passed
+    → (end ≢ pass_end.NoMemory → (runs : List (Run TurnerState)) × IsPass t alone given runs answer × (end ≡ end_of t runs answer))
+    → (aside : List TurnerState) → All (λ x. t.left x ≡ 0) aside → AreTasks lines first (given ++ aside) → AreTasks lines first (answer ++ aside)
+after_pass t gives lines first alone given answer end same passed aside none tasks = at end same passed
   where
     no_memory : PassEnd → Bool
     no_memory pass_end.NoMemory = true
     no_memory _ = false
 
-    from : ((runs : List (Run TurnerState)) × IsPass t alone given runs answer) → AreTasks lines first answer
-    from (runs, pass) = still_tasks t gives lines first alone given runs answer pass tasks
+    from : ((runs : List (Run TurnerState)) × IsPass t alone given runs answer) → AreTasks lines first (answer ++ aside)
+    from (runs, pass) = still_tasks t gives lines first alone (given ++ aside) (with_idle runs aside) (answer ++ aside) (pass_aside t alone given runs answer aside none pass) tasks
 
-    at : (end : PassEnd) → (end ≡ pass_end.NoMemory → IsPermutation given answer) → (end ≢ pass_end.NoMemory → (runs : List (Run TurnerState)) × IsPass t alone given runs answer × (end ≡ end_of t runs answer)) → AreTasks lines first answer
-    at pass_end.NoMemory same passed = perm_tasks lines first given answer (same refl) tasks
+    at : (end : PassEnd) → (end ≡ pass_end.NoMemory → IsPermutation given answer) → (end ≢ pass_end.NoMemory → (runs : List (Run TurnerState)) × IsPass t alone given runs answer × (end ≡ end_of t runs answer)) → AreTasks lines first (answer ++ aside)
+    at pass_end.NoMemory same passed = perm_tasks lines first (given ++ aside) (answer ++ aside) (IsPermutation-append_left aside given answer (same refl)) tasks
     at pass_end.AllEnded same passed = let p = passed (λ h. let z : false ≡ true = ap no_memory h in cc) in from (p.0, p.1)
     at pass_end.AllWaiting same passed = let p = passed (λ h. let z : false ≡ true = ap no_memory h in cc) in from (p.0, p.1)
     at pass_end.GoOn same passed = let p = passed (λ h. let z : false ≡ true = ap no_memory h in cc) in from (p.0, p.1)

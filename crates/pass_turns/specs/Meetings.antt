@@ -1,5 +1,5 @@
 -- Processes that come to one history. This project's own rule.
-use Rattle.std.specs.Prelude.{ℕ, ◌≡◌, ◌⊎◌, ◌≤◌, true, false, List, [], ◌∷◌, All, Contains, Some, length}
+use Rattle.std.specs.Prelude.{ℕ, ◌≡◌, ◌⊎◌, ◌≤◌, List, [], ◌∷◌, Some, length}
 use mathlib.Core.List.{IsPrefix}
 use Rattle.pass_plain.specs.Lawful.{AgreeBy}
 use Rattle.pass_plain.specs.Sessions.{Session}
@@ -60,11 +60,3 @@ abbrev pub AreLater : List TurnerState → List TurnerState → Type 0
 AreLater [] [] = Unit {0}
 AreLater (t ∷ ts) (u ∷ us) = IsLater t u × AreLater ts us
 AreLater _ _ = ⊥
-
--- of the process of this number, which lives, each that has ended has seen no more
-pub record HasMetAll (process : ℕ) (tasks : List TurnerState) : Type 0 where
-  pub first : TurnerState
-  pub among : Contains tasks first
-  pub number : first.process ≡ process
-  pub lives : first.ended ≡ false
-  pub all : All (λ t. t.ended ≡ true → length t.seen ≤ length first.seen) tasks

@@ -3,6 +3,7 @@
 
 mod calling;
 mod children;
+mod crew;
 mod ends;
 mod ground;
 pub mod laws;

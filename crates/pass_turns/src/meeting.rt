@@ -1,10 +1,7 @@
 //! Processes come to one history before the last pass.
-ghost use Rattle.std.specs.Prelude.{◌≡◌, ◌≤◌, ◌<◌, ℕ, List, Some, None, false, true, length, slice_get, sum_by};
+ghost use Rattle.std.specs.Prelude.{◌≡◌, ◌≤◌, All, None, false, true, length};
 ghost use Rattle.pass_trace.specs.TraceLines.{plain_trace};
-ghost use Rattle.pass_trace.specs.declared.trace.TraceLine.{TraceLine as AnyLine};
-ghost use Rattle.pass_turns.specs.Meetings.{HasComeOn, HasMetAll, HasSeenMore, HaveJoined, HaveMet, KnowsIfEnded, KnowsSeen};
-ghost use Rattle.pass_turns.specs.Tasks.{task_room};
-ghost use Rattle.pass_turns.specs.Turners.{AreTasks, TurnerState};
+ghost use Rattle.pass_turns.specs.Meetings.{AreLater, HasComeOn, HasSeenMore, HaveJoined, HaveMet, IsLater, KnowsIfEnded, KnowsSeen};
 ghost use Rattle.pass_turns.specs.Walkers.{IsLivingOf, IsWalkerOf};
 
 use crate::ground::Ground;
@@ -17,23 +14,19 @@ use pass_progress::laws::standing;
 use pass_store::Opening;
 use std::sync::Wait;
 
-/// The living process at a place comes to one history with each that has ended. It takes no memory.
-pub(crate) fn meet_ended<'a, 'g, R: Wait, J: Opening, D: Disk, G: Gate>(
-    mut tasks: Vec<Turner<'a, 'g, R, J, D, G>>,
-    place: usize,
-) -> Vec<Turner<'a, 'g, R, J, D, G>>
-    requires place { place < length tasks.items }
-    requires lives { (t : TurnerState) → slice_get tasks.items place ≡ Some t → (t.ended ≡ false) × (t.cause ≡ None) }
-    ensures tasks { (lines : List AnyLine) (first : ℕ) → AreTasks lines first tasks.entry.items → AreTasks lines first result.items }
-    ensures room { sum_by task_room result.items ≡ sum_by task_room tasks.entry.items }
-    ensures met { (t : TurnerState) → slice_get tasks.entry.items place ≡ Some t → HasMetAll t.process result.items }
+/// A living process comes to one history with each of these that has ended. It takes no memory.
+pub(crate) fn meet_each<'a, 'g, R: Wait, J: Opening, D: Disk, G: Gate>(
+    first: &mut Turner<'a, 'g, R, J, D, G>,
+    others: &mut Vec<Turner<'a, 'g, R, J, D, G>>,
+)
+    requires { (first.old.ended ≡ false) × (first.old.cause ≡ None) }
+    ensures first { IsLater first.old first.new }
+    ensures others { AreLater others.old.items others.new.items }
+    ensures met { All (λ t. t.ended ≡ true → length t.seen ≤ length first.new.seen) others.new.items }
 {
-    let mut first = tasks.remove(place);
-    for other in 0..tasks.len() {
-        first.meet(&mut tasks[other]);
+    for place in 0..others.len() {
+        first.meet(&mut others[place]);
     }
-    tasks.push_reserved(first);
-    tasks
 }
 
 /// A living process and one that has ended come to one history. Any others stay as they are.

@@ -1,24 +1,23 @@
 //! Passes over the processes of a run.
-ghost use Rattle.std.specs.Prelude.{◌≡◌, ◌≤◌, ◌<◌, ℕ, All, IfSome, List, None, Some, false, length, slice_get, true, sum_by};
+ghost use Rattle.std.specs.Prelude.{◌≡◌, ◌≤◌, ℕ, All, IfSome, List, sum_by};
 ghost use Rattle.pass_trace.specs.declared.trace.TraceLine.{TraceLine as AnyLine};
 ghost use Rattle.pass_turns.specs.Causes.{IsSeen, IsTrueCause};
-ghost use Rattle.pass_turns.specs.Turners.{AreAllStill, AreTasks, HasLeftFor, IsStill, TurnerState};
 ghost use Rattle.pass_turns.specs.Tasks.{task_room};
+ghost use Rattle.pass_turns.specs.Turners.{AreAllStill, AreTasks, HasLeftFor};
 
+use crate::crew::Crew;
 use crate::ends::{Cause, Last};
 use crate::ground::Ground;
-use crate::meeting::meet_ended;
-use crate::task::Turner;
 use pass_outside::{Disk, Gate};
-use pass_sched::{PassEnd, Passed, run_all};
+use pass_sched::PassEnd;
 use pass_store::Opening;
-use std::alloc::Global;
 use std::sync::Wait;
 use std::thread::Threads;
 
 /// Makes passes until all have ended or one was left. Where none moves, the first living process meets those that have ended, and the next
 /// pass is made by one worker; where none moves in that one either, and all living ones have seen as much, none can. Behind each pass in
-/// which some moved its entries are made durable, and changed blocks are put aside; where that fails, no further pass is made.
+/// which some moved those that have ended are put aside, its entries are made durable, and changed blocks are kept for later; where that
+/// fails, no further pass is made.
 pub(crate) fn passes<
     'a,
     'g,
@@ -28,41 +27,41 @@ pub(crate) fn passes<
     G: Gate + Sync,
 >(
     ground: &'a Ground<'a, 'g, R, J, D, G>,
-    mut tasks: Vec<Turner<'a, 'g, R, J, D, G>>,
+    mut crew: Crew<'a, 'g, R, J, D, G>,
     workers: u32,
-) -> (Vec<Turner<'a, 'g, R, J, D, G>>, Last)
+) -> (Crew<'a, 'g, R, J, D, G>, Last)
     requires workers { (1 ≤ workers) × (workers ≤ 64) }
-    ensures tasks { (lines : List AnyLine) (first : ℕ) → AreTasks lines first tasks.entry.items → AreTasks lines first result.0.items }
-    ensures room { sum_by task_room result.0.items ≤ sum_by task_room tasks.entry.items }
-    ensures done { result.1 ≡ Last.Done → All (λ t. t.left ≡ 0) result.0.items }
-    ensures stuck { result.1 ≡ Last.Stuck → AreAllStill J.book.session result.0.items }
-    ensures failed { (cause : Cause) → result.1 ≡ Last.Failed cause → IsSeen cause → HasLeftFor result.0.items cause }
+    ensures tasks { (lines : List AnyLine) (first : ℕ) → AreTasks lines first crew.entry → AreTasks lines first result.0 }
+    ensures room { sum_by task_room result.0 ≤ sum_by task_room crew.entry }
+    ensures done { result.1 ≡ Last.Done → All (λ t. t.left ≡ 0) result.0 }
+    ensures stuck { result.1 ≡ Last.Stuck → AreAllStill J.book.session result.0 }
+    ensures failed { (cause : Cause) → result.1 ≡ Last.Failed cause → IsSeen cause → HasLeftFor result.0 cause }
     ensures fault { (cause : Cause) → result.1 ≡ Last.Failed cause → IsTrueCause D.view J.ground.opened cause }
 {
     let mut now = workers;
     let mut alone = false;
     for _ in ground.rt.forever() {
-        let Passed { tasks: after, end } = pass(ground.rt, ground.alloc, tasks, now);
-        tasks = after;
+        let (after, end) = crew.pass(ground.rt, ground.alloc, now);
+        crew = after;
         match end {
-            PassEnd::AllEnded => return (tasks, Last::Done),
+            PassEnd::AllEnded => return (crew, Last::Done),
             PassEnd::OneFailed => {
-                let cause = cause_of(tasks.as_slice());
-                return (tasks, Last::Failed(cause));
+                let cause = crew.cause();
+                return (crew, Last::Failed(cause));
             }
-            PassEnd::NoMemory => return (tasks, Last::Failed(Cause::NoMemory)),
+            PassEnd::NoMemory => return (crew, Last::Failed(Cause::NoMemory)),
             PassEnd::GoOn => {
-                if let Some(cause) = ground.trickle() {
-                    return (tasks, Last::Failed(cause));
+                if let Some(cause) = go_on(ground, &mut crew) {
+                    return (crew, Last::Failed(cause));
                 }
                 now = workers;
                 alone = false;
             }
             PassEnd::AllWaiting => {
-                if alone && are_still(tasks.as_slice()) {
-                    return (tasks, Last::Stuck);
+                if alone && crew.are_still() {
+                    return (crew, Last::Stuck);
                 }
-                tasks = met_ended(tasks);
+                crew = crew.meet_ended();
                 now = 1;
                 alone = true;
             }
@@ -71,86 +70,18 @@ pub(crate) fn passes<
     unreachable!()
 }
 
-/// Makes one pass.
-fn pass<'a, 'g, R: Threads + Wait + Sync, J: Opening + Send, D: Disk + Send, G: Gate + Sync>(
-    rt: &R,
-    alloc: Global,
-    tasks: Vec<Turner<'a, 'g, R, J, D, G>>,
-    workers: u32,
-) -> Passed<Turner<'a, 'g, R, J, D, G>>
-    requires workers { (1 ≤ workers) × (workers ≤ 64) }
-    ensures tasks { (lines : List AnyLine) (first : ℕ) → AreTasks lines first tasks.entry.items → AreTasks lines first result.tasks.items }
-    ensures room { sum_by task_room result.tasks.items ≤ sum_by task_room tasks.entry.items }
-    ensures ended { result.end ≡ PassEnd.AllEnded → All (λ t. t.left ≡ 0) result.tasks.items }
+/// What is done behind a pass in which some moved. Where it fails, why.
+fn go_on<'a, 'g, R: Wait, J: Opening, D: Disk, G: Gate>(
+    ground: &Ground<'a, 'g, R, J, D, G>,
+    crew: &mut Crew<'a, 'g, R, J, D, G>,
+) -> Option<Cause>
+    ensures tasks { (lines : List AnyLine) (first : ℕ) → AreTasks lines first crew.old → AreTasks lines first crew.new }
+    ensures room { sum_by task_room crew.new ≡ sum_by task_room crew.old }
+    ensures unseen { IfSome result (λ cause. IsSeen cause → ⊥) }
+    ensures fault { IfSome result (IsTrueCause D.view J.ground.opened) }
 {
-    run_all(rt, alloc, tasks, workers)
-}
-
-/// The first living process has met each that has ended.
-fn met_ended<'a, 'g, R: Wait, J: Opening, D: Disk, G: Gate>(
-    tasks: Vec<Turner<'a, 'g, R, J, D, G>>,
-) -> Vec<Turner<'a, 'g, R, J, D, G>>
-    ensures tasks { (lines : List AnyLine) (first : ℕ) → AreTasks lines first tasks.entry.items → AreTasks lines first result.items }
-    ensures room { sum_by task_room result.items ≡ sum_by task_room tasks.entry.items }
-{
-    match first_living(tasks.as_slice()) {
-        Some((place, _)) => meet_ended(tasks, place),
-        None => tasks,
+    if crew.put_aside().is_err() {
+        return Some(Cause::NoMemory);
     }
-}
-
-/// Why one was left.
-fn cause_of<'a, 'g, R: Wait, J: Opening, D: Disk, G: Gate>(
-    tasks: &[Turner<'a, 'g, R, J, D, G>],
-) -> Cause
-    ensures seen { IsSeen result → HasLeftFor tasks.now result }
-    ensures fault { IsTrueCause D.view J.ground.opened result }
-{
-    for place in 0..tasks.len() {
-        if let Some(cause) = tasks[place].cause() {
-            return cause;
-        }
-    }
-    Cause::NoMemory
-}
-
-/// Whether none goes on.
-fn are_still<'a, 'g, R: Wait, J: Opening, D: Disk, G: Gate>(
-    tasks: &[Turner<'a, 'g, R, J, D, G>],
-) -> bool
-    ensures { result ≡ true → AreAllStill J.book.session tasks.now }
-{
-    let Some((_, count)) = first_living(tasks) else {
-        return false;
-    };
-    all_still(tasks, count)
-}
-
-/// The place of the first living process, and how many entries it has seen.
-fn first_living<'a, 'g, R: Wait, J: Opening, D: Disk, G: Gate>(
-    tasks: &[Turner<'a, 'g, R, J, D, G>],
-) -> Option<(usize, u64)>
-    ensures { IfSome result (λ found. (found.0 < length tasks.now) × ((t : TurnerState) → slice_get tasks.now found.0 ≡ Some t → (t.ended ≡ false) × (t.cause ≡ None))) }
-{
-    for place in 0..tasks.len() {
-        if let Some(count) = tasks[place].living() {
-            return Some((place, count));
-        }
-    }
-    None
-}
-
-/// Whether each goes on no more.
-fn all_still<'a, 'g, R: Wait, J: Opening, D: Disk, G: Gate>(
-    tasks: &[Turner<'a, 'g, R, J, D, G>],
-    count: u64,
-) -> bool
-    ensures { result ≡ true → All (IsStill J.book.session count) tasks.now }
-{
-    for place in 0..tasks.len() {
-        if !tasks[place].is_still(count) {
-            return false;
-        }
-    }
-    true
+    ground.trickle()
 }

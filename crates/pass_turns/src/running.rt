@@ -1,14 +1,14 @@
 //! The run of a trace over a store.
-ghost use Rattle.std.specs.Prelude.{◌≡◌, ◌≤◌, ◌+◌, [], ◌∷◌, vec_len, vec_capacity, map, All};
+ghost use Rattle.std.specs.Prelude.{◌≡◌, ◌≤◌, ◌+◌, [], ◌∷◌, vec_capacity};
 ghost use Rattle.pass_trace.specs.TraceLines.{plain_trace};
 ghost use Rattle.pass_proc.specs.Ends.{trail_of_proc};
 ghost use Rattle.pass_turns.specs.Causes.{IsTrueCause};
 ghost use Rattle.pass_turns.specs.Lefts.{HasRoomFor};
 ghost use Rattle.pass_turns.specs.Performed.{IsPerformed};
 ghost use Rattle.pass_turns.specs.Runs.{IsRanBy};
-ghost use Rattle.pass_turns.specs.Turners.{IsKnown, task_trail};
 
 use crate::children::Children;
+use crate::crew::Crew;
 use crate::ends::{Cause, Last};
 use crate::ground::Ground;
 use crate::passes::passes;
@@ -96,9 +96,10 @@ fn perform<'a, 'g, R: Threads + Wait + Sync, J: Opening + Send, D: Disk + Send, 
         proc: first,
     };
     tasks.push_reserved(Turner::new(ground, living));
-    let (tasks, last) = passes(ground, tasks, workers);
+    let crew = Crew::new(ground.alloc, tasks);
+    let (crew, last) = passes(ground, crew, workers);
     Ran {
-        trails: trails(tasks, room),
+        trails: crew.into_trails(room),
         last,
     }
 }
@@ -115,20 +116,4 @@ fn unmade<J: Opening>(first: Proc<J>, room: Vec<Trail<J>>) -> Ran<J>
         trails,
         last: Last::Failed(Cause::NoMemory),
     }
-}
-
-/// What the processes had seen.
-fn trails<'a, 'g, R: Wait, J: Opening, D: Disk, G: Gate>(
-    tasks: Vec<Turner<'a, 'g, R, J, D, G>>,
-    room: Vec<Trail<J>>,
-) -> Vec<Trail<J>>
-    requires room { (room.items ≡ []) × (vec_len tasks ≤ vec_capacity room) }
-    ensures trails { result.items ≡ map task_trail tasks.entry.items }
-    ensures known { All (IsKnown J.book.session J.places) tasks.entry.items }
-{
-    let mut trails = room;
-    for task in tasks {
-        trails.push_reserved(task.into_trail());
-    }
-    trails
 }

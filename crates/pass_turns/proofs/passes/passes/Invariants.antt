@@ -8,6 +8,6 @@ use Rattle.pass_turns.proofs.passes.passes.Given as goal
 abbrev pub invariant-loop : goal.invariant-loop
 invariant-loop g l = record {
   workers : (1 ≤ l.now) × (l.now ≤ 64);
-  tasks : (lines : List TraceLine) (first : ℕ) → AreTasks lines first l.initial.tasks.items → AreTasks lines first l.tasks.items;
-  room : sum_by task_room l.tasks.items ≤ sum_by task_room l.initial.tasks.items;
+  tasks : (lines : List TraceLine) (first : ℕ) → AreTasks lines first l.initial.crew → AreTasks lines first l.crew;
+  room : sum_by task_room l.crew ≤ sum_by task_room l.initial.crew;
 }

@@ -25,15 +25,15 @@ pub new-requires-2 : goal.new-requires-2
 new-requires-2 g c =
     first_is g.row.J.Denot g.J.Whose.book.session c.args.ground.now.plan.now c.lives.ensures.newborn c.args.first c.between.ensures c.requires.first c.first.result c.first.ensures c.new.result
 
-pub trails-requires : goal.trails-requires
-trails-requires g c =
+pub into_trails-requires : goal.into_trails-requires
+into_trails-requires g c =
     let lines = c.args.ground.now.plan.now in
     let one : TurnerState = new_task lines (first_living g.row.J.Denot g.J.Whose.book.session lines c.lives.ensures.newborn c.args.first c.between.ensures c.requires.first c.first.result c.first.ensures c.new.result) in
     let tasks : c.push_reserved.new.self.items ≡ one ∷ [] = c.push_reserved.ensures.items ∙ ap (λ (ts : List TurnerState). ts ++ c.new-2.result ∷ []) c.in-Ok.ensures.items ∙ ap (λ (t : TurnerState). t ∷ []) c.new-2.ensures in
-    let fewer : sum_by task_room c.passes-tasks.result.0.items ≤ sum_by task_room (one ∷ []) =
-    subst (λ (ts : List TurnerState). sum_by task_room c.passes-tasks.result.0.items ≤ sum_by task_room ts) tasks c.passes-tasks.ensures.room in
-    let fit = trails_fit g.row.J.Denot g.J.Whose.book.session lines c.lives.ensures.newborn c.args.first c.between.ensures c.requires.first c.first.result c.first.ensures c.new.result c.passes-tasks.result.0.items _ fewer c.requires.room.fits in
-    record { room = (c.requires.room.empty, omega (arith, fit, c.passes-tasks.result.0.ok.0)) }
+    let fewer : sum_by task_room c.passes-crew.result.0 ≤ sum_by task_room (one ∷ []) =
+    subst (λ (ts : List TurnerState). sum_by task_room c.passes-crew.result.0 ≤ sum_by task_room ts) (c.new-crew.ensures ∙ tasks) c.passes-crew.ensures.room in
+    let fit = trails_fit g.row.J.Denot g.J.Whose.book.session lines c.lives.ensures.newborn c.args.first c.between.ensures c.requires.first c.first.result c.first.ensures c.new.result c.passes-crew.result.0 _ fewer c.requires.room.fits in
+    record { room = (c.requires.room.empty, fit) }
 
 pub returns-clause-performed : goal.returns-clause-performed
 returns-clause-performed g c =
@@ -42,12 +42,12 @@ returns-clause-performed g c =
     let one : TurnerState = new_task lines (first_living g.row.J.Denot g.J.Whose.book.session lines c.lives.ensures.newborn c.args.first c.between.ensures c.requires.first c.first.result c.first.ensures c.new.result) in
     let tasks : c.push_reserved.new.self.items ≡ one ∷ [] = c.push_reserved.ensures.items ∙ ap (λ (ts : List TurnerState). ts ++ c.new-2.result ∷ []) c.in-Ok.ensures.items ∙ ap (λ (t : TurnerState). t ∷ []) c.new-2.ensures in
     record {
-      tasks = c.passes-tasks.result.0.items;
-      are = c.passes-tasks.ensures.tasks lines number (subst (λ (ts : List TurnerState). AreTasks lines number ts) (sym tasks)
+      tasks = c.passes-crew.result.0;
+      are = c.passes-crew.ensures.tasks lines number (subst (λ (ts : List TurnerState). AreTasks lines number ts) (sym (c.new-crew.ensures ∙ tasks))
           (first_are g.row.J.Denot g.J.Whose.book.session lines c.lives.ensures.newborn c.args.first c.between.ensures c.requires.first c.first.result c.first.ensures c.new.result));
-      known = c.trails.ensures.known;
-      trails_are = c.trails.ensures.trails;
-      done = c.passes-tasks.ensures.done;
-      stuck = c.passes-tasks.ensures.stuck;
-      failed = c.passes-tasks.ensures.failed;
+      known = c.into_trails.ensures.known;
+      trails_are = c.into_trails.ensures.trails;
+      done = c.passes-crew.ensures.done;
+      stuck = c.passes-crew.ensures.stuck;
+      failed = c.passes-crew.ensures.failed;
     }

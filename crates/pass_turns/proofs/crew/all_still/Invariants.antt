@@ -1,7 +1,7 @@
 use Rattle.std.proofs.Common.{◌≡◌, ◌<◌, ℕ}
 use Rattle.std.specs.Prelude.{slice_get, Some}
 use Rattle.pass_turns.specs.Turners.{TurnerState, IsStill}
-use Rattle.pass_turns.proofs.passes.all_still.Given as goal
+use Rattle.pass_turns.proofs.crew.all_still.Given as goal
 
 abbrev pub invariant-loop-place : goal.invariant-loop-place
 invariant-loop-place g l = (k : ℕ) (t : TurnerState) → k < l.place → slice_get l.fn.tasks k ≡ Some t → IsStill g.J.Whose.book.session l.fn.count t

@@ -4,13 +4,13 @@ use denote.Param.{param}
 use mir.Syntax.{named}
 use Rattle.std.specs.Prelude.{nat_eq}
 use Rattle.std.proofs.Common.{refl}
-use Rattle.pass_turns.proofs.passes.pass.Goals as goal
+use Rattle.pass_turns.proofs.crew.pass.Goals as goal
 use Rattle.pass_turns.proofs.Crossing.{turner_send}
 use Rattle.pass_turns.proofs.Passing.{after_pass, none_left, room_after}
 
 pub returns-clause-tasks : goal.returns-clause-tasks
-returns-clause-tasks g c lines first tasks =
-    after_pass _ (λ b k a f h. h) lines first (nat_eq c.args.workers 1) c.args.tasks.items c.run_all.result.tasks.items c.run_all.result.end c.run_all.ensures.untouched c.run_all.ensures.pass tasks
+returns-clause-tasks g c lines first aside none tasks =
+    after_pass _ (λ b k a f h. h) lines first (nat_eq c.args.workers 1) c.args.tasks.items c.run_all.result.tasks.items c.run_all.result.end c.run_all.ensures.untouched c.run_all.ensures.pass aside none tasks
 
 pub returns-clause-room : goal.returns-clause-room
 returns-clause-room g c = room_after _ (λ x. refl) (nat_eq c.args.workers 1) c.args.tasks.items c.run_all.result.tasks.items c.run_all.result.end c.run_all.ensures.untouched c.run_all.ensures.pass

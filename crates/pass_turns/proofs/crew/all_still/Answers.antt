@@ -4,7 +4,7 @@ use Rattle.std.proofs.lemmas.Bool.{cases_lt}
 use Rattle.std.proofs.lemmas.Option.{slice_get_within, slice_get-get_or}
 use Rattle.pass_plain.proofs.Lists.{some_is}
 use Rattle.pass_turns.specs.Turners.{IsStill}
-use Rattle.pass_turns.proofs.passes.all_still.Goals as goal
+use Rattle.pass_turns.proofs.crew.all_still.Goals as goal
 
 pub loop-place-preserved : goal.loop-place-preserved
 loop-place-preserved g c k t less at = elim (cases_lt k c.loop-place.place) [

@@ -1,7 +1,7 @@
 use Rattle.std.proofs.Common.{ap, get_or, sym, arith, ◌∙◌}
 use Rattle.std.proofs.lemmas.List.Elements.{Contains-get_or}
 use Rattle.pass_turns.specs.Turners.{TurnerState}
-use Rattle.pass_turns.proofs.passes.cause_of.Goals as goal
+use Rattle.pass_turns.proofs.crew.cause_of.Goals as goal
 
 pub returns-in-Some-clause-seen : goal.returns-in-Some-clause-seen
 returns-in-Some-clause-seen g c other = record {

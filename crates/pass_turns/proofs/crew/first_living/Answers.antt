@@ -3,7 +3,7 @@ use Rattle.std.specs.Prelude.{IsSome}
 use Rattle.std.proofs.lemmas.Option.{slice_get-get_or}
 use Rattle.pass_plain.proofs.Lists.{some_is}
 use Rattle.pass_turns.specs.Turners.{TurnerState}
-use Rattle.pass_turns.proofs.passes.first_living.Goals as goal
+use Rattle.pass_turns.proofs.crew.first_living.Goals as goal
 
 pub returns-in-Some : goal.returns-in-Some
 returns-in-Some g c = (

@@ -1,5 +1,6 @@
 -- What an entry needs, from what came back to the book.
 use Rattle.std.proofs.Common.{◌≡◌, ◌⊎◌, ℕ, false, List, ◌∷◌, length, ap, subst, inl, inr, ⊎_elim}
+use Rattle.std.proofs.lemmas.Bool.{false_from_ne_true}
 use Rattle.pass_entry.specs.declared.entry.Entry.{Entry}
 use Rattle.pass_entry.specs.declared.entry.Act.TheVariants as act
 use Rattle.pass_plain.specs.Sessions.{Session}
@@ -15,7 +16,7 @@ use Rattle.pass_book.specs.Names.{name, Among, without, touches, Agrees}
 use Rattle.pass_book.specs.Syncs.{Backs}
 use Rattle.pass_book.specs.Views.{Part, part_of}
 use Rattle.pass_book.proofs.Backed.{backs_whole}
-use Rattle.pass_book.proofs.Lookups.{gone, among_less, touched_name, off}
+use Rattle.pass_book.proofs.Lookups.{gone, among_less, touched_name}
 
 -- once the desk of its object, the line of its caller and where it ends its process that one's last are back, an entry is the affair of no name that is away
 pub free_to_write : (base : List Name) (c : Name) (e : Entry) → (e.act ≡ act.Finish → ¬ Among (name Last e.what) base) → (a : Name) → Among a (without (name Line e.who) (without (name Desk e.what) (without c base))) → touches a e ≡ false
@@ -23,7 +24,7 @@ free_to_write base c e last a h =
     let d = name Desk e.what in
     let l = name Line e.who in
     let bs = without c base in
-    off (touches a e) (λ t.
+    false_from_ne_true (touches a e) (λ t.
     ⊎_elim
     (λ (x : a ≡ d). gone d bs (subst (λ (n : Name). Among n (without d bs)) x (among_less l (without d bs) a h)))
     (λ (y : (a ≡ l) ⊎ ((e.act ≡ act.Finish) × (a ≡ name Last e.what))).

@@ -11,8 +11,7 @@ use Rattle.pass_entry.specs.declared.objects.Kind.TheVariants as kind
 use Rattle.pass_plain.specs.Histories.{is_fault, pnode_of}
 use Rattle.pass_plain.specs.Registries.{same_kind}
 use Rattle.pass_plain.proofs.TwoPrefixes.{none_later}
-use Rattle.pass_plain.proofs.Appends.{or_none}
-use Rattle.pass_plain.proofs.Lists.{some_is}
+use Rattle.pass_plain.proofs.Lists.{some_is, or_false}
 use Rattle.pass_book.proofs.Prefixes.{prefix_self}
 use mathlib.Core.List.{IsPrefix}
 use Rattle.pass_entry.specs.declared.entry.Entry.{Entry}
@@ -103,8 +102,8 @@ none_among P [] i x off on at = absurd cc
 none_among P (y ∷ ys) zero x off on at =
     let same : y ≡ x = cc in
     let hit : P y ≡ true = ap P same ∙ on in
-    let miss : P y ≡ false = (or_none (P y) (list_any P ys) off).0 in absurd (let z : true ≡ false = sym hit ∙ miss in cc)
-none_among P (y ∷ ys) (suc i) x off on at = none_among P ys i x (or_none (P y) (list_any P ys) off).1 on at
+    let miss : P y ≡ false = (or_false (P y) (list_any P ys) off).0 in absurd (let z : true ≡ false = sym hit ∙ miss in cc)
+none_among P (y ∷ ys) (suc i) x off on at = none_among P ys i x (or_false (P y) (list_any P ys) off).1 on at
 
 -- what the rest hasn't stands in the front
 in_front : {X : Type 0} (P : X → Bool) (xs ys : List X) (i : ℕ) (x : X) → list_any P ys ≡ false → P x ≡ true → slice_get (xs ++ ys) i ≡ Some x → slice_get xs i ≡ Some x

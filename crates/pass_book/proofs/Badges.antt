@@ -4,6 +4,7 @@ use Rattle.std.proofs.Common.{◌≡◌, ℕ, ◌<◌, ◌≤◌, Bool, true, fa
 use Rattle.std.specs.Prelude.{ltb}
 use Rattle.atomic_table.specs.Seated.{TableId}
 use Rattle.pass_entry.specs.declared.entry.Entry.{Entry}
+use Rattle.pass_entry.proofs.Lists.{of_both}
 use Rattle.pass_plain.specs.Sessions.{Session}
 use Rattle.pass_book.specs.declared.view.VaultSync.{VaultSync}
 use Rattle.pass_book.specs.declared.view.Opened.{Opened}
@@ -42,12 +43,8 @@ pub line_unlike : (n : ℕ) → ¬ (name Line n ≡ name Book 0)
 line_unlike n e = absurd (cc (ap (λ (a : Name). a.role) e))
 
 -- what holds of both holds of the longer
-longer_has_if : {A : Type 0} (P : List A → Type 0) (xs ys : List A) (t : Bool) → P xs → P ys → P (cond t ys xs)
-longer_has_if P xs ys true p q = q
-longer_has_if P xs ys false p q = p
-
 pub longer_has : {A : Type 0} (P : List A → Type 0) (xs ys : List A) → P xs → P ys → P (longer xs ys)
-longer_has P xs ys p q = longer_has_if P xs ys (ltb (length xs) (length ys)) p q
+longer_has P xs ys p q = of_both P (ltb (length xs) (length ys)) ys xs q p
 
 pub past_longer : (session : Session) (xs ys : List Entry) (ss us : List VaultSync) → IsPast session xs ss → IsPast session ys us → IsPast session (longer xs ys) (longer ss us)
 unfolding IsPast

@@ -22,12 +22,3 @@ popped b start n desks rest o d all split is =
     let taken : desks ≡ rest ++ d ∷ [] = split ∙ ap (λ o. rest ++ option_to_list o) is in
     let both = same_from_push rest (opening_desks b start n) d (new_desk b (start.ceiling + 1 + n)) (sym taken ∙ all ∙ opening_more b start n) in
     (both.1, both.0)
-
--- where the opening has no object, that of the registry is taken last
-pub popped_last : (b : BookId) (start : Start) (desks rest : List DeskState) (o : Option DeskState) (d : DeskState) → start.files.items ≡ [] → start.apps.items ≡ []
-    → desks ≡ opening_desks b start 0 → desks ≡ rest ++ option_to_list o → o ≡ Some d → d ≡ registry_desk b
-popped_last b start desks rest o d files apps all split is =
-    let taken : desks ≡ rest ++ d ∷ [] = split ∙ ap (λ o. rest ++ option_to_list o) is in
-    let known : opening_numbers start ≡ [] = λ i. map (λ f. f.node.pnode) (files i) ++ map (λ n. n.pnode) (apps i) in
-    let one = ap (λ ns. registry_desk b ∷ map (known_desk b) ns ++ []) known in
-    (same_from_push rest [] d (registry_desk b) (sym taken ∙ all ∙ one)).1

@@ -19,7 +19,7 @@ use Rattle.pass_book.proofs.Affairs.{agrees_on, listed_on}
 use Rattle.pass_book.proofs.Backed.{still_backed}
 use Rattle.pass_book.proofs.Lookups.{among_without, among_less, gone, is_or_not, at_within}
 use Rattle.pass_book.proofs.Lists.{Joined, used, gained, alone, joined, before_join, claims_joined, longer_of}
-use Rattle.pass_book.proofs.Rules.{Rule, book_name, with_book, untouched_none, never, not_vault, longer_nothing}
+use Rattle.pass_book.proofs.Rules.{Rule, book_name, with_book, never, not_vault, longer_nothing, none_concerned}
 
 pub joined_once : (opened : Opened) (words : List ℕ) (views : List View) (all : List VaultSync) (lent : List Name) (seat : ℕ) (book : View) (k : KeptAs opened words views seat book all lent)
     → (id : ℕ) (v l : View) → get_elem? views id ≡ some v → l.name ≡ v.name → (other : ℕ) (x : View) → ¬ IsOne x.name.role
@@ -53,7 +53,7 @@ spent_fits b all lent = record {
   told = prefix_none b.seen;
   listed = prefix_none all;
   told_listed = prefix_none all;
-  agrees = sym (untouched_none b.seen);
+  agrees = sym (none_concerned b.seen);
   complete = never [] all;
   away = (λ one. absurd one);
   free = (λ one. absurd one);

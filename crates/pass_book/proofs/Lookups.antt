@@ -1,6 +1,5 @@
 -- Which name is which, and where a view of the changed table comes from.
 use Rattle.std.proofs.Common.{◌≡◌, ◌⊎◌, ℕ, zero, suc, ◌<◌, ◌==◌, ◌&&◌, Bool, true, false, cond, not, List, [], ◌∷◌, ◌++◌, length, refl, sym, ap, ◌∙◌, subst, inl, inr, ⊎_elim, arith, eq-eqb}
-use Rattle.std.proofs.lemmas.Bool.Decides.{nat_tests}
 use mathlib.Core.Option.{some, some-ne-none, some-injective}
 use lib.ListN.{get_elem?}
 use Rattle.pass_book.specs.declared.view.Role.{Role}
@@ -11,8 +10,10 @@ use Rattle.pass_book.specs.declared.view.VaultSync.{VaultSync}
 use Rattle.pass_book.specs.declared.view.FileMark.{FileMark}
 use Rattle.pass_entry.specs.declared.entry.Act.{Act}
 use Rattle.pass_entry.specs.declared.entry.Act.TheVariants as act
+use Rattle.pass_entry.proofs.Lists.{same_numbers}
 use Rattle.std.specs.Option.{option_map_or}
 use Rattle.std.specs.Prelude.{Option, Some, None}
+use Rattle.std.proofs.lemmas.Bool.{and_parts}
 use Rattle.pass_book.specs.Names.{name, code, same, Among, without, IsOne, is_finish, touches, touches_as, concerns, concerns_as}
 
 role_of : ℕ → Role
@@ -40,19 +41,11 @@ same_name : (a b : Name) → code a.role ≡ code b.role → a.number ≡ b.numb
 same_name a b k n t =
     let roles : a.role ≡ b.role = sym (role_of-code a.role) ∙ ap role_of k ∙ role_of-code b.role in λ i. record { role = roles i; number = n i; strand = t i }
 
-both_true : (x y : Bool) → (x && y) ≡ true → (x ≡ true) × (y ≡ true)
-both_true true true e = (refl, refl)
-both_true true false e = absurd cc
-both_true false y e = absurd cc
-
-nat_same : (m n : ℕ) → (m == n) ≡ true → m ≡ n
-nat_same m n e = grind (arith, nat_tests)
-
 same_is : (a b : Name) → same a b ≡ true → a ≡ b
 same_is a b e =
-    let s = both_true ((code a.role == code b.role) && (a.number == b.number)) (a.strand == b.strand) e in
-    let t = both_true (code a.role == code b.role) (a.number == b.number) s.0 in
-    same_name a b (nat_same (code a.role) (code b.role) t.0) (nat_same a.number b.number t.1) (nat_same a.strand b.strand s.1)
+    let s = and_parts ((code a.role == code b.role) && (a.number == b.number)) (a.strand == b.strand) e in
+    let t = and_parts (code a.role == code b.role) (a.number == b.number) s.0 in
+    same_name a b (same_numbers (code a.role) (code b.role) t.0) (same_numbers a.number b.number t.1) (same_numbers a.strand b.strand s.1)
 
 pub same_self : (a : Name) → same a a ≡ true
 same_self a =
@@ -109,21 +102,21 @@ finishes _ t = absurd cc
 
 touched_name_as : (k : Role) (n : ℕ) (e : Entry) → touches_as k n e ≡ true → (name k n ≡ name Desk e.what) ⊎ ((name k n ≡ name Line e.who) ⊎ ((e.act ≡ act.Finish) × (name k n ≡ name Last e.what)))
 touched_name_as Book n e t = absurd cc
-touched_name_as Desk n e t = inl (ap (name Desk) (sym (nat_same e.what n t)))
-touched_name_as Line n e t = inr (inl (ap (name Line) (sym (nat_same e.who n t))))
-touched_name_as Last n e t = let b = both_true (is_finish e.act) (e.what == n) t in inr (inr (finishes e.act b.0, ap (name Last) (sym (nat_same e.what n b.1))))
+touched_name_as Desk n e t = inl (ap (name Desk) (sym (same_numbers e.what n t)))
+touched_name_as Line n e t = inr (inl (ap (name Line) (sym (same_numbers e.who n t))))
+touched_name_as Last n e t = let b = and_parts (is_finish e.act) (e.what == n) t in inr (inr (finishes e.act b.0, ap (name Last) (sym (same_numbers e.what n b.1))))
 touched_name_as Vault n e t = absurd cc
 touched_name_as Claim n e t = absurd cc
 touched_name_as Note n e t = absurd cc
 touched_name_as Spent n e t = absurd cc
 
 first_strand : (a : Name) → (a.strand == 0) ≡ true → a ≡ name a.role a.number
-first_strand a t = λ i. record { role = a.role; number = a.number; strand = nat_same a.strand 0 t i }
+first_strand a t = λ i. record { role = a.role; number = a.number; strand = same_numbers a.strand 0 t i }
 
 -- an entry touches the desk of its object, the line of its caller and, where it ends its process, that one's last
 pub touched_name : (a : Name) (e : Entry) → touches a e ≡ true → (a ≡ name Desk e.what) ⊎ ((a ≡ name Line e.who) ⊎ ((e.act ≡ act.Finish) × (a ≡ name Last e.what)))
 touched_name a e t =
-    let b = both_true (a.strand == 0) (touches_as a.role a.number e) t in
+    let b = and_parts (a.strand == 0) (touches_as a.role a.number e) t in
     let is = first_strand a b.0 in
     let P : Name → Type 0 = λ n. (n ≡ name Desk e.what) ⊎ ((n ≡ name Line e.who) ⊎ ((e.act ≡ act.Finish) × (n ≡ name Last e.what))) in
     subst P (sym is) (touched_name_as a.role a.number e b.1)
@@ -139,16 +132,11 @@ touched_one_as Note n e t = absurd cc
 touched_one_as Spent n e t = absurd cc
 
 pub touched_one : (a : Name) (e : Entry) → touches a e ≡ true → IsOne a.role
-touched_one a e t = touched_one_as a.role a.number e (both_true (a.strand == 0) (touches_as a.role a.number e) t).1
-
--- a test that isn't true is false
-pub off : (b : Bool) → ¬ (b ≡ true) → b ≡ false
-off true n = absurd (n refl)
-off false n = refl
+touched_one a e t = touched_one_as a.role a.number e (and_parts (a.strand == 0) (touches_as a.role a.number e) t).1
 
 concerned_file : (n : ℕ) (o : Option FileMark) → option_map_or (λ f. f.pnode == n) o false ≡ true → (f : FileMark) × (o ≡ Some f) × (name Desk n ≡ name Desk f.pnode)
 concerned_file n None t = absurd cc
-concerned_file n (Some f) t = (f, refl, ap (name Desk) (sym (nat_same f.pnode n t)))
+concerned_file n (Some f) t = (f, refl, ap (name Desk) (sym (same_numbers f.pnode n t)))
 
 concerned_as : (k : Role) (n : ℕ) (s : VaultSync) → concerns_as k n s ≡ true → (k ≡ Vault) ⊎ ((f : FileMark) × (s.file ≡ Some f) × (name k n ≡ name Desk f.pnode))
 concerned_as Book n s t = absurd cc
@@ -163,7 +151,7 @@ concerned_as Spent n s t = absurd cc
 -- a sync concerns the vault, and the desk of its file
 pub concerned : (a : Name) (s : VaultSync) → concerns a s ≡ true → (a.role ≡ Vault) ⊎ ((f : FileMark) × (s.file ≡ Some f) × (a ≡ name Desk f.pnode))
 concerned a s t =
-    let b = both_true (a.strand == 0) (concerns_as a.role a.number s) t in
+    let b = and_parts (a.strand == 0) (concerns_as a.role a.number s) t in
     let P : Name → Type 0 = λ n. (n.role ≡ Vault) ⊎ ((f : FileMark) × (s.file ≡ Some f) × (n ≡ name Desk f.pnode)) in
     subst P (sym (first_strand a b.0)) (concerned_as a.role a.number s b.1)
 

@@ -1,10 +1,7 @@
 -- The names that are away while a book is opened.
-use Rattle.std.proofs.Common.{◌≡◌, ℕ, suc, ◌+◌, ◌<◌, ◌≤◌, List, [], ◌∷◌, ◌++◌, Some, slice_get, inl, inr, refl, ap, sym, ◌∙◌, subst, ⊎_elim, arith, length, get_or, take, drop, append_assoc}
+use Rattle.std.proofs.Common.{◌≡◌, ℕ, suc, ◌+◌, ◌<◌, ◌≤◌, List, [], ◌∷◌, ◌++◌, Some, slice_get, inl, inr, refl, ap, sym, ◌∙◌, subst, ⊎_elim, arith, length, get_or, take, append_assoc}
 use Rattle.std.specs.Prelude.{map}
-use Rattle.std.specs.List.{range_with_len}
 use Rattle.std.proofs.lemmas.List.{map-append, take_more}
-use Rattle.std.proofs.lemmas.List.FromFn.{map-range_with_len_more}
-use Rattle.std.proofs.Math.Seq.{drop-cons}
 use Rattle.pass_entry.specs.declared.objects.Kind.{Kind}
 use Rattle.pass_entry.specs.declared.objects.Kind.TheVariants as kind
 use Rattle.pass_entry.specs.declared.objects.Node.{Node}
@@ -98,19 +95,9 @@ sound_apart start objects sound = subst (λ ns. AreApart ns start.ceiling) (numb
 
 -- One more desk
 
-pub next_known : (ns : List ℕ) (i n : ℕ) → i < length ns → n ≡ get_or ns i n → drop i ns ≡ n ∷ drop (i + 1) ns
-next_known ns i n within is =
-    let e : suc i ≡ i + 1 = omega arith in drop-cons ns i n within ∙ ap (λ m. m ∷ drop (suc i) ns) (sym is) ∙ ap (λ k. n ∷ drop k ns) e
-
 pub known_more : {D : Type 0} (f : ℕ → D) (ns : List ℕ) (i n : ℕ) (first old new : List D) (d : D) → i < length ns → n ≡ get_or ns i n → old ≡ first ++ map f (take i ns) → new ≡ old ++ d ∷ [] → d ≡ f n
     → new ≡ first ++ map f (take (i + 1) ns)
 known_more f ns i n first old new d within is had pushed one =
     let more : take (i + 1) ns ≡ take i ns ++ n ∷ [] = take_more ns i n within ∙ ap (λ m. take i ns ++ m ∷ []) (sym is) in
     let all : map f (take (i + 1) ns) ≡ map f (take i ns) ++ f n ∷ [] = ap (map f) more ∙ map-append f (take i ns) (n ∷ []) in
     pushed ∙ ap (λ (ds : List _). ds ++ d ∷ []) had ∙ append_assoc first (map f (take i ns)) (d ∷ []) ∙ ap (λ x. first ++ (map f (take i ns) ++ x ∷ [])) one ∙ ap (λ ds. first ++ ds) (sym all)
-
-pub new_more : {D : Type 0} (f : ℕ → D) (a n j : ℕ) (first old new : List D) (d : D) → a + n ≡ j → old ≡ first ++ map f (range_with_len a n) → new ≡ old ++ d ∷ [] → d ≡ f j
-    → new ≡ first ++ map f (range_with_len a (n + 1))
-new_more f a n j first old new d at had pushed one =
-    pushed ∙ ap (λ (ds : List _). ds ++ d ∷ []) had ∙ append_assoc first (map f (range_with_len a n)) (d ∷ []) ∙ ap (λ x. first ++ (map f (range_with_len a n) ++ x ∷ [])) one
-    ∙ ap (λ ds. first ++ ds) (sym (map-range_with_len_more f a n j at))

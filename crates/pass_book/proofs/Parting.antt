@@ -1,5 +1,5 @@
 -- Records as they go into parts.
-use Rattle.std.proofs.Common.{◌≡◌, ℕ, ◌+◌, ◌<◌, ◌≤◌, List, [], ◌∷◌, ◌++◌, length, refl, ap, sym, ◌∙◌, subst, ◌⊎◌, inl, inr, arith, append_assoc, length-append}
+use Rattle.std.proofs.Common.{◌≡◌, ℕ, ◌+◌, ◌<◌, ◌≤◌, List, [], ◌∷◌, ◌++◌, length, ap, sym, ◌∙◌, subst, ◌⊎◌, inl, inr, arith, append_assoc, length-append}
 use Rattle.std.proofs.lemmas.List.{append-nil, take-append-le, take_all}
 use Rattle.std.proofs.Math.Nat.{eq-or-lt_of_le}
 use Rattle.std.proofs.lemmas.List.Elements.{All-push}
@@ -41,10 +41,6 @@ growing_more p bytes r more g is room = record {
   within = room;
 }
 
-pub nothing : (p : List Record) → length p ≡ 0 → p ≡ []
-nothing [] is = refl
-nothing (r ∷ rs) is = absurd (omega (arith, is))
-
 some_bytes : (p : List Record) → 0 < byte_length p → 0 < length p
 some_bytes [] lt = lt
 some_bytes (r ∷ rs) lt = omega arith
@@ -65,7 +61,7 @@ growing_closed p bytes r more g is full within =
 
 -- The lists that are in the parts
 
-joined_more : (ps : List (List Record)) (p : List Record) → joined (ps ++ p ∷ []) ≡ joined ps ++ p
+pub joined_more : (ps : List (List Record)) (p : List Record) → joined (ps ++ p ∷ []) ≡ joined ps ++ p
 joined_more ps p = flat_map-append (λ p. p) ps (p ∷ []) ∙ ap (λ rs. joined ps ++ rs) (append-nil p)
 
 pub parted_more : (lists : List (List Record)) (p : PartsState) (r : List Record) → IsParted lists p → IsParted (lists ++ r ∷ []) (record { full = p.full; part = p.part ++ r })

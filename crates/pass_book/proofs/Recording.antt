@@ -1,5 +1,5 @@
 -- The records of entries, as they are added and as they are parted.
-use Rattle.std.proofs.Common.{◌≡◌, ℕ, zero, suc, ◌+◌, ◌<◌, ◌≤◌, All, take, drop, get_or, List, [], ◌∷◌, ◌++◌, length, Some, refl, ap, sym, ◌∙◌, arith, append_assoc}
+use Rattle.std.proofs.Common.{◌≡◌, ℕ, zero, suc, ◌+◌, ◌<◌, ◌≤◌, All, take, drop, get_or, List, [], ◌∷◌, ◌++◌, length, refl, ap, sym, ◌∙◌, arith, append_assoc}
 use Rattle.std.proofs.lemmas.List.{append-nil, take-append-drop, take_more, drop-append-le, length-take, length-drop}
 use Rattle.std.proofs.Math.Seq.{take-add}
 use Rattle.std.proofs.lemmas.Grind.{flat_map-append}
@@ -10,9 +10,6 @@ use Rattle.pass_plain.specs.Sessions.{Session}
 use Rattle.pass_plain.specs.Records.{entry_records, records_of}
 use Rattle.pass_book.specs.Records.{lists_after, entry_lists, joined, AreParts, IsCrowded, IsPart}
 use Rattle.pass_book.specs.Parting.{IsParted}
-
-pub some_same : {X : Type 0} (x y : X) → Some x ≡ Some y → x ≡ y
-some_same x y e = cc
 
 more_after : (session : Session) (past h : List Entry) (e : Entry) → lists_after session past (h ++ e ∷ []) ≡ lists_after session past h ++ entry_records session (past ++ h) e ∷ []
 more_after session past [] e = ap (λ p. entry_records session p e ∷ []) (sym (append-nil past))

@@ -6,7 +6,6 @@ use mathlib.Core.Option.{none, some, some-injective}
 use mathlib.Core.List.{IsPrefix}
 use lib.ListN.{get_elem?}
 use Rattle.atomic_table.specs.Table.{State, Step, step}
-use Rattle.pass_entry.specs.declared.entry.Entry.{Entry}
 use Rattle.pass_book.specs.declared.view.VaultSync.{VaultSync}
 use Rattle.pass_book.specs.declared.view.Opened.{Opened}
 use Rattle.pass_book.specs.declared.view.Role.TheVariants.{Book, Vault}
@@ -38,13 +37,9 @@ with_book opened words views h id b at is =
     subst P (sym seat) (subst Q book k)
 
 -- where no sync is looked for, lists agree
-pub none_concerned : (xs : List VaultSync) → filter (λ (s : VaultSync). false) xs ≡ []
+pub none_concerned : {X : Type 0} (xs : List X) → filter (λ (x : X). false) xs ≡ []
 none_concerned [] = refl
 none_concerned (x ∷ xs) = none_concerned xs
-
-pub untouched_none : (xs : List Entry) → filter (λ (e : Entry). false) xs ≡ []
-untouched_none [] = refl
-untouched_none (x ∷ xs) = untouched_none xs
 
 pub every : {A : Type 0} (xs : List A) → filter (λ (a : A). true) xs ≡ xs
 every [] = refl

@@ -1,6 +1,7 @@
 -- A seat whose view is cut in two keeps the rule: a name that leaves the book, an entry, a note, a claim.
 use Rattle.std.proofs.Common.{◌≡◌, ◌⊎◌, ℕ, ◌<◌, ◌≤◌, ◌+◌, ◌-◌, true, false, true≢false, List, [], ◌∷◌, ◌++◌, length, set, refl, sym, ap, ◌∙◌, subst, inl, inr, ⊎_elim, arith, eq-eqb, length-append}
 use Rattle.std.specs.Prelude.{filter}
+use Rattle.std.proofs.lemmas.Bool.{false_from_ne_true}
 use mathlib.Core.Option.{some}
 use mathlib.Core.List.{IsPrefix}
 use lib.ListN.{get_elem?}
@@ -21,9 +22,9 @@ use Rattle.pass_book.specs.Views.{session_in, Fits, KeptAs, longer, leaving, lef
 use Rattle.pass_book.proofs.Prefixes.{prefix_self, prefix_none, prefix_more, prefix_whole}
 use Rattle.pass_book.proofs.Affairs.{agrees_more}
 use Rattle.pass_book.proofs.Backed.{backed_more, none_numbered}
-use Rattle.pass_book.proofs.Lookups.{at_within, touched_one, off}
+use Rattle.pass_book.proofs.Lookups.{at_within, touched_one}
 use Rattle.pass_book.proofs.Lists.{Came, came, changed, stood, whence, claims_split, claimed_at_most}
-use Rattle.pass_book.proofs.Rules.{Rule, book_name, with_book, untouched_none, never, not_vault}
+use Rattle.pass_book.proofs.Rules.{Rule, book_name, with_book, never, not_vault, none_concerned}
 
 -- Names after a split
 
@@ -191,7 +192,7 @@ writes opened e id b is apart may kept some_place s h at =
       free = (λ one among. home (k.lent_away desk among).1);
       vault = (λ v. absurd cc);
     } in
-    let untouched : (a : Name) → (IsOne a.role → Among a b.away) → touches a e ≡ false = λ a away. off (touches a e) (λ t. true≢false (sym t ∙ apart a (away (touched_one a e t)))) in (
+    let untouched : (a : Name) → (IsOne a.role → Among a b.away) → touches a e ≡ false = λ a away. false_from_ne_true (touches a e) (λ t. true≢false (sym t ∙ apart a (away (touched_one a e t)))) in (
       id,
       l,
       all,
@@ -282,7 +283,7 @@ notes_of opened id v xs less live s h at =
     )
   where
     nothing_touched : (xs ys : List Entry) → filter (λ (e : Entry). false) xs ≡ filter (λ (e : Entry). false) ys
-    nothing_touched xs ys = untouched_none xs ∙ sym (untouched_none ys)
+    nothing_touched xs ys = none_concerned xs ∙ sym (none_concerned ys)
 
     note_fits : (b v r : View) (all : List VaultSync) (lent : List Name) (views : List View) (id : ℕ) → ((j : ℕ) (u : View) → get_elem? views j ≡ some u → Fits b all lent u) → Fits b all lent v → Fits b all lent r → (j : ℕ) (u : View) → Came views id v r j u → Fits b all lent u
     note_fits b v r all lent views id old mine new j u (came e same) = subst (Fits b all lent) same new
@@ -313,7 +314,7 @@ claims_more opened n id b is s h at =
       told = prefix_none b.seen;
       listed = prefix_none all;
       told_listed = prefix_none all;
-      agrees = sym (untouched_none b.seen);
+      agrees = sym (none_concerned b.seen);
       complete = never [] all;
       away = (λ one. absurd one);
       free = (λ one. absurd one);

@@ -1,6 +1,7 @@
 -- What the vault does keeps the rule: it notes a sync, takes a desk and gives it back.
 use Rattle.std.proofs.Common.{◌≡◌, ◌≢◌, ℕ, ◌≤◌, true, List, [], ◌∷◌, ◌++◌, length, set, max, refl, sym, ap, ◌∙◌, subst, ⊎_elim, arith}
 use Rattle.std.specs.Prelude.{slice_index, Some}
+use Rattle.std.proofs.lemmas.Bool.{false_from_ne_true}
 use mathlib.Core.Option.{some}
 use lib.ListN.{get_elem?}
 use Rattle.atomic_table.specs.Table.{Me, keeps, Allows, Splits, Joins}
@@ -20,7 +21,7 @@ use Rattle.pass_book.specs.Views.{session_in, Fits, KeptAs, Kept, longer, spent,
 use Rattle.pass_book.proofs.Prefixes.{prefix_self, prefix_none, prefix_more, prefix_length}
 use Rattle.pass_book.proofs.Affairs.{listed_more, agrees_on}
 use Rattle.pass_book.proofs.Backed.{durable_last, rising_more, numbered_more}
-use Rattle.pass_book.proofs.Lookups.{gone, among_less, off, concerned}
+use Rattle.pass_book.proofs.Lookups.{gone, among_less, concerned}
 use Rattle.pass_book.proofs.Lists.{Came, came, changed, stood, whence, joined, before_join, claims_changed, claims_split, claims_joined, longer_of}
 use Rattle.pass_book.proofs.Rules.{Rule, book_name, nowhere, whole_list, longer_nothing}
 use Rattle.pass_book.proofs.Splitting.{split_once}
@@ -86,7 +87,7 @@ syncs opened slots id me y is calls entries within has s h len at bound =
       listed = prefix_more u.syncs v.syncs (y ∷ []) g.listed;
       told_listed = prefix_more u.told_syncs v.syncs (y ∷ []) g.told_listed;
       agrees = g.agrees;
-      complete = listed_more u.name u.syncs v.syncs y g.complete (off (concerns u.name y) (λ t. let a = of_desk u.name t no in g.free (k.lent_away u.name a).0 a));
+      complete = listed_more u.name u.syncs v.syncs y g.complete (false_from_ne_true (concerns u.name y) (λ t. let a = of_desk u.name t no in g.free (k.lent_away u.name a).0 a));
       away = g.away;
       free = g.free;
       vault = (λ e. absurd (no e));
@@ -107,13 +108,13 @@ syncs opened slots id me y is calls entries within has s h len at bound =
           fits = (λ j u e. ⊎_elim (λ (t : (j ≡ id) × (l ≡ u)). subst (Fits b all lent) t.1 mine) (λ (t : (j ≢ id) × (get_elem? s.views j ≡ some u)). others j u t.0 t.1) (at_set s.views id j l u e));
           once = set_once opened s.words s.views v.syncs lent h.0 b k id v l at refl;
           folded = k.folded;
-          desks = desks_kept v.syncs all b.away b.away b.folded (λ o none. none) (λ o ss none mine. listed_more (name Desk o) ss v.syncs y mine (off (concerns (name Desk o) y) (λ t. none (k.lent_away (name Desk o) (of_desk (name Desk o) t (λ e. absurd cc))).1))) k.desks;
+          desks = desks_kept v.syncs all b.away b.away b.folded (λ o none. none) (λ o ss none mine. listed_more (name Desk o) ss v.syncs y mine (false_from_ne_true (concerns (name Desk o) y) (λ t. none (k.lent_away (name Desk o) (of_desk (name Desk o) t (λ e. absurd cc))).1))) k.desks;
           words_are = risen_words s.words (durable v.syncs) y.entries k.words_are entries ∙ ap (λ (n : ℕ). 0 ∷ n ∷ []) (sym last);
           rising = rising_more v.syncs y k.rising calls entries;
           durable_within = (let short = prefix_length v.seen b.seen f.begins in omega (arith, last, within, short));
           no_vault = (λ none. absurd (none away));
           lent_away = k.lent_away;
-          home = (λ o none. listed_more (name Desk o) b.syncs v.syncs y (k.home o none) (off (concerns (name Desk o) y) (λ t. none (k.lent_away (name Desk o) (of_desk (name Desk o) t (λ e. absurd cc))).1)));
+          home = (λ o none. listed_more (name Desk o) b.syncs v.syncs y (k.home o none) (false_from_ne_true (concerns (name Desk o) y) (λ t. none (k.lent_away (name Desk o) (of_desk (name Desk o) t (λ e. absurd cc))).1)));
           backed = k.backed;
           pool = claims_changed s.views id v l b.pool b.pool at k.pool (omega arith);
         },

@@ -4,9 +4,9 @@ use Rattle.std.specs.Prelude.{Some, slice_get}
 use Rattle.std.proofs.lemmas.Option.{slice_get_within}
 use Rattle.pass_entry.specs.declared.entry.Entry.{Entry}
 use Rattle.pass_entry.specs.declared.entry.Act.TheVariants as act
-use Rattle.pass_entry.specs.declared.entry.CallName.{CallName}
 use Rattle.pass_entry.specs.declared.entry.CallName.TheVariants as call
 use Rattle.pass_entry.specs.declared.objects.Descriptor.{Descriptor}
+use Rattle.pass_entry.proofs.Places.{slice_get-last}
 use Rattle.pass_plain.specs.declared.request.Request.{Request}
 use Rattle.pass_plain.specs.declared.request.Request.TheVariants as requests
 use Rattle.pass_plain.specs.Histories.{is_of_call, call_entries}
@@ -14,24 +14,19 @@ use Rattle.pass_plain.specs.Sessions.{Session}
 use Rattle.pass_plain.specs.Sound.{IsSound}
 use Rattle.pass_plain.specs.Processes.{Process}
 use Rattle.pass_plain.specs.Calls.{Made, Step, act_on, name_of, call_steps, end_of, pipe_descriptors, place_at, pnode_at}
-use Rattle.pass_plain.specs.Lawful.{most_steps}
 use Rattle.pass_plain.specs.Legal.{IsLegal, MayFollow, before_call, is_start}
 use Rattle.pass_plain.specs.Records.{records_of, entry_records}
 use Rattle.pass_plain.proofs.Lists.{some_is, both_true, same_itself, all_at}
-use Rattle.pass_plain.proofs.Appends.{slice_get-append, slice_get-last}
+use Rattle.pass_plain.proofs.Appends.{slice_get-append}
 use Rattle.pass_plain.proofs.Calling.{legal_induction, call_entries-append, step_next, acts-cases}
 use Rattle.pass_plain.proofs.Counts.{step_count_law}
+use Rattle.pass_plain.proofs.OtherCalls.{most_is}
 use Rattle.pass_range.proofs.Changing.{records-next}
 use Rattle.pass_bounds.proofs.Arguments.{texts, pipe_steps}
 use Rattle.pass_bounds.proofs.Images.{spellings-append}
 use Rattle.pass_bounds.proofs.Lengths.{size, is_small, entry_size, small_entry}
 
 -- the place of an entry in its call
-
-most_is : (name : CallName) → most_steps name ≤ 67
-most_is call.Fork = omega arith
-most_is call.Exit = omega arith
-most_is _ = omega arith
 
 -- a step is one of the first three, or small
 abbrev IsEarly : ℕ → Step → Type 0

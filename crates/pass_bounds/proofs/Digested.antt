@@ -1,21 +1,17 @@
 -- An entry gives few blocks a digest.
 use Rattle.std.proofs.Common.{◌≡◌, ◌∙◌, ◌==◌, ◌+◌, ◌-◌, ◌*◌, ◌<◌, ◌≤◌, ℕ, zero, suc, Bool, true, false, cond, not, ◌&&◌, ◌||◌, min, List, [], ◌∷◌, ◌++◌, length, refl, ap, sym, subst, arith, inl, inr}
-use Rattle.std.specs.Prelude.{Some, filter, find, slice_get, nat_lt}
-use Rattle.std.specs.Option.{option_map_or}
-use Rattle.std.specs.List.{list_any, range_with_len}
+use Rattle.std.specs.Prelude.{filter, nat_lt}
+use Rattle.std.specs.List.{range_with_len}
 use Rattle.pass_entry.specs.declared.entry.Entry.{Entry}
 use Rattle.pass_entry.specs.declared.entry.Act.{Act}
 use Rattle.pass_entry.specs.declared.entry.Act.TheVariants as act
-use Rattle.pass_plain.specs.declared.start.StartFile.{StartFile}
 use Rattle.pass_plain.specs.Sessions.{Session}
-use Rattle.pass_plain.specs.Sound.{IsSound, IsSoundFile}
+use Rattle.pass_plain.specs.Sound.{IsSound}
 use Rattle.pass_plain.specs.Files.{file_after, file_act}
-use Rattle.pass_plain.specs.Records.{block_size, range_len, row_act, has_row, is_written, is_digested}
-use Rattle.pass_plain.proofs.Lists.{true_left, true_right, not_true, below_is, same_numbers, same_itself, any_at}
-use Rattle.pass_plain.proofs.Calling.{le_or_above}
-use Rattle.pass_range.proofs.Apart.{length-resized}
-use Rattle.pass_range.proofs.Changing.{snoc_induction, no_shorter, written_begins, changes, change-is, file-kept, has-kept, file-changed, has-changed}
-use Rattle.pass_range.proofs.Digested.{is_change}
+use Rattle.pass_plain.specs.Records.{block_size, range_len, has_row, is_written, is_digested}
+use Rattle.pass_plain.proofs.Lists.{true_left, true_right, not_true, below_is, same_itself, le_or_above}
+use Rattle.pass_range.proofs.Changing.{snoc_induction, changes, change-is, file-kept, has-kept, file-changed, has-changed}
+use Rattle.pass_range.proofs.Rowed.{opened_begins, act_begins}
 use Rattle.pass_bounds.proofs.Arguments.{HasTexts}
 
 -- how many numbers pass a test
@@ -53,34 +49,6 @@ count_either one two (x ∷ xs) = by_tests (one x) (two x) (count_either one two
     by_tests false false later = omega (arith, later)
 
 -- a block with a row begins within its file
-
-opened_begins : (files : List StartFile) (p b : ℕ) → ((i : ℕ) (file : StartFile) → slice_get files i ≡ Some file → IsSoundFile file)
-    → list_any (λ x. x == b) (option_map_or (λ (f : StartFile). f.rows.items) (find (λ f. f.node.pnode == p) files) []) ≡ true
-    → b * 4096 < length (option_map_or (λ (f : StartFile). f.bytes.items) (find (λ f. f.node.pnode == p) files) [])
-opened_begins [] p b sound has = absurd (cc)
-opened_begins (f ∷ files) p b sound has = by_test (f.node.pnode == p) (opened_begins files p b (λ i file at. sound (suc i) file at)) has
-  where
-    by_test : (t : Bool)
-        → (list_any (λ x. x == b) (option_map_or (λ (f : StartFile). f.rows.items) (find (λ f. f.node.pnode == p) files) []) ≡ true
-        → b * 4096 < length (option_map_or (λ (f : StartFile). f.bytes.items) (find (λ f. f.node.pnode == p) files) []))
-        → list_any (λ x. x == b) (option_map_or (λ (f : StartFile). f.rows.items) (cond t (Some f) (find (λ f. f.node.pnode == p) files)) []) ≡ true
-        → b * 4096 < length (option_map_or (λ (f : StartFile). f.bytes.items) (cond t (Some f) (find (λ f. f.node.pnode == p) files)) [])
-    by_test true more has =
-        let (i, x, at, same) = any_at (λ x. x == b) f.rows.items has in
-        let s = sound 0 f refl in
-        let low = s.within i x at in
-        let is : x ≡ b = same_numbers x b same in
-        let size = s.sized in
-        omega (arith, low, is, size)
-    by_test false more has = more has
-
-act_begins : (a : Act) (old : List ℕ) (had : Bool) (b : ℕ) → is_change a ≡ true → (had ≡ true → b * 4096 < length old) → row_act b had a ≡ true → b * 4096 < length (file_act old a)
-act_begins (act.Put out at bytes) old true b change was has = let z = was refl in omega (arith, z, no_shorter old at bytes)
-act_begins (act.Put out at bytes) old false b change was has = written_begins (act.Put out at bytes) old b has
-act_begins (act.Cut out size) old had b change was has =
-    let low : b * 4096 < size = below_is (b * 4096) size (true_right had (nat_lt (b * block_size) size) has) in
-    omega (arith, low, length-resized old size)
-act_begins a old had b change was has = absurd (cc)
 
 row_begins : (session : Session) → IsSound session → (p b : ℕ) (history : List Entry) → has_row session history p b ≡ true → b * 4096 < length (file_after session history p)
 row_begins session sound p b = snoc_induction (λ h. has_row session h p b ≡ true → b * 4096 < length (file_after session h p)) (opened_begins session.start.files.items p b sound.files) more

@@ -1,20 +1,22 @@
 -- The records of a log take no more bytes than it has.
 use Rattle.std.proofs.Common.{◌≡◌, ◌+◌, ◌-◌, ◌<◌, ◌≤◌, ℕ, zero, suc, Bool, true, false, cond, eqb, List, [], ◌∷◌, ◌++◌, length, take, drop, Result, Ok, Err, refl, subst, arith, length-append}
 use Rattle.std.specs.Prelude.{nat_lt, nat_le}
-use Rattle.std.proofs.lemmas.Bool.Decides.{nat_tests}
 use Rattle.std.proofs.lemmas.List.{length-take}
 use Rattle.std.proofs.lemmas.List.Sums.{sum_by-append}
 use Rattle.pass_entry.specs.declared.record.Record.{Record}
 use Rattle.pass_entry.specs.Lengths.{record_length}
+use Rattle.pass_entry.proofs.Lists.{below_is}
+use Rattle.pass_entry.proofs.Variants.{ok_inside}
 use Rattle.pass_record.specs.declared.fault.RecordFault.{RecordFault}
 use Rattle.pass_record.specs.Reading.{record_at}
 use Rattle.pass_record.specs.Spelling.{spelling}
+use Rattle.pass_record.proofs.Spellings.{record_length-some}
 use Rattle.pass_graph.specs.Bounds.{records_length, CeilingLengthLaw, VersionLengthLaw}
 use Rattle.pass_log.specs.declared.fault.LogFault.{LogFault}
 use Rattle.pass_log.specs.Frames.{Frames, before, number, scan, longest, frames_of}
 use Rattle.pass_log.specs.Records.{Held, joined, one_more, records_in, frame_more, records_of, held, image_in, spellings}
 use Rattle.pass_bounds.specs.Lawful.{ImageLaw, OpenedLaw}
-use Rattle.pass_bounds.proofs.Taken.{record_read, tagged}
+use Rattle.pass_bounds.proofs.Taken.{record_read}
 
 -- frames
 
@@ -32,9 +34,6 @@ one_between : (place next : ℕ) (frame : List ℕ) (behind : Result Frames ℕ)
 one_between place next frame (Ok frames) fits between = omega (arith, fits, between)
 one_between place next frame (Err at) fits between = tt
 
-less : (a b : ℕ) → nat_lt a b ≡ true → a < b
-less a b h = grind (arith, nat_tests)
-
 scan_between : (skip place : ℕ) (bytes : List ℕ) → skip ≤ length bytes → AreBetween (place + skip) (scan skip place bytes)
 scan_between zero place [] within = omega arith
 scan_between (suc skip) place [] within = absurd (omega (arith, within))
@@ -47,7 +46,7 @@ scan_between zero place (gate ∷ bytes) within = by_gate (eqb gate 1) (nat_lt (
     by_gate false whole fits later = omega arith
     by_gate true false fits later = tt
     by_gate true true fits later =
-        let room : number bytes + 4 < length bytes = less (number bytes + 4) (length bytes) fits in
+        let room : number bytes + 4 < length bytes = below_is (number bytes + 4) (length bytes) fits in
         let frame = length-take (number bytes) (drop 4 bytes) in
         one_between (place + zero) (place + 1 + (number bytes + 4)) (take (number bytes) (drop 4 bytes)) (scan (number bytes + 4) (place + 1) bytes) (omega (arith, frame)) (later (number bytes + 4) (omega (arith, room)))
 
@@ -94,7 +93,7 @@ records_within zero place room (byte ∷ bytes) is = by_record (record_at (byte 
         let (taken, spelled) = record_read (byte ∷ bytes) one rest at in
         let whole = length-append (spelling one) [] in
         joined_within room (length rest) (one ∷ []) (records_in (record_length one - 1) (place + 1) bytes) (omega (arith, spelled, whole)) (omega (arith, is, taken))
-        (later (record_length one - 1) (length rest) (let some = tagged one in omega (arith, taken, some)))
+        (later (record_length one - 1) (length rest) (let some = record_length-some one in omega (arith, taken, some)))
     by_record (Err why) at later = tt
 
 frames_within : (place : ℕ) (frames : List (List ℕ)) → AreWithin (total frames) (records_of place frames)
@@ -112,16 +111,13 @@ frames_within place (frame ∷ frames) = by_frame (records_in 0 place frame) (re
 abbrev at_end : ℕ → List Record → Held
 at_end end list = record { list = list; end = end }
 
-ok_is : (x y : Held) → ◌≡◌ {A = Result Held LogFault} (Ok x) (Ok y) → x ≡ y
-ok_is x y e = cc
-
 pub image_law : ImageLaw
 image_law bytes log is = by_frames (frames_of bytes) (frames_between bytes) is
   where
     by_records : (end : ℕ) (found : Result (List Record) LogFault) (room : ℕ) → room ≤ end → AreWithin room found → held end found ≡ Ok log
         → (length (spellings log.list) ≡ records_length log.list) × (length (spellings log.list) ≤ log.end)
     by_records end (Ok list) room fits within is =
-        let same = ok_is (at_end end list) log is in
+        let same = ok_inside (at_end end list) log is in
         subst (λ (l : Held). (length (spellings l.list) ≡ records_length l.list) × (length (spellings l.list) ≤ l.end)) same
         (let (spelled, few) = within in (spelled, omega (arith, spelled, few, fits)))
     by_records end (Err e) room fits within is = absurd (cc is)

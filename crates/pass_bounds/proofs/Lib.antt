@@ -2,8 +2,8 @@ mod Arguments
 mod Charged
 mod Digested
 pub mod Images
-mod Lengths
-mod Numbers
+pub mod Lengths
+pub mod Numbers
 mod Ranges
 mod RunCalls
 mod Taken

@@ -6,6 +6,7 @@ use Rattle.std.specs.List.{All, list_all, range_with_len}
 use Rattle.std.specs.FinMap as finite_map
 use Rattle.std.proofs.lemmas.Bool.Decides.{nat_tests}
 use Rattle.std.proofs.lemmas.List.Elements.{All-nil, All-append}
+use Rattle.std.proofs.lemmas.Bool.{or_right}
 use Rattle.md5.specs.Md5.{md5}
 use Rattle.md5.proofs.StandardFacts.{length-md5}
 use Rattle.pass_entry.specs.declared.entry.Entry.{Entry}
@@ -27,7 +28,7 @@ use Rattle.pass_plain.specs.Sound.{IsSound}
 use Rattle.pass_plain.specs.Files.{file_after, file_act}
 use Rattle.pass_plain.specs.Registries.{Names, registry_after, Exists}
 use Rattle.pass_plain.specs.Replies.{reply_to, done_if}
-use Rattle.pass_plain.specs.Versions.{always_freezes, is_exec, is_repeated, is_marked, is_fresh, is_freeze, node_at_entry, nodes_of, source_in}
+use Rattle.pass_plain.specs.Versions.{is_exec, is_repeated, is_marked, is_fresh, is_freeze, node_at_entry, nodes_of, source_in}
 use Rattle.pass_plain.specs.Legal.{IsLegal, MayFollow}
 use Rattle.pass_plain.specs.Lawful.{is_registry_act}
 use Rattle.pass_plain.specs.Records.{block_size, is_digested, digest_of, content_records, args_records, extra_records, version_records, lost_name, file_named, move_records, act_records, entry_records, records_of}
@@ -42,6 +43,7 @@ use Rattle.pass_range.proofs.Digested.{is_change}
 use Rattle.pass_bounds.specs.Lawful.{InRangeLaw}
 use Rattle.pass_bounds.proofs.Arguments.{HasTexts, texts}
 use Rattle.pass_bounds.proofs.Numbers.{IsYoung, node_is, source_is, entry_aged, object_number, new_number}
+use Rattle.pass_graph.proofs.Prolonging.{registry_rests, registry_extra}
 
 abbrev AreInRange : List Record → Type 0
 AreInRange list = All IsInRange list
@@ -69,15 +71,11 @@ name_value name is =
     both_true (nat_le 1 (length name)) (is_line name) (true_left (nat_le 1 (length name)) (nat_le (length name) 255) lengths)
     (name-line name lengths (true_right (is_name_length name) (list_all is_name_byte name) is))
 
-or_true : (a b : Bool) → b ≡ true → a || b ≡ true
-or_true true b h = refl
-or_true false b h = h
-
 attr_in_range : (node : Node) (attr value : List ℕ) → is_node node ≡ true → is_name attr ≡ true → is_value value ≡ true → IsInRange (log.Attr node attr value)
 attr_in_range node attr value one two three = both_true (is_node node && is_name attr) (is_value value) (both_true (is_node node) (is_name attr) one two) three
 
 name_in_range : (file : ℕ) (name : List ℕ) → is_number file ≡ true → is_name name ≡ true → IsInRange (log.Name file name)
-name_in_range file name one two = both_true (is_number file) (is_name_or_none name) one (or_true (length name == 0) (is_name name) two)
+name_in_range file name one two = both_true (is_number file) (is_name_or_none name) one (or_right (length name == 0) (is_name name) two)
 
 nameless_in_range : (file : ℕ) → is_number file ≡ true → IsInRange (log.Name file [])
 nameless_in_range file one = both_true (is_number file) true one refl
@@ -106,26 +104,6 @@ digests_in_range file content test here first (suc count) within = by_test (test
         → AreInRange (map (digest_of file content) (cond b (first ∷ filter test (range_with_len (first + 1) count)) (filter test (range_with_len (first + 1) count))))
     by_test true later = in_range-cons (digest_of file content first) _ (digest_in_range file first content here (omega (arith, within))) later
     by_test false later = later
-
--- the acts of the registry change no version and no content
-
-steady : (a : Act) → is_registry_act a ≡ true → (always_freezes a ≡ false) × (out_of a ≡ None)
-steady (act.Bind name) h = (refl, refl)
-steady (act.Find name) h = (refl, refl)
-steady (act.Move from to) h = (refl, refl)
-steady (act.Unbind name) h = (refl, refl)
-steady (act.Mint k) h = (refl, refl)
-steady (act.Known pnode) h = (refl, refl)
-steady _ h = absurd (cc)
-
-nothing_extra : (session : Session) (past : List Entry) (e : Entry) (node : Node) (a : Act) → is_registry_act a ≡ true → extra_records session past e node a ≡ []
-nothing_extra session past e node (act.Bind name) h = refl
-nothing_extra session past e node (act.Find name) h = refl
-nothing_extra session past e node (act.Move from to) h = refl
-nothing_extra session past e node (act.Unbind name) h = refl
-nothing_extra session past e node (act.Mint k) h = refl
-nothing_extra session past e node (act.Known pnode) h = refl
-nothing_extra session past e node _ h = absurd (cc)
 
 -- the file of a name that the registry has
 
@@ -212,14 +190,14 @@ module _ (session : Session) (sound : IsSound session) (past : List Entry) (lega
     -- the records of an entry on the registry that makes and names nothing
     quiet : is_registry_act e.act ≡ true → version_records session past e node ++ extra_records session past e node e.act ≡ []
     quiet registry =
-        let (always, out) = steady e.act registry in
+        let (always, out) = registry_rests e.act registry in
         let stale : is_fresh session past nodes e ≡ false = ap (λ o. option_map_or (λ out. true) o false && (is_exec e.act || not (is_repeated session past nodes e))) (no_place (is_fault e.reply) (out_of e.act) out) in
         let kept : is_freeze session past nodes e ≡ false =
         ap (λ b. not (is_fault e.reply) && (b || (is_fresh session past nodes e && is_marked session past nodes e.what))) always
         ∙ ap (λ b. not (is_fault e.reply) && (b && is_marked session past nodes e.what)) stale ∙ nothing (not (is_fault e.reply)) in
         ap (λ b. ((if b then log.Version node ∷ [] else []) ++ (if is_fresh session past nodes e then option_map_or (λ source. log.Input node source ∷ []) (source_in nodes e) [] else [])) ++ extra_records session past e node e.act) kept
         ∙ ap (λ b. (if b then option_map_or (λ source. log.Input node source ∷ []) (source_in nodes e) [] else []) ++ extra_records session past e node e.act) stale
-        ∙ nothing_extra session past e node e.act registry
+        ∙ registry_extra session past e node e.act registry
       where
         no_place : (b : Bool) (o : Option ℕ) → o ≡ None → (if b then None else o) ≡ None
         no_place true o z = refl

@@ -1,5 +1,5 @@
 -- The calls of a run of a trace: one for each line, and an exit for each process.
-use Rattle.std.proofs.Common.{◌≡◌, ◌∙◌, ◌==◌, ◌^◌, ◌||◌, ◌+◌, ◌*◌, ◌<◌, ◌≤◌, ℕ, zero, suc, Bool, true, false, cond, List, [], ◌∷◌, ◌++◌, length, take, map, refl, ap, sym, arith, inl, inr, length-append}
+use Rattle.std.proofs.Common.{◌≡◌, ◌∙◌, ◌==◌, ◌^◌, ◌||◌, ◌+◌, ◌*◌, ◌<◌, ◌≤◌, ℕ, suc, Bool, true, false, cond, List, [], ◌∷◌, ◌++◌, length, take, map, refl, ap, sym, arith, inl, inr, length-append}
 use Rattle.std.specs.Prelude.{Option, Some, None, is_some, slice_get, find, option_map}
 use Rattle.std.specs.Option.{option_map_or}
 use Rattle.std.proofs.lemmas.List.{length-map}
@@ -8,6 +8,7 @@ use Rattle.std.proofs.lemmas.Option.{slice_get-map}
 use Rattle.pass_entry.specs.declared.entry.Entry.{Entry}
 use Rattle.pass_entry.specs.declared.objects.Node.{Node}
 use Rattle.pass_entry.specs.declared.record.Record.{Record}
+use Rattle.pass_entry.proofs.Places.{slice_get-take, slice_get-right}
 use Rattle.pass_plain.specs.declared.start.StartFile.{StartFile}
 use Rattle.pass_plain.specs.WellLogged.{current_of}
 use Rattle.pass_graph.specs.Bounds.{CeilingLengthLaw, VersionLengthLaw}
@@ -17,14 +18,14 @@ use Rattle.pass_plain.specs.Sessions.{Session, opened_file, opened_app, opening_
 use Rattle.pass_plain.specs.Processes.{begins, has_begun}
 use Rattle.pass_plain.specs.Calls.{pnode_at}
 use Rattle.pass_plain.specs.Histories.{call_entries}
-use Rattle.pass_plain.specs.Legal.{goes_on, is_over}
+use Rattle.pass_plain.specs.Legal.{is_over}
 use Rattle.pass_plain.specs.Traces.{Line, LineCall, lines_of, calls_of}
 use Rattle.pass_plain.specs.Runs.{Begun, pnode_in, first_begun, forked, begun_by_call, begun_at, begun_after, begun_of, pnode_of_process, IsRun}
 use Rattle.pass_plain.specs.Traces.LineCall.{fork_as}
-use Rattle.pass_plain.proofs.Lists.{some_is, same_numbers, any_at, any_of}
+use Rattle.pass_plain.proofs.Lists.{some_is, same_numbers, any_at, any_of, le_or_above}
 use Rattle.pass_plain.proofs.Appends.{slice_get-append}
-use Rattle.pass_plain.proofs.Replays.{slice_get-take}
-use Rattle.pass_plain.proofs.Calling.{acts-cases, goes_on-cases, numbered, le_or_above}
+use Rattle.pass_plain.proofs.Calling.{acts-cases, numbered}
+use Rattle.pass_plain.proofs.OtherCalls.{goes_some}
 use Rattle.pass_bounds.specs.Lawful.{RunLaw, FrameLaw}
 use Rattle.pass_bounds.proofs.Charged.{Calls, AreCalled, entries_spent, bytes_spent}
 use Rattle.pass_bounds.proofs.Ranges.{in_range_law}
@@ -109,18 +110,6 @@ in_begun (b ∷ begun) process who is = by_test (b.0 == process) refl (λ is. in
     by_test true same later is = (0, b, refl, same_numbers b.0 process same, some_is b.1 who is)
     by_test false other later is = let (j, c, at, one, two) = later is in (suc j, c, at, one, two)
 
--- the number of a call is at least 1
-number_some : (number last : ℕ) (over left : Bool) → goes_on number last over left ≡ true → 1 ≤ number
-number_some (suc number) last over left on = omega arith
-number_some zero last over left on = elim (goes_on-cases zero last over left on) [
-  | inl same ↦ absurd (let z : goes_on 0 0 over left ≡ true = ap (λ n. goes_on 0 n over left) same.0 ∙ on in let y : false ≡ true = z in cc)
-  | inr next ↦ absurd (let z = next.0 in omega (arith, z))
-]
-
-slice_get-right : {X : Type 0} (xs ys : List X) (j : ℕ) (x : X) → slice_get ys j ≡ Some x → slice_get (xs ++ ys) (length xs + j) ≡ Some x
-slice_get-right [] ys j x at = ap (slice_get ys) (let z : 0 + j ≡ j = omega arith in z) ∙ at
-slice_get-right (y ∷ xs) ys j x at = ap (slice_get (y ∷ (xs ++ ys))) (let z : length (y ∷ xs) + j ≡ suc (length xs + j) = omega arith in z) ∙ slice_get-right xs ys j x at
-
 module _ (session : Session) (trace : List Line) (history : List Entry) (run : IsRun session trace history) where
   abbrev pnode : ℕ → ℕ
   pnode process = option_map_or (λ (who : ℕ). who) (pnode_of_process session trace history process) 0
@@ -171,7 +160,7 @@ module _ (session : Session) (trace : List Line) (history : List Entry) (run : I
         let (process, named) = run.traced e.who begun in
         let least = (numbered session history run.legal).below i e at in
         let most = run.last process e.who named in
-        call_among process e.who e.number named (number_some e.number _ _ _ on.3) (omega (arith, least, most))
+        call_among process e.who e.number named (goes_some e.number _ _ _ on.3) (omega (arith, least, most))
   ]
     where
       still_begun : (who : ℕ) → has_begun (take i history) who ≡ true → has_begun history who ≡ true

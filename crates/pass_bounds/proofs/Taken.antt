@@ -1,5 +1,5 @@
 -- How many bytes a record that was read has taken.
-use Rattle.std.proofs.Common.{◌≡◌, ◌+◌, ◌-◌, ◌<◌, ◌≤◌, ℕ, Bool, cond, ltb, eqb, List, [], ◌∷◌, length, take, drop, Ok, Err, refl, ap, subst, arith, true, false, length-append}
+use Rattle.std.proofs.Common.{◌≡◌, ◌+◌, ◌-◌, ◌≤◌, ℕ, Bool, cond, ltb, eqb, List, [], ◌∷◌, length, take, drop, Ok, Err, refl, ap, subst, arith, true, false, length-append}
 use Rattle.std.specs.Prelude.{nat_le, nat_lt}
 use Rattle.std.specs.List.{list_all}
 use Rattle.pass_entry.specs.Texts.{is_line_byte, is_name_byte}
@@ -10,12 +10,14 @@ use Rattle.pass_entry.specs.declared.record.Record.{Record}
 use Rattle.pass_entry.specs.declared.record.Record.TheVariants as record_of
 use Rattle.pass_entry.specs.Lengths.{record_length}
 use Rattle.pass_entry.specs.Ranges.{is_number}
+use Rattle.pass_entry.proofs.Variants.{guard_ok}
 use Rattle.pass_record.specs.declared.fault.RecordFault.TheVariants as fault
 use Rattle.pass_record.specs.Fields.{number_at, bytes_at, text_at, node_at, kind_at, is_kind_byte, kind_of_byte, is_any, is_value_length, name_at, attr_at, value_at, md5_at}
 use Rattle.pass_record.specs.Reading.{object_at, named_at, attribute_at, input_at, version_at, file_size_at, digest_at, ceiling_at, fields_at, record_at}
 use Rattle.pass_record.specs.Spelling.{spelling, line_bytes}
-use Rattle.pass_record.proofs.Parts.{bind_ok, passed, met, ok_is}
+use Rattle.pass_record.proofs.Parts.{bind_ok, passed, ok_is}
 use Rattle.pass_record.proofs.Steps.{Reader, one_at, two_at, three_at}
+use Rattle.pass_record.proofs.Spellings.{record_length-some}
 
 -- what is read has taken so many bytes, and is so
 abbrev pub Reads : {A : Type 0} → Reader A → (A → ℕ) → (A → Type 0) → Type 0
@@ -29,7 +31,7 @@ number_read w is_within bytes n rest e =
     let k = byte_len w in
     let v = from_be_bytes w (take k bytes) in
     let g = passed (ltb (length bytes) k) fault.Short (cond (is_within v) (Ok (v, drop k bytes)) (Err fault.Value)) (n, rest) e in
-    let m = met (is_within v) fault.Value (v, drop k bytes) (n, rest) g.1 in
+    let m = guard_ok (is_within v) (v, drop k bytes) (n, rest) fault.Value g.1 in
     let long : k ≤ length bytes = ltb-false _ _ g.0 in
     let rest-is : length (drop k bytes) ≡ length rest = ap (λ (p : ℕ × List ℕ). length p.1) m.1 in
     let left = length-drop k bytes in
@@ -38,7 +40,7 @@ number_read w is_within bytes n rest e =
 bytes_read : (count : ℕ) (is_within : ℕ → Bool) → Reads (bytes_at count is_within) (λ text. count) (λ text. length text ≡ count)
 bytes_read count is_within bytes text rest e =
     let g = passed (ltb (length bytes) count) fault.Short (cond (list_all is_within (take count bytes)) (Ok (take count bytes, drop count bytes)) (Err fault.Value)) (text, rest) e in
-    let m = met (list_all is_within (take count bytes)) fault.Value (take count bytes, drop count bytes) (text, rest) g.1 in
+    let m = guard_ok (list_all is_within (take count bytes)) (take count bytes, drop count bytes) (text, rest) fault.Value g.1 in
     let long : count ≤ length bytes = ltb-false _ _ g.0 in
     let text-is : length (take count bytes) ≡ length text = ap (λ (p : List ℕ × List ℕ). length p.0) m.1 in
     let rest-is : length (drop count bytes) ≡ length rest = ap (λ (p : List ℕ × List ℕ). length p.1) m.1 in
@@ -190,17 +192,11 @@ fields_read tag =
     (either (eqb tag 7) digest_at _ digest_read
     (either (eqb tag 8) ceiling_at (λ bytes. Err fault.Tag) ceiling_read (λ bytes x rest e. absurd cc))))))))
 
--- a record has a tag at least
-pub tagged : (one : Record) → 0 < record_length one
-tagged (record_of.Name pnode name) = omega arith
-tagged (record_of.Attr node attr value) = omega arith
-tagged _ = omega arith
-
 -- a record that was read has taken its length, and its spelling has that length
 pub record_read : Reads record_at record_length HasLength
 unfolding record_at
 record_read [] one rest e = absurd cc
 record_read (tag ∷ bytes) one rest e =
     let (whole, is) = fields_read tag bytes one rest e in
-    let some = tagged one in
+    let some = record_length-some one in
     (omega (arith, whole, some), is)

@@ -11,6 +11,7 @@ use Rattle.pass_entry.specs.declared.entry.Entry.{Entry}
 use Rattle.pass_entry.specs.declared.entry.Reply.TheVariants as answer
 use Rattle.pass_entry.specs.declared.objects.Descriptor.{Descriptor}
 use Rattle.pass_entry.specs.declared.objects.Node.{Node}
+use Rattle.pass_entry.proofs.Places.{slice_get-last}
 use Rattle.pass_plain.specs.declared.request.Request.{Request}
 use Rattle.pass_plain.specs.declared.request.Request.TheVariants as requests
 use Rattle.pass_plain.specs.Calls.{Made, descriptor_at, is_fd, is_within, no_descriptor, refused_ask, steps_of}
@@ -20,7 +21,7 @@ use Rattle.pass_plain.specs.Places.{keeps}
 use Rattle.pass_plain.specs.Processes.{Process, changed_at, is_file, refusal, risen}
 use Rattle.pass_plain.specs.Sessions.{Session}
 use Rattle.pass_plain.specs.Versions.{nodes_of}
-use Rattle.pass_plain.proofs.Appends.{slice_get-append, slice_get-last}
+use Rattle.pass_plain.proofs.Appends.{slice_get-append}
 use Rattle.pass_plain.proofs.Lists.{both_true}
 use Rattle.pass_hold.specs.Callings.{IsEntered, IsGoing, IsIdle, HasGone}
 use Rattle.pass_hold.proofs.Callings.{call_made, entry_of, idle_again, more}

@@ -1,8 +1,9 @@
 -- The objects that a call names by descriptors.
 use Rattle.std.proofs.Common.{◌≡◌, ℕ, refl, ap, sym, ◌∙◌, Bool, true, false, ◌&&◌, ◌||◌, ◌+◌}
-use Rattle.std.specs.Prelude.{Option, Some, None, is_some, nat_lt, not}
+use Rattle.std.specs.Prelude.{Option, Some, None, nat_lt, not}
 use Rattle.std.specs.Option.{option_map_or}
 use Rattle.std.specs.FinMap as finite_map
+use Rattle.std.proofs.lemmas.Bool.{and_parts}
 use Rattle.pass_entry.specs.Limits.{file_limit}
 use Rattle.pass_entry.specs.declared.entry.Ask.TheVariants as ask
 use Rattle.pass_entry.specs.declared.entry.CallFault.{CallFault}
@@ -11,6 +12,7 @@ use Rattle.pass_entry.specs.declared.objects.Descriptor.{Descriptor}
 use Rattle.pass_entry.specs.declared.objects.Kind.{Kind}
 use Rattle.pass_entry.specs.declared.objects.Kind.TheVariants as kind
 use Rattle.pass_entry.specs.declared.objects.Mode.TheVariants as mode
+use Rattle.pass_entry.proofs.Variants.{some_of}
 use Rattle.pass_plain.specs.Calls.{descriptor_at, no_descriptor}
 use Rattle.pass_plain.specs.Processes.{Process, faults_if, is_app, is_file, is_held, refusal, same_mode}
 use Rattle.pass_plain.specs.Registries.{same_kind}
@@ -19,20 +21,12 @@ no_fault : (b : Bool) → faults_if (not b) fault.BadFd None ≡ None → b ≡ 
 no_fault true fine = refl
 no_fault false fine = absurd (cc)
 
-pub both_held : (a b : Bool) → a && b ≡ true → (a ≡ true) × (b ≡ true)
-both_held true b both = (refl, both)
-both_held false b both = absurd (cc)
-
 -- what is held where a call is not refused
 pub one_held : (p : Process) (fd : ℕ) → refusal p (ask.Held fd) ≡ None → is_held p fd ≡ true
 one_held p fd fine = no_fault (is_held p fd) fine
 
 pub two_held : (p : Process) (first second : ℕ) → refusal p (ask.HeldTwo first second) ≡ None → (is_held p first ≡ true) × (is_held p second ≡ true)
-two_held p first second fine = both_held (is_held p first) (is_held p second) (no_fault (is_held p first && is_held p second) fine)
-
-some_of : (o : Option Descriptor) → is_some o ≡ true → (d : Descriptor) × (o ≡ Some d)
-some_of None held = absurd (cc)
-some_of (Some d) held = (d, refl)
+two_held p first second fine = and_parts (is_held p first) (is_held p second) (no_fault (is_held p first && is_held p second) fine)
 
 pub held_at : (p : Process) (fd : ℕ) → is_held p fd ≡ true → (d : Descriptor) × (finite_map.get p.descriptors fd ≡ Some d)
 held_at p fd held = some_of (finite_map.get p.descriptors fd) held

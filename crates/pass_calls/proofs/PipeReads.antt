@@ -12,6 +12,7 @@ use Rattle.pass_entry.specs.declared.entry.Entry.{Entry}
 use Rattle.pass_entry.specs.declared.entry.Reply.TheVariants as answer
 use Rattle.pass_entry.specs.declared.objects.Descriptor.{Descriptor}
 use Rattle.pass_entry.specs.declared.objects.Node.{Node}
+use Rattle.pass_entry.proofs.Places.{slice_get-last}
 use Rattle.pass_plain.specs.declared.request.Request.{Request}
 use Rattle.pass_plain.specs.declared.request.Request.TheVariants as requests
 use Rattle.pass_plain.specs.Calls.{Made, Step, is_fd, is_within, refused_ask, steps_of}
@@ -24,7 +25,6 @@ use Rattle.pass_plain.specs.Replies.{taken}
 use Rattle.pass_plain.specs.Sessions.{Session}
 use Rattle.pass_plain.specs.Versions.{nodes_of}
 use Rattle.pass_plain.proofs.Lists.{both_true}
-use Rattle.pass_plain.proofs.Appends.{slice_get-last}
 use Rattle.pass_plain.proofs.Versioned.{short_get}
 use Rattle.pass_hold.specs.Callings.{IsEntered, IsIdle, IsInCall, IsGoing, HasGone, HasLooked}
 use Rattle.pass_hold.proofs.Callings.{begins_call, call_made, going_looked, idle_again, more}

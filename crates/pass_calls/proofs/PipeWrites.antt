@@ -1,11 +1,11 @@
 -- The steps of a write to a pipe, which may stay under way behind its first one.
-use Rattle.std.proofs.Common.{◌≡◌, ℕ, ◌+◌, ◌-◌, ◌<◌, ◌≤◌, List, [], ◌∷◌, ◌++◌, length, ap, sym, ◌∙◌, subst, refl, arith, Bool, true, false, ◌||◌, cond}
+use Rattle.std.proofs.Common.{◌≡◌, ℕ, ◌+◌, ◌-◌, ◌<◌, ◌≤◌, List, [], ◌∷◌, ◌++◌, length, ap, sym, ◌∙◌, subst, refl, arith, Bool, true, false, cond}
 use Rattle.std.specs.Prelude.{Option, Some, None, is_some, not, slice_get, nat_le, take, if◌then◌else◌}
 use Rattle.std.specs.Option.{option_map_or}
 use Rattle.std.specs.Cmp.{nat_cmp_total, unsigned_tied}
 use Rattle.std.specs.FinMap as finite_map
-use Rattle.std.proofs.lemmas.Bool.Decides.{nat_tests}
 use Rattle.std.proofs.lemmas.List.{take_all, take-append-le}
+use Rattle.std.proofs.lemmas.Bool.{le-leb}
 use mathlib.Core.List.{IsPrefix}
 use Rattle.pass_entry.specs.Limits.{transfer_limit}
 use Rattle.pass_entry.specs.declared.entry.Act.TheVariants as act
@@ -27,7 +27,7 @@ use Rattle.pass_plain.specs.Processes.{Process, Held, changed_at, is_file, is_pi
 use Rattle.pass_plain.specs.Replies.{reply_to}
 use Rattle.pass_plain.specs.Sessions.{Session}
 use Rattle.pass_plain.specs.Versions.{nodes_of}
-use Rattle.pass_plain.proofs.Lists.{both_true, same_itself}
+use Rattle.pass_plain.proofs.Lists.{both_true, same_itself, or_true}
 use Rattle.pass_book.proofs.Prefixes.{prefix_self, prefix_more}
 use Rattle.pass_hold.specs.Callings.{IsEntered, IsIdle, IsGoing, HasGone, HasLooked, IsCallMade}
 use Rattle.pass_hold.proofs.Callings.{call_made, held_going, idle_again, idle_looked, left_idle, more}
@@ -45,15 +45,8 @@ use Rattle.pass_calls.proofs.ObjectSteps.{place_is}
 use Rattle.pass_calls.proofs.Waiting.{waits, way_itself}
 use Rattle.pass_calls.proofs.Steps.{not_refused, step_at, next_allows, next_keeps, gone_by, gone_own}
 
-is_le : (a b : ℕ) → a ≤ b → nat_le a b ≡ true
-is_le a b le = grind (arith, nat_tests)
-
-or_true : (b : Bool) → b || true ≡ true
-or_true true = refl
-or_true false = refl
-
-write_within : (fd : ℕ) (bytes : List ℕ) → fd < 64 → length bytes ≤ transfer_limit → is_within (requests.Write fd bytes) ≡ true
-write_within fd bytes low few = both_true (is_fd fd) (nat_le (length bytes) transfer_limit) (low_fd fd low) (is_le (length bytes) transfer_limit few)
+pub write_within : (fd : ℕ) (bytes : List ℕ) → fd < 64 → length bytes ≤ transfer_limit → is_within (requests.Write fd bytes) ≡ true
+write_within fd bytes low few = both_true (is_fd fd) (nat_le (length bytes) transfer_limit) (low_fd fd low) (le-leb (length bytes) transfer_limit few)
 
 -- The first step
 

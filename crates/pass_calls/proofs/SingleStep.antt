@@ -1,5 +1,5 @@
 -- A call of one step, on the process itself or on another object, which the process does not refuse.
-use Rattle.std.proofs.Common.{◌≡◌, ℕ, ◌+◌, ◌-◌, ◌<◌, List, [], ◌∷◌, length, refl, ap, sym, ◌∙◌, Bool, true, false, ◌||◌, not}
+use Rattle.std.proofs.Common.{◌≡◌, ℕ, ◌+◌, ◌-◌, ◌<◌, List, [], ◌∷◌, length, refl, ap, sym, ◌∙◌, true, false, ◌||◌, not}
 use Rattle.std.specs.Prelude.{Option, Some, None, slice_get, if◌then◌else◌}
 use Rattle.std.specs.Option.{option_map_or}
 use Rattle.std.specs.FinMap as finite_map
@@ -9,6 +9,7 @@ use Rattle.pass_entry.specs.declared.entry.Ask.TheVariants as ask
 use Rattle.pass_entry.specs.declared.entry.Entry.{Entry}
 use Rattle.pass_entry.specs.declared.entry.Reply.{Reply}
 use Rattle.pass_entry.specs.declared.objects.Descriptor.{Descriptor}
+use Rattle.pass_entry.proofs.Lists.{or_true}
 use Rattle.pass_plain.specs.declared.request.Request.{Request}
 use Rattle.pass_plain.specs.declared.request.Request.TheVariants as requests
 use Rattle.pass_plain.specs.Calls.{Made, is_last_act, is_within, name_of, no_descriptor, refused_ask, steps_of}
@@ -37,10 +38,6 @@ pub record IsOnlyStep (who : ℕ) (p : Process) (r : Request) (what : ℕ) (a : 
   pub within : is_within r ≡ true
   pub begins : slice_get (steps_of who p [] r) 0 ≡ Some (what, a)
   pub ends : is_last_act p (name_of r) a ≡ true
-
-or_true : (b : Bool) → b || true ≡ true
-or_true true = refl
-or_true false = refl
 
 module _ (session : Session) (seen : List Entry) (who number : ℕ) (p : Process) (r : Request) (what : ℕ) (a : Act) (step : IsOnlyStep who p r what a)
     (idle : IsIdle session seen who (number - 1) p) (some : 0 < number) (reply : Reply) where

@@ -3,6 +3,7 @@ use Rattle.std.proofs.Common.{◌≡◌, ℕ, ◌+◌, ◌<◌, ◌==◌, List, 
 use Rattle.std.specs.Prelude.{Option, Some, None, Ok, Err, bytes_eq, slice_get, take, if◌then◌else◌}
 use Rattle.std.specs.Option.{option_map_or}
 use Rattle.std.proofs.lemmas.Slice.Eq.{bytes_eq-Decides}
+use Rattle.std.proofs.lemmas.Bool.{and_parts}
 use mathlib.Core.List.{IsPrefix}
 use Rattle.pass_entry.specs.declared.entry.Act.{Act}
 use Rattle.pass_entry.specs.declared.entry.CallFault.{CallFault}
@@ -26,7 +27,6 @@ use Rattle.pass_proc.specs.declared.way.Way.{Way}
 use Rattle.pass_calls.specs.Answers.{Answers, HasMoved, HasWaited, Stays, begins_at}
 use Rattle.pass_calls.specs.declared.answer.CallEnd.TheVariants as ends
 use Rattle.pass_calls.specs.declared.answer.Moved.{Moved}
-use Rattle.pass_calls.proofs.Naming.{both_held}
 use Rattle.pass_calls.proofs.Steps.{told_call}
 
 -- a call waits at its next step
@@ -63,10 +63,10 @@ way_itself w fd bytes same_fd same_bytes =
     both_true (w.fd == fd) (bytes_eq w.bytes bytes) (ap (λ n. w.fd == n) (sym same_fd) ∙ same_itself w.fd) ((bytes_eq-Decides w.bytes bytes).1 same_bytes)
 
 pub way_fd : (w : Way) (fd : ℕ) (bytes : List ℕ) → is_way (Some w) fd bytes ≡ true → w.fd ≡ fd
-way_fd w fd bytes is = same_numbers w.fd fd (both_held (w.fd == fd) (bytes_eq w.bytes bytes) is).0
+way_fd w fd bytes is = same_numbers w.fd fd (and_parts (w.fd == fd) (bytes_eq w.bytes bytes) is).0
 
 pub way_bytes : (w : Way) (fd : ℕ) (bytes : List ℕ) → is_way (Some w) fd bytes ≡ true → w.bytes ≡ bytes
-way_bytes w fd bytes is = (bytes_eq-Decides w.bytes bytes).0 (both_held (w.fd == fd) (bytes_eq w.bytes bytes) is).1
+way_bytes w fd bytes is = (bytes_eq-Decides w.bytes bytes).0 (and_parts (w.fd == fd) (bytes_eq w.bytes bytes) is).1
 
 -- where the call goes on
 pub goes_on_at : (old : ProcView) (w : Way) (fd : ℕ) (bytes : List ℕ) → old.way ≡ Some w → is_way old.way fd bytes ≡ true → begins_at old (requests.Write fd bytes) ≡ take w.out old.seen

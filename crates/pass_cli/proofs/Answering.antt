@@ -6,8 +6,6 @@ use Rattle.std.specs.declared.vec.Vec.{Vec}
 use Rattle.pass_entry.specs.declared.objects.Node.{Node}
 use Rattle.pass_entry.specs.declared.record.Record.{Record}
 use Rattle.pass_log.specs.declared.fault.LogFault.{LogFault}
-use Rattle.pass_log.specs.declared.image.LogImage.{LogImage}
-use Rattle.pass_log.specs.LogImage.{IsRead, held_in}
 use Rattle.pass_log.specs.Records.{Held, image_of}
 use Rattle.pass_outside.specs.Moments.{Moment, IsAtEnd}
 use Rattle.pass_plain.specs.WellLogged.{first_flaw, IsWellLogged}
@@ -17,8 +15,6 @@ use Rattle.pass_pattern.specs.declared.fault.PatternFault.{PatternFault}
 use Rattle.pass_query.specs.declared.fault.QueryFault.{QueryFault}
 use Rattle.pass_query.specs.declared.fault.QueryFault.TheVariants as query
 use Rattle.pass_query.specs.declared.question.Form.{Form}
-use Rattle.pass_range.specs.declared.range.Range.{Range}
-use Rattle.pass_range.specs.Tables.{AreUnmatched}
 use Rattle.pass_recover.specs.declared.fault.OpenFault.{OpenFault}
 use Rattle.pass_recover.specs.declared.fault.OpenFault.TheVariants.{DiskFault, BadFrame, BadRecord, Flaw, NoMemory}
 use Rattle.pass_recover.specs.Faults.{LogHas, IsCauseOf}
@@ -29,7 +25,6 @@ use Rattle.pass_run.specs.Statuses.{status_of_opening}
 use Rattle.pass_run.specs.Stores.{store_fault, image_fault}
 use Rattle.pass_cli.specs.Answers.{is_reported}
 use Rattle.pass_cli.specs.Asked.{IsAskJudged, IsAnswered, IsAnswerTo, IsGiven, IsGraphAnswer, IsLacking, IsLogOf, IsPatternStatus, IsPut, IsQuestionRead, IsNowhere, IsUnknown, HasGiven, HasPatternFault, asked_in}
-use Rattle.pass_cli.specs.Checks.{check_text}
 use Rattle.pass_cli.specs.Matches.{IsOfShape}
 use Rattle.pass_cli.proofs.Patterns.{same_fault}
 use Rattle.pass_cli.specs.declared.words.Question.{Question}
@@ -274,20 +269,6 @@ pub refused_writes : (s : Status) → IsQuestionRead (Err s) → s ≢ status.Wr
 refused_writes status.BadWords read is = absurd (cc)
 refused_writes status.NoMemory read is = absurd (cc)
 refused_writes _ read is = absurd read
-
--- a store that opened
-pub opened_judges : (old new : Moment) (image : LogImage) (unmatched : List Range) (judged : Status) (text : List ℕ) → IsRead old image → IsWellLogged image.list.items
-    → (IsTrue old.tells → AreUnmatched image.list.items old.seen.store unmatched) → new.faults ≡ old.faults → new.seen ≡ old.seen → judged ≢ status.NoMemory
-    → ((judged ≡ status.Done) × (text ≡ check_text image.list.items unmatched)) ⊎ (judged ≡ status.NoMemory) → Judges Check old new judged text
-opened_judges old new image unmatched judged text (bytes, told, read) sound tells still same known (inl (is, says)) = (
-  bytes,
-  told,
-  (
-    subst (λ (s : Status). IsAskJudged (Some Check) old new bytes s) (sym is) (done_judged Check (λ fault is. is) old new bytes still same (held_in image) read.holds sound (record { node = λ node unknown. unknown.2; place = λ place is. is })),
-    λ done. (held_in image, read.holds, (unmatched, tells, says)),
-  ),
-)
-opened_judges old new image unmatched judged text read sound tells still same known (inr starved) = absurd (known starved)
 
 -- what the graph of a log answers is the answer of the log
 answer_to : (q : Question) (old : Moment) (bytes text : List ℕ) (held : Held) → image_of bytes ≡ Ok held → IsGraphAnswer held.list q text → IsAnswerTo q old bytes text

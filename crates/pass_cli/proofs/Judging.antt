@@ -1,6 +1,7 @@
 -- What is judged, from what was read and run.
 use Rattle.std.proofs.Common.{◌≡◌, ℕ, List, [], ◌++◌, refl, ap, sym, ◌∙◌, subst, ◌⊎◌, inl, inr, Bool, true, false, append-nil, arith}
-use Rattle.std.specs.Prelude.{◌≢◌, Option, Some, None, Result, Ok, Err, IsTrue}
+use Rattle.std.specs.Prelude.{◌≢◌, Option, Some, None, Ok, Err, IsTrue}
+use Rattle.std.proofs.lemmas.Option.{none-some}
 use Rattle.pass_outside.specs.Faults.{HasRisen}
 use Rattle.pass_outside.specs.Moments.{Moment}
 use Rattle.pass_recover.specs.declared.fault.OpenFault.{OpenFault}
@@ -17,6 +18,7 @@ use Rattle.pass_run.specs.Stored.{session_fault, IsStoreJudged, IsEnd, IsOfDisk,
 use Rattle.pass_cli.specs.Answers.{OfBytes, IsTraced, IsRefusal, IsTraceRead, HasFailed, IsRunJudged, Outcome, IsNothing, IsRefused, IsUnwritten, HasRun, comes_before, ends_run}
 use Rattle.pass_run.proofs.Moved.{alone_untouched, leaves_untouched, refused_untouched}
 use Rattle.pass_trace.proofs.TooLong.{too_long_is_none, too_long_stays}
+use Rattle.pass_entry.proofs.Lists.{some_is}
 
 -- what was read of a source
 
@@ -46,18 +48,6 @@ fault_read true text left rest before after line why unfailed front whole first 
     (text ++ rest, λ t. sym (front t), (unfailed, fault_goes text rest line why (is_too_long text) refl (whole refl) first))
 
 -- small facts
-
-pub not_failed : {A E : Type 0} (v : A) (e : E) → ◌≡◌ {A = Result A E} (Ok v) (Err e) → ⊥
-not_failed v e same = cc
-
-pub same_error : {A E : Type 0} (a b : E) → ◌≡◌ {A = Result A E} (Err a) (Err b) → a ≡ b
-same_error a b same = cc
-
-none_is_none : {A : Type 0} (a : A) → ◌≡◌ {A = Option A} None (Some a) → ⊥
-none_is_none a same = cc
-
-same_fault_of : (a b : OpenFault) → ◌≡◌ {A = Option OpenFault} (Some a) (Some b) → a ≡ b
-same_fault_of a b same = cc
 
 store_is : (a b : OpenFault) → status.BadStore a ≡ status.BadStore b → a ≡ b
 store_is a b same = cc
@@ -164,8 +154,8 @@ module _ (bytes : List ℕ) (before after : ℕ) (old new : Moment) (traced : Is
     bad_trace = λ line why. (λ is. absurd (cc), λ is. absurd (no_fault line why is.1));
     disk_fault = λ opened now is. absurd (cc);
     unhidden = λ runs risen. absurd (omega (arith, still, risen));
-    bad_store = λ other. (λ is. (traced, λ opened now fails. absurd (cc), has ∙ ap Some (store_is fault other is)), λ is. ap status.BadStore (same_fault_of fault other (sym has ∙ is.2)));
-    ended = (λ is. absurd is, λ is. absurd (none_is_none fault (sym is.2 ∙ has)));
+    bad_store = λ other. (λ is. (traced, λ opened now fails. absurd (cc), has ∙ ap Some (store_is fault other is)), λ is. ap status.BadStore (some_is fault other (sym has ∙ is.2)));
+    ended = (λ is. absurd is, λ is. absurd (none-some fault (sym is.2 ∙ has)));
     no_other = refl;
   }
 
@@ -175,7 +165,7 @@ module _ (bytes : List ℕ) (before after : ℕ) (old new : Moment) (traced : Is
     bad_trace = λ line why. (λ is. absurd (cc), λ is. absurd (no_fault line why is.1));
     disk_fault = λ opened now is. absurd (cc);
     unhidden = λ runs risen. absurd (omega (arith, still, risen));
-    bad_store = λ other. (λ is. absurd (cc), λ is. absurd (none_is_none other (sym none ∙ is.2)));
+    bad_store = λ other. (λ is. absurd (cc), λ is. absurd (none-some other (sym none ∙ is.2)));
     ended = (λ is. (traced, λ opened now fails. absurd (cc), none), λ is. tt);
     no_other = refl;
   }
@@ -184,7 +174,7 @@ module _ (bytes : List ℕ) (before after : ℕ) (old new : Moment) (traced : Is
     bad_trace = λ line why. (λ is. absurd (cc), λ is. absurd (no_fault line why is.1));
     disk_fault = λ opened now is. absurd (cc);
     unhidden = λ runs risen. absurd (omega (arith, still, risen));
-    bad_store = λ other. (λ is. absurd (cc), λ is. absurd (none_is_none other (sym none ∙ is.2)));
+    bad_store = λ other. (λ is. absurd (cc), λ is. absurd (none-some other (sym none ∙ is.2)));
     ended = (λ is. (traced, λ opened now fails. absurd (cc), none), λ is. tt);
     no_other = refl;
   }

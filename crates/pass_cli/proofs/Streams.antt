@@ -8,6 +8,7 @@ use Rattle.pass_log.specs.declared.fault.LogFault.{LogFault}
 use Rattle.pass_log.specs.Log.{LeavesStore}
 use Rattle.pass_log.specs.Records.{Held, image_in, image_of}
 use Rattle.pass_log.proofs.Crash.{image_long}
+use Rattle.pass_log.proofs.Append.{leaves_more, leaves_none}
 use Rattle.pass_outside.specs.Areas.{Image}
 use Rattle.pass_outside.specs.Faults.{HasRisen, HasStayed}
 use Rattle.pass_outside.specs.Moments.{Moment, Adds, IsAtEnd, IsDeviceWork}
@@ -25,7 +26,7 @@ use Rattle.pass_standby.specs.Standing.{Standing, Spoils, Leaves, HasEnded, told
 use Rattle.pass_standby.specs.Streams.{Told, HasFrames, HasSomeFrames, followed}
 use Rattle.pass_standby.proofs.Coming.{followed-append}
 use Rattle.pass_standby.proofs.Feeding.{some_behind, spoils_behind}
-use Rattle.pass_standby.proofs.Keeping.{store_same, store_then, work_none, work_then}
+use Rattle.pass_standby.proofs.Keeping.{work_none, work_then}
 use Rattle.pass_standby.proofs.Unopened.{not_good}
 use Rattle.pass_cli.specs.Follows.{Comes, DoesTo, GoesOn, HasCome, HasFed, HasFollowed, HasSomeMore, IsFirstBad, IsFollowJudged, IsFollowedOn, IsOfDevice, IsToldOf, OfRead, OfStream, Refuses, place_line, status_of_standby, told_from, with_stream}
 use Rattle.pass_cli.specs.declared.following.Refusal.{Refusal}
@@ -39,7 +40,7 @@ module _ {D : Type 0} (view : D → Moment) (s : Standing D) where
   pub does_none : {F : Type 0} → (F → ⊥) → DoesTo view s [] s F
   does_none {F} never = record {
     moments = λ tells. adds_nothing (view s.disk) (λ c. HasSomeFrames (told_of s) [] c.log);
-    store = store_same (view s.disk);
+    store = leaves_none (view s.disk);
     work = work_none (view s.disk) never;
   }
 
@@ -119,7 +120,7 @@ module _ {D : Type 0} (view : D → Moment) (old mid new : Standing D) (front re
     moments = λ tells. adds_both (λ c. HasSomeFrames (told_of old) (front ++ rest) c.log) (view old.disk) (view mid.disk) (view new.disk)
         (did.moments tells) (then.moments (subst IsTrue (sym did.work.tells) tells)) (λ c x. some_front c.log x)
         (λ c x. some_behind (told_of old) front rest c.log (subst (λ (t : Told). HasSomeFrames t rest c.log) first.told x));
-    store = store_then (view old.disk) (view mid.disk) (view new.disk) did.work.tells did.store then.store;
+    store = leaves_more (view old.disk) (view mid.disk) (view new.disk) did.work.tells did.store then.store;
     work = work_then (view old.disk) (view mid.disk) (view new.disk) did.work (λ never. never) then.work;
   }
 
@@ -425,7 +426,7 @@ module _ {D : Type 0} (view : D → Moment) (tells : Bool) (left rest : List ℕ
       subst (λ (d : D). IsFollowedOn good.1.0 come.fed.0 (view disk) (view d)) (sym come.same) (record {
         moments = λ told. adds_both (λ c. (view disk).may_leave c ⊎ HasSomeMore good.1.0 come.fed.0 c.log) (view disk) (view first.disk) (view come.new.disk)
             (moments told) (come.fed.3.moments (first_tells told)) (λ c before_it. opened_some told c before_it) (λ c some. inr (fed_some c.log some));
-        store = store_then (view disk) (view first.disk) (view come.new.disk) work.tells store come.fed.3.store;
+        store = leaves_more (view disk) (view first.disk) (view come.new.disk) work.tells store come.fed.3.store;
       }),
     ),
   )
@@ -514,6 +515,6 @@ untouched_on_disk {D} view tells left disk after same = (
     (view disk).seen.log,
     λ told. refl,
     subst (λ (d : D). IsFollowedOn (view disk).seen.log [] (view disk) (view d)) (sym same)
-        (record { moments = λ told. adds_nothing (view disk) (λ c. (view disk).may_leave c ⊎ HasSomeMore (view disk).seen.log [] c.log); store = store_same (view disk) }),
+        (record { moments = λ told. adds_nothing (view disk) (λ c. (view disk).may_leave c ⊎ HasSomeMore (view disk).seen.log [] c.log); store = leaves_none (view disk) }),
   ),
 )

@@ -7,6 +7,7 @@ use Rattle.std.proofs.lemmas.Option.{slice_get_within}
 use Rattle.pass_entry.specs.declared.entry.Entry.{Entry}
 use Rattle.pass_entry.specs.declared.entry.CallName.{CallName}
 use Rattle.pass_entry.specs.declared.entry.CallName.TheVariants as call_name
+use Rattle.pass_entry.proofs.Lists.{different}
 use Rattle.pass_plain.specs.declared.request.Request.{Request}
 use Rattle.pass_plain.specs.Histories.{call_entries, is_fault}
 use Rattle.pass_plain.specs.Sessions.{Session}
@@ -20,7 +21,6 @@ use Rattle.pass_plain.proofs.Ending.{step_end_law}
 use Rattle.pass_report.specs.Reports.{is_answered}
 use Rattle.pass_replay.specs.Ends.{NoneOpen}
 use Rattle.pass_replay.proofs.NextCalls.{named_call}
-use Rattle.pass_replay.proofs.Positions.{unequal}
 use Rattle.pass_trace.specs.TraceLines.{plain_line}
 use Rattle.pass_gen.specs.Generated.{generated}
 use Rattle.pass_gen.proofs.Numbers.{length-generated}
@@ -90,7 +90,7 @@ module _ (session : Session) (number lines : ℕ) (history : List Entry) (run : 
       let named : m.1.call ≡ name_of request = entry_named j m at ∙ sym (named_call _ state.last_read call) in
       let room = few in
       ap (λ b. b || is_last_act state m.1.call m.1.act) fine ∙ ap (λ c. is_last_act state c m.1.act) named
-      ∙ step_end_law who state made request j (step_of m) step ∙ unequal (suc j) (length steps) (λ same. omega (arith, same, short, room))
+      ∙ step_end_law who state made request j (step_of m) step ∙ different (suc j) (length steps) (λ same. omega (arith, same, short, room))
 
   -- so the call counts what its last entry counts
   pub call_counts : (v : Entry → ℕ) (m : ℕ × Entry) → slice_get made (length made - 1) ≡ Some m → is_last state m.1 ≡ true

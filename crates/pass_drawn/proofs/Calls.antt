@@ -1,13 +1,12 @@
 -- The entries of a run of a drawn trace: to which calls they belong, and that they open files alone.
-use Rattle.std.proofs.Common.{◌≡◌, ◌≤◌, ◌+◌, ◌-◌, ℕ, zero, suc, List, [], ◌∷◌, length, take, refl, ap, sym, ◌∙◌, subst, arith, ◌⊎◌, inl, inr, Bool, true, false, not, ◌||◌, ◌&&◌, ◌==◌, cond}
+use Rattle.std.proofs.Common.{◌≡◌, ◌≤◌, ◌+◌, ◌-◌, ℕ, zero, suc, List, [], ◌∷◌, length, take, refl, ap, sym, ◌∙◌, subst, arith, ◌⊎◌, inl, inr, Bool, true, false, not, ◌&&◌, ◌==◌, cond}
 use Rattle.std.specs.Prelude.{Option, Some, None, option_map, slice_get}
 use Rattle.std.specs.Option.{option_map_or}
 use Rattle.std.specs.List.{position_or_len}
 use Rattle.std.specs.FinMap as finite_map
 use Rattle.std.specs.Ordering.{nat_cmp}
 use Rattle.std.proofs.lemmas.Bool.{cases_lt}
-use Rattle.std.proofs.lemmas.Bool.Decides.{nat_tests}
-use Rattle.std.proofs.lemmas.List.{length-take}
+use Rattle.std.proofs.lemmas.List.{length-take, take-take}
 use Rattle.std.proofs.lemmas.List.Sums.{prefix_len-le-length}
 use Rattle.std.proofs.lemmas.Option.{slice_get-map}
 use Rattle.pass_entry.specs.declared.entry.Entry.{Entry}
@@ -16,37 +15,28 @@ use Rattle.pass_entry.specs.declared.entry.Act.TheVariants as act
 use Rattle.pass_entry.specs.declared.entry.Ask.{Ask}
 use Rattle.pass_entry.specs.declared.objects.Descriptor.{Descriptor}
 use Rattle.pass_entry.specs.declared.objects.Kind.TheVariants as kind
+use Rattle.pass_entry.proofs.Places.{slice_get-take, take_one_more}
 use Rattle.pass_plain.specs.declared.request.Request.{Request}
 use Rattle.pass_plain.specs.Histories.{call_entries, is_fault, is_of_call, bytes_at}
 use Rattle.pass_plain.specs.Sessions.{Session}
 use Rattle.pass_plain.specs.Registries.{same_kind}
 use Rattle.pass_plain.specs.Processes.{Process, Held, new_process, process_act, process_after, changed_at, risen, has_begun, is_file}
 use Rattle.pass_plain.specs.Calls.{Step, Made, act_on, call_steps, steps_of, refused_ask, descriptor_at}
-use Rattle.pass_plain.specs.Legal.{IsLegal, MayFollow, is_start, before_call, goes_on, step_of}
+use Rattle.pass_plain.specs.Legal.{IsLegal, MayFollow, is_start, before_call, step_of}
 use Rattle.pass_plain.specs.Traces.{Line, LineCall, name_of_call, calls_of}
 use Rattle.pass_plain.specs.Runs.{IsRun, pnode_of_process, steps_at}
-use Rattle.pass_plain.proofs.Lists.{some_is, same_numbers, true_left, not_true, is_place}
+use Rattle.pass_plain.proofs.Lists.{some_is, is_place}
 use Rattle.pass_plain.proofs.Beginning.{in_call, start_mints}
 use Rattle.pass_plain.proofs.Calling.{acts-cases, legal_take, numbered, row, steps_by}
 use Rattle.pass_plain.proofs.Holding.{inserted}
 use Rattle.pass_plain.proofs.Playing.{who_begun, zero_not}
-use Rattle.pass_plain.proofs.Replays.{slice_get-take, take-take_le}
 use Rattle.pass_plain.proofs.Rows.{Row, Holds}
 use Rattle.pass_plain.proofs.TwoPrefixes.{process-append}
+use Rattle.pass_plain.proofs.OtherCalls.{goes_some, start_named}
 use Rattle.pass_replay.specs.Lines.{AreLinesBehind}
-use Rattle.pass_replay.proofs.Parts.{take_next}
 use Rattle.pass_drawn.specs.Runs.{drawn_trace}
 use Rattle.pass_drawn.proofs.Acts.{IsTame, steps_tame}
-use Rattle.pass_drawn.proofs.Firsts.{start_named}
 use Rattle.pass_drawn.proofs.Tracing.{call_drawn, ruled}
-
-goes_if : (number last : ℕ) (over left b : Bool) → (number == last) ≡ b → cond b (not (last == 0) && not over) (number == last + 1 && (last == 0 || over || left)) ≡ true → 1 ≤ number
-goes_if number last over left true t h =
-    let some : (last == 0) ≡ false = not_true (last == 0) (true_left (not (last == 0)) (not over) h) in grind (arith, nat_tests)
-goes_if number last over left false t h = let same = same_numbers number (last + 1) (true_left _ _ h) in omega (arith, same)
-
-goes_some : (number last : ℕ) (over left : Bool) → goes_on number last over left ≡ true → 1 ≤ number
-goes_some number last over left h = goes_if number last over left (number == last) refl h
 
 -- a call's first step is its refusal or its own
 pub first_step : (who : ℕ) (p : Process) (made : Made) (r : Request) (s : Step) → slice_get (call_steps who p made r) 0 ≡ Some s
@@ -167,7 +157,7 @@ module _ (session : Session) (number lines : ℕ) (history : List Entry) (run : 
 
   one_more : (n : ℕ) (e : Entry) → slice_get history n ≡ Some e → AreFilesUpTo n → (who : ℕ) → AreFiles (process_after (take (suc n) history) who).descriptors
   one_more n e at all who =
-      subst (λ (p : Process). AreFiles p.descriptors) (sym (ap (λ h. process_after h who) (take_next history n e at) ∙ process-append past e who))
+      subst (λ (p : Process). AreFiles p.descriptors) (sym (ap (λ h. process_after h who) (take_one_more history n e at) ∙ process-append past e who))
       (either_state (e.what == who && not (is_fault e.reply)) p (process_act past p e.act) own (files_kept past p e.act (tame n e at) own (λ out descriptors born.
       let r = subst (λ a. Row e.who (before_call past e.who e.number) (call_entries past e.who e.number) (steps_by session past e legal follows) (length (call_entries past e.who e.number)) e.what a) born
       (row session past e legal follows) in
@@ -193,7 +183,7 @@ module _ (session : Session) (number lines : ℕ) (history : List Entry) (run : 
           let place = position_or_len (is_of_call w k) past in
           let within = prefix_len-le-length (λ e. not (is_of_call w k e)) past in
           let size = length-take n history in
-          subst (λ h. AreFiles (process_after h w).descriptors) (sym (take-take_le place n history (omega (arith, within, size)))) (all place w (omega (arith, within, size)))
+          subst (λ h. AreFiles (process_after h w).descriptors) (sym (take-take place n history (omega (arith, within, size)))) (all place w (omega (arith, within, size)))
 
   files_up_to : (n : ℕ) → n ≤ length history → AreFilesUpTo n
   files_up_to zero short m who le = subst (λ m. AreFiles (process_after (take m history) who).descriptors) (let z : 0 ≡ m = omega (arith, le) in z) (λ fd d held. absurd (none_held fd d held))

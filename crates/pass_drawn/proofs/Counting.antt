@@ -11,6 +11,7 @@ use Rattle.pass_entry.specs.declared.entry.Act.TheVariants as act
 use Rattle.pass_entry.specs.declared.entry.Reply.{Reply}
 use Rattle.pass_entry.specs.declared.entry.Reply.TheVariants as answer
 use Rattle.pass_entry.specs.declared.objects.Kind.TheVariants as kind
+use Rattle.pass_entry.proofs.Places.{Contains-at}
 use Rattle.pass_plain.specs.declared.request.Request.TheVariants as requests
 use Rattle.pass_plain.specs.Histories.{call_entries, is_of_call, made_object, pnode_of}
 use Rattle.pass_plain.specs.Sessions.{Session}
@@ -19,7 +20,7 @@ use Rattle.pass_plain.specs.Calls.{Step, Made, act_on, is_last, pnode_at}
 use Rattle.pass_plain.specs.Legal.{IsLegal, is_start, before_call, is_over, step_of}
 use Rattle.pass_plain.specs.Traces.{Line, LineCall, given, fork_as, lines_of, calls_of}
 use Rattle.pass_plain.specs.Runs.{Begun, IsRun, IsOfTrace, first, forked_by, begun_after, pnode_in, pnode_of_process}
-use Rattle.pass_plain.proofs.Lists.{some_is, same_numbers, filtered}
+use Rattle.pass_plain.proofs.Lists.{some_is, same_numbers, filtered, alike, different}
 use Rattle.pass_plain.proofs.Appends.{slice_get-append}
 use Rattle.pass_plain.proofs.Calling.{acts-cases, legal_take, of_call}
 use Rattle.pass_plain.proofs.Making.{made_once}
@@ -27,8 +28,7 @@ use Rattle.pass_plain.proofs.Playing.{who_begun, zero_not}
 use Rattle.pass_replay.specs.Ends.{NoneOpen}
 use Rattle.pass_replay.proofs.Begun.{begun_or_forked, first_has_begun, child_has_begun}
 use Rattle.pass_replay.proofs.NextCalls.{over_within, calls_length}
-use Rattle.pass_replay.proofs.Parts.{contains_at}
-use Rattle.pass_replay.proofs.Positions.{equal, unequal, lines-append}
+use Rattle.pass_replay.proofs.Positions.{lines-append}
 use Rattle.pass_trace.specs.declared.trace.Command.TheVariants as command
 use Rattle.pass_trace.specs.TraceLines.{plain_line, plain_trace}
 use Rattle.pass_gen.specs.Generated.{line, first_lines, drawn_lines, last_lines}
@@ -109,7 +109,7 @@ module _ (session : Session) (number lines : ℕ) (history : List Entry) (run : 
         let child = process - 2 in
         let here : 2 + child ≡ process = omega (arith, more) in
         let (own, k, at) = filtered (λ (l : Line). l.process == 1) trace (suc child) _ (fork_line number lines child (omega (arith, here, most))) in
-        subst (λ p. IsOfTrace trace p) here (forked_by _ (2 + child) (contains_at trace k _ at) refl)
+        subst (λ p. IsOfTrace trace p) here (forked_by _ (2 + child) (Contains-at trace k _ at) refl)
   ]
 
   pub range_of : (process who : ℕ) → pnode process ≡ Some who → (1 ≤ process) × (process ≤ 8)
@@ -196,7 +196,7 @@ module _ (session : Session) (number lines : ℕ) (history : List Entry) (run : 
           let step = call_step session number lines history run 1 first_who k (fork_as (2 + child)) is_first at_call 0 m at in
           let mints : act_on 0 (act.Mint kind.Process) ≡ step_of m = some_is (act_on 0 (act.Mint kind.Process)) (step_of m) step in
           let reply : m.1.reply ≡ answer.Made who = made_of m.1.reply who (sym (ap (λ o. option_map_or (λ (s : ℕ × Entry). pnode_of s.1.reply) o 0) at) ∙ is) apart in
-          let other : ◌≡◌ {A = ℕ} (cond (2 + child == 1) 1 0) 0 = ap (λ b. cond b 1 0) (unequal (2 + child) 1 (λ same. omega (arith, same))) in
+          let other : ◌≡◌ {A = ℕ} (cond (2 + child == 1) 1 0) 0 = ap (λ b. cond b 1 0) (different (2 + child) 1 (λ same. omega (arith, same))) in
           record {
             place = m.0;
             entry = m.1;
@@ -275,15 +275,15 @@ module _ (session : Session) (number lines : ℕ) (history : List Entry) (run : 
         let within = slice_get_within (calls_of trace c.process) c.done c.call c.stands in
         let counted = c.counted in
         sum_by-same (part e c.process) (λ j. cond (e.number == j) (g e) 0) (range_with_len 1 (count c.process))
-        (λ k j at. ap (λ b. cond (b && e.number == j) (g e) 0) (equal e.who (who_of c.process) is))
+        (λ k j at. ap (λ b. cond (b && e.number == j) (g e) 0) (alike e.who (who_of c.process) is))
         ∙ sum_by-hit (count c.process) e.number (g e) 1 (omega (arith, counted)) (omega (arith, counted, within))
 
     other_row : (e : Entry) (c : IsCalled session number lines history run e) (process : ℕ) → 1 ≤ process → process ≤ 8 → (c.process == process) ≡ false → row e process ≡ 0
     other_row e c process least most other =
         let apart : e.who ≢ who_of process = λ is.
         let same = single c.process process e.who c.begun (who_is process least most ∙ ap (λ w. Some w) (sym is)) in
-        let z : true ≡ false = sym (equal c.process process same) ∙ other in cc in
-        sum_by-none (part e process) (range_with_len 1 (count process)) (λ j. ap (λ b. cond (b && e.number == j) (g e) 0) (unequal e.who (who_of process) apart))
+        let z : true ≡ false = sym (alike c.process process same) ∙ other in cc in
+        sum_by-none (part e process) (range_with_len 1 (count process)) (λ j. ap (λ b. cond (b && e.number == j) (g e) 0) (different e.who (who_of process) apart))
 
     row_is : (e : Entry) (c : IsCalled session number lines history run e) (process : ℕ) → 1 ≤ process → process ≤ 8 → row e process ≡ cond (c.process == process) (g e) 0
     row_is e c process least most = at_test (c.process == process) refl

@@ -31,11 +31,10 @@ use Rattle.pass_plain.specs.Calls.{Step, Made, act_on, call_steps, is_last, is_l
 use Rattle.pass_plain.specs.Legal.{is_start, before_call, last_number, step_of}
 use Rattle.pass_plain.specs.Traces.{Line, LineCall, given}
 use Rattle.pass_plain.specs.Runs.{IsRun, steps_at}
-use Rattle.pass_plain.proofs.Lists.{some_is, same_numbers, any_at}
+use Rattle.pass_plain.proofs.Lists.{some_is, same_numbers, any_at, alike}
 use Rattle.pass_plain.proofs.Calling.{acts-cases, next_number, of_call}
 use Rattle.pass_plain.proofs.TwoPrefixes.{first_hit, first_miss}
 use Rattle.pass_replay.specs.Ends.{NoneOpen}
-use Rattle.pass_replay.proofs.Positions.{equal}
 use Rattle.pass_drawn.specs.Runs.{drawn_trace}
 use Rattle.pass_drawn.proofs.Acts.{IsShared}
 use Rattle.pass_drawn.proofs.Answered.{last_entry, entry_named}
@@ -177,7 +176,7 @@ module _ (session : Session) (number lines : ℕ) (history : List Entry) (run : 
       none false = refl
 
   own_call : is_of_call who 1 entry ≡ true
-  own_call = ap (λ b. b && entry.number == 1) (equal entry.who who second.by) ∙ equal entry.number 1 second.numbered
+  own_call = ap (λ b. b && entry.number == 1) (alike entry.who who second.by) ∙ alike entry.number 1 second.numbered
 
   first_of_call : slice_get made 0 ≡ Some (1, entry)
   first_of_call =

@@ -1,33 +1,23 @@
 -- The first entry of a session, by which its first process begins.
-use Rattle.std.proofs.Common.{◌≡◌, ◌<◌, ◌≤◌, ◌+◌, List, [], length, refl, ap, sym, ◌∙◌, arith, inl, inr, true, false, ◌||◌, ◌&&◌, cond}
-use Rattle.std.specs.Prelude.{Some, slice_get, nat_le}
-use Rattle.std.proofs.lemmas.Bool.Decides.{nat_tests}
+use Rattle.std.proofs.Common.{◌≡◌, ◌<◌, ◌≤◌, ◌+◌, List, [], length, refl, ap, sym, ◌∙◌, arith, inl, inr, true, false}
+use Rattle.std.specs.Prelude.{Some, slice_get}
 use Rattle.pass_entry.specs.declared.entry.Entry.{Entry}
 use Rattle.pass_entry.specs.declared.entry.Act.TheVariants as act
 use Rattle.pass_entry.specs.declared.entry.CallFault.TheVariants as fault
-use Rattle.pass_entry.specs.declared.entry.CallName.{CallName}
 use Rattle.pass_entry.specs.declared.entry.CallName.TheVariants as call_name
 use Rattle.pass_entry.specs.declared.entry.Reply.TheVariants as answer
 use Rattle.pass_entry.specs.declared.objects.Kind.TheVariants as kind
 use Rattle.pass_plain.specs.Histories.{made_object}
 use Rattle.pass_plain.specs.Sessions.{Session}
-use Rattle.pass_plain.specs.Registries.{Registry, registry_after, next_pnode, count_of_kind}
-use Rattle.pass_plain.specs.Replies.{reply_to, minted}
+use Rattle.pass_plain.specs.Registries.{registry_after}
+use Rattle.pass_plain.specs.Replies.{reply_to}
 use Rattle.pass_plain.specs.Processes.{begins, has_begun}
-use Rattle.pass_plain.specs.Legal.{IsLegal, MayFollow, is_start}
-use Rattle.pass_plain.proofs.Lists.{some_is, is_place, any_of}
+use Rattle.pass_plain.specs.Legal.{IsLegal, MayFollow}
+use Rattle.pass_plain.proofs.Lists.{some_is, is_place, any_of, alike}
 use Rattle.pass_plain.proofs.Beginning.{start_mints}
 use Rattle.pass_plain.proofs.Calling.{acts-cases}
-use Rattle.pass_replay.proofs.Positions.{equal}
-
-first_minted : (session : Session) (r : Registry) → r.made < session.objects → minted session r kind.Process ≡ answer.Made (next_pnode session r)
-first_minted session r less =
-    ap (λ b. cond (b || (false && nat_le 1024 (count_of_kind kind.Process r))) (answer.Fault fault.TooMany) (answer.Made (next_pnode session r)))
-    (let z : nat_le session.objects r.made ≡ false = grind (arith, nat_tests) in z)
-
-pub start_named : (c : CallName) → is_start c ≡ true → c ≡ call_name.Start
-start_named call_name.Start is = refl
-start_named _ is = absurd (cc)
+use Rattle.pass_plain.proofs.OtherCalls.{start_named}
+use Rattle.pass_replay.proofs.Births.{mints as first_minted}
 
 -- it makes the first process
 pub record IsFirstEntry (session : Session) (history : List Entry) : Type 0 where
@@ -68,4 +58,4 @@ first_begins session history some_object legal some =
     any_of (λ e. begins (session.start.ceiling + 1) e.call e.act e.what e.reply) history 0 f.entry f.stands
     (ap (λ c. begins (session.start.ceiling + 1) c f.entry.act f.entry.what f.entry.reply) f.start
     ∙ ap (λ y. begins (session.start.ceiling + 1) call_name.Start f.entry.act f.entry.what y) f.reply
-    ∙ equal (session.start.ceiling + 1) (session.start.ceiling + 1) refl)
+    ∙ alike (session.start.ceiling + 1) (session.start.ceiling + 1) refl)

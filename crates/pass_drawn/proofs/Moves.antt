@@ -1,10 +1,10 @@
 -- A run of a drawn trace never gets stuck.
-use Rattle.std.proofs.Common.{◌≡◌, ◌<◌, ◌≤◌, ◌+◌, ◌-◌, ℕ, suc, List, [], ◌∷◌, ◌++◌, length, take, map, refl, ap, sym, ◌∙◌, subst, arith, ◌⊎◌, inl, inr, Bool, true, false, not, ◌||◌, ◌&&◌, ◌==◌, cond}
+use Rattle.std.proofs.Common.{◌≡◌, ◌<◌, ◌≤◌, ◌+◌, ◌-◌, ℕ, List, [], ◌∷◌, ◌++◌, length, take, map, refl, ap, sym, ◌∙◌, subst, arith, ◌⊎◌, inl, inr, Bool, true, false, not, ◌||◌, ◌&&◌, ◌==◌, cond}
 use Rattle.std.specs.Prelude.{Option, Some, None, option_map, slice_get, if◌then◌else◌}
 use Rattle.std.specs.Option.{option_map_or}
 use Rattle.std.proofs.lemmas.Bool.{cases_lt}
 use Rattle.std.proofs.lemmas.Bool.Decides.{nat_tests}
-use Rattle.std.proofs.lemmas.List.{length-map, length-take}
+use Rattle.std.proofs.lemmas.List.{length-map}
 use Rattle.std.proofs.lemmas.Option.{slice_get_within, slice_get-map}
 use Rattle.pass_entry.specs.declared.entry.Entry.{Entry}
 use Rattle.pass_entry.specs.declared.entry.Act.{Act}
@@ -13,32 +13,28 @@ use Rattle.pass_entry.specs.declared.entry.CallName.TheVariants as call_name
 use Rattle.pass_entry.specs.declared.entry.Reply.{Reply}
 use Rattle.pass_entry.specs.declared.entry.Reply.TheVariants as answer
 use Rattle.pass_entry.specs.declared.objects.Kind.TheVariants as kind
-use Rattle.pass_plain.specs.declared.request.Request.{Request}
+use Rattle.pass_entry.proofs.Places.{slice_get-take, Contains-place, slice_get-last}
 use Rattle.pass_plain.specs.declared.request.Request.TheVariants as requests
 use Rattle.pass_plain.specs.Histories.{call_entries, is_fault}
 use Rattle.pass_plain.specs.Sessions.{Session}
 use Rattle.pass_plain.specs.Replies.{reply_to}
 use Rattle.pass_plain.specs.Processes.{Process, process_act, process_after, has_ended, is_file}
-use Rattle.pass_plain.specs.Calls.{Step, Made, act_on, call_steps, steps_of, descriptor_at, is_last, is_last_act, name_of}
-use Rattle.pass_plain.specs.Legal.{IsLegal, before_call, last_number, is_over, step_of, ends_call}
-use Rattle.pass_plain.specs.CallLaws.{IsBegun}
-use Rattle.pass_plain.specs.NextSteps.{AreOfCall}
+use Rattle.pass_plain.specs.Calls.{Step, Made, act_on, call_steps, steps_of, descriptor_at, is_last, is_last_act}
+use Rattle.pass_plain.specs.Legal.{IsLegal, before_call, last_number, is_over, step_of}
 use Rattle.pass_plain.specs.Traces.{Line, LineCall, given, write_last, fork_as, wait_for, lines_of, calls_of, request_of}
 use Rattle.pass_plain.specs.Runs.{IsRun, first, forked_by, is_open, next_number, pnode_of_process, request_at, steps_at}
-use Rattle.pass_plain.proofs.Lists.{some_is, is_place, in_filtered}
-use Rattle.pass_plain.proofs.Appends.{place_of, slice_get-append, slice_get-last}
+use Rattle.pass_plain.proofs.Lists.{some_is, is_place, in_filtered, alike}
+use Rattle.pass_plain.proofs.Appends.{place_of, slice_get-append}
 use Rattle.pass_plain.proofs.Calling.{legal_induction, of_call}
-use Rattle.pass_plain.proofs.Ending.{step_end_law}
-use Rattle.pass_plain.proofs.Replays.{slice_get-take}
 use Rattle.pass_plain.proofs.Rows.{Row, Holds, row_of_step}
 use Rattle.pass_plain.proofs.TwoPrefixes.{process-append}
+use Rattle.pass_plain.proofs.OtherCalls.{ended_act}
 use Rattle.pass_replay.specs.Ends.{NoneCanMove, IsStuck}
 use Rattle.pass_replay.proofs.Begun.{first_has_begun, child_has_begun}
 use Rattle.pass_replay.proofs.Entries.{here_ends}
-use Rattle.pass_replay.proofs.NextCalls.{numbered_as, none_above, unmade_not_over, over_within, call_cases, calls_length, line_behind, any_call, named_call, within_call, last_read_short}
-use Rattle.pass_replay.proofs.Parts.{at_contains}
-use Rattle.pass_replay.proofs.Positions.{equal, lines-append}
-use Rattle.pass_replay.proofs.StepKinds.{exit_step, some_step}
+use Rattle.pass_replay.proofs.NextCalls.{numbered_as, none_above, unmade_not_over, over_within, call_cases, calls_length, line_behind, any_call, named_call, within_call, last_read_short, all_made_over}
+use Rattle.pass_replay.proofs.Positions.{lines-append}
+use Rattle.pass_replay.proofs.StepKinds.{exit_step}
 use Rattle.pass_drawn.specs.Lawful.{NeverStuckLaw}
 use Rattle.pass_drawn.specs.Runs.{drawn_trace}
 use Rattle.pass_drawn.proofs.Tracing.{IsFirsts, IsChilds, line_drawn, call_drawn}
@@ -56,25 +52,6 @@ next_if last count false false t less most some = (let z : 1 ≤ last = grind (a
 next_within : (last count : ℕ) (over : Bool) → (over ≡ true → last < count) → last ≤ count → 1 ≤ count
     → (1 ≤ cond (last == 0) 1 (cond over (last + 1) last)) × (cond (last == 0) 1 (cond over (last + 1) last) ≤ count)
 next_within last count over less most some = next_if last count (last == 0) over refl less most some
-
-or_right : (a b : Bool) → b ≡ true → a || b ≡ true
-or_right true b h = refl
-or_right false b h = h
-
--- where a call has made all its steps it is over
-all_made : (who : ℕ) (p : Process) (made : Made) (r : Request) → AreOfCall made (name_of r) → IsBegun who p made r → length (call_steps who p made r) ≤ length made → ends_call p made ≡ true
-all_made who p made r called begun all =
-    let steps = call_steps who p made r in
-    let size : length made ≡ length (take (length made) steps) = sym (length-map made step_of) ∙ ap length begun in
-    let some = some_step who p made r in
-    let whole : length made ≡ length steps = omega (arith, size, all, length-take (length made) steps) in
-    let (m, at) = is_place made (length made - 1) (omega (arith, some, whole)) in
-    let step : slice_get steps (length made - 1) ≡ Some (step_of m) =
-    slice_get-take (length made) (length made - 1) steps (step_of m)
-    (ap (λ (xs : List Step). slice_get xs (length made - 1)) (sym begun) ∙ slice_get-map step_of made (length made - 1) ∙ ap (λ o. option_map step_of o) at) in
-    let end_is : is_last_act p m.1.call m.1.act ≡ true =
-    ap (λ name. is_last_act p name m.1.act) (called (length made - 1) m at) ∙ step_end_law who p made r (length made - 1) (step_of m) step ∙ equal (suc (length made - 1)) (length steps) (omega (arith, some, whole)) in
-    ap (λ o. option_map_or (λ (s : ℕ × Entry). is_last p s.1) o false) at ∙ or_right (is_fault m.1.reply) (is_last_act p m.1.call m.1.act) end_is
 
 -- what isn't ready: a read from a pipe, a write to one, and a wait for a process that lives
 abbrev Waits : List Entry → Process → ℕ → ℕ → Act → Type 0
@@ -129,10 +106,6 @@ exit_no_reap who p made k s step reaps = elim (exit_step who p made k s step) [
 ]
 
 -- who has finished has ended
-
-ended_act : (past : List Entry) (p : Process) (a : Act) → p.ended ≡ true → (process_act past p a).ended ≡ true
-ended_act past p act.Finish was = refl
-ended_act past p _ was = was
 
 ended_if : (b : Bool) (p q : Process) → p.ended ≡ true → q.ended ≡ true → (cond b q p).ended ≡ true
 ended_if true p q was now_too = now_too
@@ -205,7 +178,7 @@ module _ (session : Session) (number lines : ℕ) (history : List Entry) (run : 
       let left : length made < length (call_steps who p made request) = elim (cases_lt (length made) (length (call_steps who p made request))) [
         | inl l ↦ l
         | inr all ↦ absurd (
-            let over = all_made who p made request (λ j s there. run.named process who done call begun stands j s there ∙ sym (named_call _ p.last_read call)) (run.lines process who done call begun stands) all in
+            let over = all_made_over who p made request (λ j s there. run.named process who done call begun stands j s there ∙ sym (named_call _ p.last_read call)) (run.lines process who done call begun stands) all in
             let z : true ≡ false = sym over ∙ unmade in cc)
       ] in
       let (step, at) = is_place (call_steps who p made request) (length made) left in
@@ -385,12 +358,12 @@ module _ (session : Session) (number lines : ℕ) (history : List Entry) (run : 
       (elim stuck.of_trace as (λ process t. is_open session trace history process ≡ true → ⊥) [
         | first ↦ λ opens. closed 1 first_who is_first over opens
         | forked_by l child is forks ↦ λ opens.
-            let (k, at) = at_contains trace l is in
+            let (k, at) = Contains-place trace l is in
             elim (line_drawn number lines k l at) [
               | inr other ↦ subst IsChilds forks other.2
               | inl one ↦
                   let range : (2 ≤ child) × (child ≤ 8) = subst IsFirsts forks one.1 in
-                  let (j, own) = in_filtered (λ (l : Line). l.process == 1) trace k l at (equal l.process 1 one.0) in
+                  let (j, own) = in_filtered (λ (l : Line). l.process == 1) trace k l at (alike l.process 1 one.0) in
                   let least = over_within session history first_who (length (calls_of trace 1)) run.legal over in
                   let within = slice_get_within (lines_of trace 1) j l own in
                   let size = calls_length trace 1 in

@@ -1,13 +1,14 @@
 -- On a fresh store each write of a drawn trace goes through: its process has sought before, near the file's begin.
-use Rattle.std.proofs.Common.{◌≡◌, ◌<◌, ◌≤◌, ◌+◌, ◌-◌, ℕ, zero, suc, List, [], ◌∷◌, ◌++◌, length, take, refl, ap, sym, ◌∙◌, subst, arith, inl, inr, Bool, true, false, not, ◌||◌, ◌&&◌, ◌==◌, cond}
+use Rattle.std.proofs.Common.{◌≡◌, ◌<◌, ◌≤◌, ◌+◌, ◌-◌, ℕ, zero, suc, List, [], ◌∷◌, ◌++◌, length, take, refl, ap, sym, ◌∙◌, subst, arith, inl, inr, true, false, not, ◌||◌, ◌&&◌, ◌==◌, cond}
 use Rattle.std.specs.Prelude.{Option, Some, None, slice_get, drop, nat_lt, if◌then◌else◌}
 use Rattle.std.specs.Option.{option_map_or}
 use Rattle.std.specs.List.{list_any}
 use Rattle.std.specs.FinMap as finite_map
 use Rattle.std.specs.Cmp.{nat_cmp_total, unsigned_tied}
 use Rattle.std.proofs.lemmas.Bool.Decides.{nat_tests}
-use Rattle.std.proofs.lemmas.List.{take-append-drop, length-take}
+use Rattle.std.proofs.lemmas.List.{take-append-drop, length-take, take-take}
 use Rattle.std.proofs.lemmas.Option.{slice_get_within}
+use Rattle.std.proofs.lemmas.Bool.{false_from_ne_true}
 use Rattle.pass_entry.specs.declared.entry.Entry.{Entry}
 use Rattle.pass_entry.specs.declared.entry.Act.TheVariants as act
 use Rattle.pass_entry.specs.declared.entry.Ask.{Ask}
@@ -21,6 +22,7 @@ use Rattle.pass_entry.specs.declared.objects.Kind.{Kind}
 use Rattle.pass_entry.specs.declared.objects.Kind.TheVariants as kind
 use Rattle.pass_entry.specs.declared.objects.Mode.{Mode}
 use Rattle.pass_entry.specs.declared.objects.Mode.TheVariants as mode
+use Rattle.pass_entry.proofs.Places.{slice_get-take, take_one_more, slice_get-right}
 use Rattle.pass_plain.specs.declared.request.Request.TheVariants as requests
 use Rattle.pass_plain.specs.Histories.{call_entries, is_fault}
 use Rattle.pass_plain.specs.Sessions.{Session}
@@ -31,14 +33,11 @@ use Rattle.pass_plain.specs.Calls.{Step, act_on, call_steps, refused_ask, descri
 use Rattle.pass_plain.specs.Legal.{IsLegal, before_call, step_of}
 use Rattle.pass_plain.specs.Traces.{Line, LineCall, given, calls_of}
 use Rattle.pass_plain.specs.Runs.{IsRun}
-use Rattle.pass_plain.proofs.Lists.{some_is, both_true, same_numbers, any_at, within_take, below_or}
+use Rattle.pass_plain.proofs.Lists.{some_is, both_true, same_numbers, any_at, within_take, below_or, alike}
 use Rattle.pass_plain.proofs.Beginning.{in_call}
 use Rattle.pass_plain.proofs.Calling.{legal_take, of_call}
-use Rattle.pass_plain.proofs.Replays.{slice_get-take, take-take_le}
 use Rattle.pass_plain.proofs.TwoPrefixes.{process-append, caller_agrees, begun_more}
 use Rattle.pass_replay.specs.Ends.{NoneOpen}
-use Rattle.pass_replay.proofs.Parts.{take_next}
-use Rattle.pass_replay.proofs.Positions.{equal}
 use Rattle.pass_drawn.specs.Runs.{drawn_trace}
 use Rattle.pass_drawn.proofs.Answered.{last_entry, entry_named}
 use Rattle.pass_drawn.proofs.Counting.{pnode}
@@ -86,14 +85,6 @@ sought held at (d, is, shared) =
       shared,
       refl,
     )
-
-at_back : (xs ys : List Entry) (k : ℕ) (y : Entry) → slice_get ys k ≡ Some y → slice_get (xs ++ ys) (length xs + k) ≡ Some y
-at_back [] ys k y at = ap (λ n. slice_get ys n) (let z : 0 + k ≡ k = omega arith in z) ∙ at
-at_back (x ∷ xs) ys k y at = ap (λ n. slice_get (x ∷ xs ++ ys) n) (let z : suc (length xs) + k ≡ suc (length xs + k) = omega arith in z) ∙ at_back xs ys k y at
-
-none_if : (b : Bool) → (b ≡ true → ⊥) → b ≡ false
-none_if true never = absurd (never refl)
-none_if false never = refl
 
 module _ (session : Session) (number lines : ℕ) (history : List Entry) (run : IsRun session (drawn_trace number lines) history) (some_object : 1 ≤ session.objects)
     (closed : NoneOpen session (drawn_trace number lines) history)
@@ -160,9 +151,9 @@ module _ (session : Session) (number lines : ℕ) (history : List Entry) (run : 
       (child_opener session number lines history run some_object closed no_files no_apps room q who s.place s.entry least begun s.stands s.by (omega (arith, numbered))) in
       let past = take s.place history in
       let p = process_after past who in
-      let own : (s.entry.what == who && not (is_fault s.entry.reply)) ≡ true = both_true (s.entry.what == who) (not (is_fault s.entry.reply)) (equal s.entry.what who s.on) (ap not s.done) in
+      let own : (s.entry.what == who && not (is_fault s.entry.reply)) ≡ true = both_true (s.entry.what == who) (not (is_fault s.entry.reply)) (alike s.entry.what who s.on) (ap not s.done) in
       let state : process_after (take (suc s.place) history) who ≡ process_act past p (act.Seek 3 at) =
-      ap (λ h. process_after h who) (take_next history s.place s.entry s.stands) ∙ process-append past s.entry who
+      ap (λ h. process_after h who) (take_one_more history s.place s.entry s.stands) ∙ process-append past s.entry who
       ∙ ap (λ b. cond b (process_act past p s.entry.act) p) own ∙ ap (λ a. process_act past p a) s.seeks in
       let (d, is, shared, there) = sought p.descriptors at has in
       (d, ap (λ (p : Process). finite_map.get p.descriptors 3) state ∙ is, shared, there)
@@ -179,9 +170,9 @@ module _ (session : Session) (number lines : ℕ) (history : List Entry) (run : 
       let seen = take (suc s.place) history in
       let whole = take c.place history in
       let later = drop (suc s.place) whole in
-      let front : take (suc s.place) whole ≡ seen = take-take_le (suc s.place) c.place history (omega (arith, before)) in
+      let front : take (suc s.place) whole ≡ seen = take-take (suc s.place) c.place history (omega (arith, before)) in
       let parts : seen ++ later ≡ whole = ap (λ xs. xs ++ later) (sym front) ∙ take-append-drop (suc s.place) whole in
-      let none : list_any (λ (e : Entry). e.who == who) later ≡ false = none_if (list_any (λ (e : Entry). e.who == who) later) (λ some. quiet s c parts front some) in
+      let none : list_any (λ (e : Entry). e.who == who) later ≡ false = false_from_ne_true (list_any (λ (e : Entry). e.who == who) later) (λ some. quiet s c parts front some) in
       let has : has_begun seen who ≡ true = seen_begun s in
       let same = (caller_agrees session seen later who (subst (λ h. IsLegal session h) (sym parts) (legal_take session history c.place run.legal)) has none).process in
       let (d, is, shared, there) = behind_seek j at s in
@@ -191,7 +182,7 @@ module _ (session : Session) (number lines : ℕ) (history : List Entry) (run : 
       seen_begun s =
           let numbered = s.numbered in
           let has = (acting session number lines history run some_object closed no_files no_apps room s.place s.entry s.stands (omega (arith, numbered))).0 in
-          ap (λ h. has_begun h who) (take_next history s.place s.entry s.stands)
+          ap (λ h. has_begun h who) (take_one_more history s.place s.entry s.stands)
           ∙ begun_more (take s.place history) s.entry who (ap (λ w. has_begun (take s.place history) w) (sym s.by) ∙ has)
 
       quiet : (s : IsSought j at) (c : IsCallStart session number lines history run some_object closed no_files no_apps room who (j + 1 + 1))
@@ -203,7 +194,7 @@ module _ (session : Session) (number lines : ℕ) (history : List Entry) (run : 
           let seen = take (suc s.place) history in
           let size : length seen ≡ suc s.place = (let a = length-take (suc s.place) history in let b = slice_get_within history s.place s.entry s.stands in omega (arith, a, b)) in
           let place = length seen + k in
-          let in_whole : slice_get (take c.place history) place ≡ Some g = ap (λ h. slice_get h place) (sym parts) ∙ at_back seen (drop (suc s.place) (take c.place history)) k g there in
+          let in_whole : slice_get (take c.place history) place ≡ Some g = ap (λ h. slice_get h place) (sym parts) ∙ slice_get-right seen (drop (suc s.place) (take c.place history)) k g there in
           let less = within_take c.place place history g in_whole in
           let stands_g = slice_get-take c.place place history g in_whole in
           let numbered = s.numbered in

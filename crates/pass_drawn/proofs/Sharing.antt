@@ -12,6 +12,7 @@ use Rattle.pass_entry.specs.declared.entry.CallName.TheVariants as call_name
 use Rattle.pass_entry.specs.declared.entry.Reply.{Reply}
 use Rattle.pass_entry.specs.declared.entry.Reply.TheVariants as answer
 use Rattle.pass_entry.specs.declared.objects.Kind.TheVariants as kind
+use Rattle.pass_entry.proofs.Places.{slice_get-take, take_one_more}
 use Rattle.pass_plain.specs.declared.request.Request.TheVariants as requests
 use Rattle.pass_plain.specs.Histories.{call_entries, is_fault, is_of_call}
 use Rattle.pass_plain.specs.Sessions.{Session}
@@ -21,16 +22,13 @@ use Rattle.pass_plain.specs.Calls.{call_steps}
 use Rattle.pass_plain.specs.Legal.{is_start, before_call, last_number}
 use Rattle.pass_plain.specs.Traces.{Line, given, fork_as, calls_of}
 use Rattle.pass_plain.specs.Runs.{IsRun, request_at, steps_at}
-use Rattle.pass_plain.proofs.Lists.{some_is, same_numbers, same_itself, both_true, true_left, true_right, is_place, any_at, any_of, in_take, within_take, below_or}
-use Rattle.pass_plain.proofs.Replays.{slice_get-take}
+use Rattle.pass_plain.proofs.Lists.{some_is, same_numbers, same_itself, both_true, true_left, true_right, is_place, any_at, any_of, in_take, within_take, below_or, alike}
 use Rattle.pass_plain.proofs.Beginning.{in_call, begins-cases}
 use Rattle.pass_plain.proofs.Calling.{acts-cases, legal_take, numbered, next_number, row, steps_by}
 use Rattle.pass_plain.proofs.Rows.{Row, row_of_step}
 use Rattle.pass_replay.specs.Ends.{NoneOpen}
 use Rattle.pass_replay.proofs.Births.{fork_call}
 use Rattle.pass_replay.proofs.NextCalls.{any_call}
-use Rattle.pass_replay.proofs.Parts.{take_next}
-use Rattle.pass_replay.proofs.Positions.{equal}
 use Rattle.pass_replay.proofs.StepKinds.{is_born, kind_of}
 use Rattle.pass_drawn.specs.Runs.{drawn_trace}
 use Rattle.pass_drawn.proofs.Calls.{called, call_step, start_acts, tame}
@@ -125,7 +123,7 @@ module _ (session : Session) (number lines : ℕ) (history : List Entry) (run : 
   keeps zero short = λ i f who at on opens done has. absurd (cc)
   keeps (suc n) short =
       let (e, at) = is_place history n (omega (arith, short)) in
-      subst Keeps (sym (take_next history n e at))
+      subst Keeps (sym (take_one_more history n e at))
       (keeps_next session (take n history) e (legal_take session history n run.legal) (run.legal n e at) (tame session number lines history run n e at) (λ i f there opens. opener_begun n i f there opens) (keeps n (omega (arith, short))))
 
   -- a process has come to hold the file before a place
@@ -184,7 +182,7 @@ module _ (session : Session) (number lines : ℕ) (history : List Entry) (run : 
 
   pub call_start : (who n i : ℕ) (f : Entry) → slice_get history i ≡ Some f → f.who ≡ who → f.number ≡ n → IsCallStart who n
   call_start who n i f at by its =
-      let s = first_place (is_of_call who n) history (any_of (is_of_call who n) history i f at (both_true (f.who == who) (f.number == n) (equal f.who who by) (equal f.number n its))) in
+      let s = first_place (is_of_call who n) history (any_of (is_of_call who n) history i f at (both_true (f.who == who) (f.number == n) (alike f.who who by) (alike f.number n its))) in
       record {
         place = position_or_len (is_of_call who n) history;
         entry = s.item;
@@ -192,7 +190,7 @@ module _ (session : Session) (number lines : ℕ) (history : List Entry) (run : 
         by = same_numbers s.item.who who (true_left (s.item.who == who) (s.item.number == n) s.passes);
         numbered_as = same_numbers s.item.number n (true_right (s.item.who == who) (s.item.number == n) s.passes);
         state = refl;
-        before = λ k z less there w m. let a : true ≡ false = sym (both_true (z.who == who) (z.number == n) (equal z.who who w) (equal z.number n m)) ∙ s.before k z less there in cc;
+        before = λ k z less there w m. let a : true ≡ false = sym (both_true (z.who == who) (z.number == n) (alike z.who who w) (alike z.number n m)) ∙ s.before k z less there in cc;
       }
 
   -- the first process holds the file before each call but its first one

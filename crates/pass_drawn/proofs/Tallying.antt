@@ -1,7 +1,6 @@
 -- The counts of a walk are those of the definitions where no call closes a descriptor.
-use Rattle.std.proofs.Common.{◌≡◌, ◌+◌, ℕ, suc, List, [], ◌∷◌, ◌++◌, take, refl, ap, sym, ◌∙◌, subst, arith, Bool, true, false, not, ◌||◌, ◌&&◌, cond}
+use Rattle.std.proofs.Common.{◌≡◌, ℕ, List, refl, ap, sym, ◌∙◌, Bool, true, false, not, ◌||◌, ◌&&◌, cond}
 use Rattle.std.specs.Prelude.{Some, slice_get}
-use Rattle.std.proofs.lemmas.List.Sums.{sum_by_push}
 use Rattle.pass_entry.specs.declared.entry.Entry.{Entry}
 use Rattle.pass_entry.specs.declared.entry.Act.{Act}
 use Rattle.pass_entry.specs.declared.entry.Act.TheVariants as act
@@ -15,7 +14,6 @@ use Rattle.pass_plain.specs.Legal.{is_start, before_call}
 use Rattle.pass_plain.specs.Traces.{name_of_call}
 use Rattle.pass_plain.specs.Runs.{IsRun}
 use Rattle.pass_report.specs.Reports.{is_answered}
-use Rattle.pass_replay.proofs.Parts.{take_next}
 use Rattle.pass_drawn.specs.declared.reporting.Tally.{Tally}
 use Rattle.pass_drawn.specs.Runs.{drawn_trace}
 use Rattle.pass_drawn.specs.Texts.{is_write, is_written, length_written, drawn_text, run_text}
@@ -23,23 +21,6 @@ use Rattle.pass_drawn.specs.Tallies.{ends, wrote, IsTally}
 use Rattle.pass_drawn.proofs.Adding.{sum_by-same}
 use Rattle.pass_drawn.proofs.Calls.{called, call_named}
 use Rattle.pass_drawn.proofs.Tracing.{is_drawn_name, call_named_so}
-
--- one entry more
-pub tally_next : (history : List Entry) (n : ℕ) (e : Entry) (t u : Tally) → slice_get history n ≡ Some e → IsTally (take n history) t → u.calls ≡ t.calls + cond (ends e) 1 0
-    → u.writes ≡ t.writes + cond (wrote e) 1 0 → u.bytes ≡ t.bytes + cond (wrote e) (length_written e.act) 0 → IsTally (take (n + 1) history) u
-tally_next history n e t u at is calls writes bytes =
-    let more : take (n + 1) history ≡ take n history ++ e ∷ [] = ap (λ n. take n history) (let z : n + 1 ≡ suc n = omega arith in z) ∙ take_next history n e at in
-    let a = sum_by_push (λ e. cond (ends e) 1 0) (take n history) e in
-    let b = sum_by_push (λ e. cond (wrote e) 1 0) (take n history) e in
-    let c = sum_by_push (λ e. cond (wrote e) (length_written e.act) 0) (take n history) e in
-    let old_calls = is.calls in
-    let old_writes = is.writes in
-    let old_bytes = is.bytes in
-    subst (λ h. IsTally h u) (sym more) (record {
-      calls = omega (arith, a, calls, old_calls);
-      writes = omega (arith, b, writes, old_writes);
-      bytes = omega (arith, c, bytes, old_bytes);
-    })
 
 -- the process's state matters to a close alone
 

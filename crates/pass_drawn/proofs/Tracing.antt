@@ -1,18 +1,16 @@
 -- The lines of a drawn trace: who calls what, and that they keep the rules of a trace.
-use Rattle.std.proofs.Common.{◌≡◌, ℕ, zero, suc, ◌+◌, ◌-◌, ◌/◌, ◌%◌, ◌<◌, ◌≤◌, Bool, true, false, ◌&&◌, ◌==◌, cond, eqb, List, [], ◌∷◌, ◌++◌, length, map, replicate, codes, ◌⊎◌, inl, inr, refl, ap, sym, ◌∙◌, subst, arith, append_assoc, append-nil}
+use Rattle.std.proofs.Common.{◌≡◌, ℕ, zero, suc, ◌+◌, ◌-◌, ◌/◌, ◌%◌, ◌<◌, ◌≤◌, Bool, true, false, ◌&&◌, ◌==◌, eqb, List, [], ◌∷◌, ◌++◌, length, map, replicate, codes, ◌⊎◌, inl, inr, refl, ap, sym, ◌∙◌, subst, arith, append_assoc, append-nil}
 use Rattle.std.specs.Prelude.{Some, slice_get, nat_le}
 use Rattle.std.specs.List.{range_with_len}
-use Rattle.std.proofs.lemmas.Bool.{agree_below_at}
-use Rattle.std.proofs.lemmas.Bool.Decides.{nat_tests}
+use Rattle.std.proofs.lemmas.Bool.{agree_below_at, le-leb}
 use Rattle.std.proofs.lemmas.List.{length-replicate, map-append}
 use Rattle.pass_entry.specs.declared.entry.CallName.{CallName}
 use Rattle.pass_entry.specs.declared.entry.CallName.TheVariants as call_name
 use Rattle.pass_plain.specs.declared.request.Request.TheVariants as requests
 use Rattle.pass_plain.specs.Calls.{is_fd}
 use Rattle.pass_plain.specs.Traces.{Line, LineCall, given, write_last, fork_as, wait_for, name_of_call, lines_of, calls_of}
-use Rattle.pass_plain.proofs.Lists.{AllFrom, all_at, all-append, all-map, both_true, filtered, same_numbers}
+use Rattle.pass_plain.proofs.Lists.{AllFrom, all_at, all-append, all-map, both_true, filtered, same_numbers, of_both}
 use Rattle.pass_plain.proofs.Appends.{slice_get-append}
-use Rattle.pass_trace.specs.declared.trace.Command.{Command}
 use Rattle.pass_trace.specs.declared.trace.Command.TheVariants as command
 use Rattle.pass_trace.specs.declared.trace.Payload.TheVariants.{Given}
 use Rattle.pass_trace.specs.declared.trace.TraceLine.{TraceLine}
@@ -40,17 +38,13 @@ IsChilds _ = ⊥
 abbrev pub IsDrawn : ℕ → LineCall → Type 0
 IsDrawn process call = ((process ≡ 1) × IsFirsts call) ⊎ ((2 ≤ process) × (process ≤ 8) × IsChilds call)
 
-either : (P : Command → Type 0) (b : Bool) (x y : Command) → P x → P y → P (cond b x y)
-either P true x y p q = p
-either P false x y p q = q
-
 childs_of : (i word : ℕ) → IsChilds (call_of (command_of i word))
 childs_of i word =
     let size = length-replicate (length_of word) (word / 8192 % 256) in
     let short : length_of word ≤ 4096 = omega arith in
-    let transfer = either (λ c. IsChilds (call_of c)) (eqb (word % 2) 0) (command.Read 3 (length_of word)) (command.Write 3 (Given (replicate (length_of word) (word / 8192 % 256))))
+    let transfer = of_both (λ c. IsChilds (call_of c)) (eqb (word % 2) 0) (command.Read 3 (length_of word)) (command.Write 3 (Given (replicate (length_of word) (word / 8192 % 256))))
     (refl, omega arith, short) (refl, omega (arith, size, short)) in
-    either (λ c. IsChilds (call_of c)) (eqb (i % 2) 0) (command.Seek 3 (word % 65536)) (transfer_of word) (refl, omega arith) transfer
+    of_both (λ c. IsChilds (call_of c)) (eqb (i % 2) 0) (command.Seek 3 (word % 65536)) (transfer_of word) (refl, omega arith) transfer
 
 abbrev AreDrawn : ℕ → List TraceLine → Type 0
 AreDrawn n lines = AllFrom (λ k (l : TraceLine). IsDrawn l.process (call_of l.command)) n lines
@@ -147,14 +141,11 @@ wait_behind before number child forked = record {
   waits = λ q is. subst (λ q. ForksBefore before 1 q) (let z : child ≡ q = cc in z) forked;
 }
 
-at_most : (a b : ℕ) → a ≤ b → nat_le a b ≡ true
-at_most a b le = grind (arith, nat_tests)
-
 childs_within : (call : LineCall) → IsChilds call → IsLineCall call
 childs_within (given (requests.Seek fd at)) is = (refl, ap is_fd is.0)
 childs_within (given (requests.Read fd len)) is =
-    (refl, both_true (is_fd fd && nat_le 1 len) (nat_le len 4096) (both_true (is_fd fd) (nat_le 1 len) (ap is_fd is.0) (at_most 1 len is.1)) (at_most len 4096 is.2))
-childs_within (given (requests.Write fd bytes)) is = (refl, both_true (is_fd fd) (nat_le (length bytes) 4096) (ap is_fd is.0) (at_most (length bytes) 4096 is.1))
+    (refl, both_true (is_fd fd && nat_le 1 len) (nat_le len 4096) (both_true (is_fd fd) (nat_le 1 len) (ap is_fd is.0) (le-leb 1 len is.1)) (le-leb len 4096 is.2))
+childs_within (given (requests.Write fd bytes)) is = (refl, both_true (is_fd fd) (nat_le (length bytes) 4096) (ap is_fd is.0) (le-leb (length bytes) 4096 is.1))
 childs_within (given _) is = absurd is
 childs_within (write_last fd) is = absurd is
 childs_within (fork_as child) is = absurd is

@@ -4,7 +4,7 @@ use Rattle.std.specs.Prelude.{Some, codes, slice_get}
 use Rattle.std.specs.List.{range_with_len}
 use Rattle.pass_plain.specs.declared.request.Request.TheVariants as requests
 use Rattle.pass_plain.specs.Traces.{Line, LineCall, given, write_last, fork_as, wait_for, lines_of, calls_of}
-use Rattle.pass_plain.proofs.Lists.{AllFrom, all-map, some_is}
+use Rattle.pass_plain.proofs.Lists.{AllFrom, all-map, some_is, alike, different}
 use Rattle.pass_trace.specs.declared.trace.Command.{Command}
 use Rattle.pass_trace.specs.declared.trace.Command.TheVariants as command
 use Rattle.pass_trace.specs.declared.trace.TraceLine.{TraceLine}
@@ -12,7 +12,7 @@ use Rattle.pass_trace.specs.TraceLines.{call_of, plain_line, plain_trace}
 use Rattle.pass_gen.specs.Generated.{line, word_at, child_at, transfer_of, command_of, first_lines, drawn_lines, last_lines}
 use Rattle.pass_replay.proofs.Births.{call_at_line}
 use Rattle.pass_replay.proofs.NextCalls.{call_cases}
-use Rattle.pass_replay.proofs.Positions.{equal, unequal, lines-append}
+use Rattle.pass_replay.proofs.Positions.{lines-append}
 use Rattle.pass_drawn.specs.Runs.{drawn_trace}
 use Rattle.pass_drawn.proofs.Tracing.{trace_parts}
 
@@ -64,17 +64,17 @@ seeks_if false word c is = absurd (cc)
 alternates : (number q a n : ℕ) → a % 2 ≡ 0 → Alternates (lines_of (plain_trace (map (λ i. line (9 + i) (child_at i) (command_of i (word_at number i))) (range_with_len a n))) q)
 alternates number q a zero even = tt
 alternates number q a (suc zero) even =
-    one (plain_line (line (9 + a) (child_at a) (command_of a (word_at number a)))) (child_at a == q) (seeks_if (a % 2 == 0) (word_at number a) (transfer_of (word_at number a)) (equal (a % 2) 0 even))
+    one (plain_line (line (9 + a) (child_at a) (command_of a (word_at number a)))) (child_at a == q) (seeks_if (a % 2 == 0) (word_at number a) (transfer_of (word_at number a)) (alike (a % 2) 0 even))
 alternates number q a (suc (suc n)) even =
     two (plain_line (line (9 + a) (child_at a) (command_of a (word_at number a)))) (plain_line (line (9 + (a + 1)) (child_at (a + 1)) (command_of (a + 1) (word_at number (a + 1)))))
     (lines_of (plain_trace (map (λ i. line (9 + i) (child_at i) (command_of i (word_at number i))) (range_with_len (a + 1 + 1) n))) q) (child_at a == q) (child_at (a + 1) == q)
     (ap (λ c. c == q) (let z : child_at (a + 1) ≡ child_at a = omega (arith, even) in z))
-    (seeks_if (a % 2 == 0) (word_at number a) (transfer_of (word_at number a)) (equal (a % 2) 0 even)) (alternates number q (a + 1 + 1) n (omega (arith, even)))
+    (seeks_if (a % 2 == 0) (word_at number a) (transfer_of (word_at number a)) (alike (a % 2) 0 even)) (alternates number q (a + 1 + 1) n (omega (arith, even)))
 
 none_own : (n q : ℕ) (ls : List Line) → AllFrom (λ k (l : Line). l.process ≡ 1) n ls → 2 ≤ q → lines_of ls q ≡ []
 none_own n q [] all least = refl
 none_own n q (l ∷ ls) all least =
-    ap (λ b. cond b (l ∷ lines_of ls q) (lines_of ls q)) (unequal l.process q (λ same. let one = all.0 in omega (arith, one, same, least)))
+    ap (λ b. cond b (l ∷ lines_of ls q) (lines_of ls q)) (different l.process q (λ same. let one = all.0 in omega (arith, one, same, least)))
     ∙ none_own (suc n) q ls all.1 least
 
 waits_first : (n k a count : ℕ) → AllFrom (λ k (l : TraceLine). (plain_line l).process ≡ 1) n (map (λ child. line (k + child) 1 (command.Wait child)) (range_with_len a count))

@@ -4,49 +4,15 @@ use Rattle.std.specs.Prelude.{nat_lt, nat_le, Result, Ok, Err, MatchResult}
 use Rattle.std.specs.List.{insert, remove}
 use Rattle.std.specs.List.Sorted.{IsBinarySearchResult}
 use Rattle.std.specs.Ordering.{nat_cmp}
-use Rattle.std.proofs.lemmas.Bool.Decides.{nat_tests}
 use Rattle.std.proofs.lemmas.List.{length-take, length-drop, take-append-drop, drop_more, get_or-take, get_or-drop}
 use Rattle.std.proofs.lemmas.List.Edits.{length-insert, length-remove, get_or-insert_below, get_or-insert_at, get_or-insert_above, get_or-remove_below, get_or-remove_above}
 use Rattle.std.proofs.lemmas.List.Folds.{list_any-append, list_any_at}
 use Rattle.std.proofs.lemmas.List.Sorted.{searched}
-use Rattle.pass_entry.proofs.Lists.{same_numbers, below_is, not_below, below_or}
+use Rattle.std.proofs.lemmas.Bool.{le-leb, lt-ltb, le-ltb, lt-leb}
+use Rattle.pass_entry.proofs.Lists.{same_numbers, below_is, not_below, below_or, or_none, and_none, and_true, alike, different}
 use Rattle.pass_file.specs.BlockSets.{is_among, IsRising, IsPlace}
 
 -- Tests
-
-pub equal : (a b : ℕ) → a ≡ b → (a == b) ≡ true
-equal a b is = grind (arith, nat_tests)
-
-pub unequal : (a b : ℕ) → a ≢ b → (a == b) ≡ false
-unequal a b apart = grind (arith, nat_tests)
-
-pub lt_true : (a b : ℕ) → a < b → nat_lt a b ≡ true
-lt_true a b is = grind (arith, nat_tests)
-
-pub lt_false : (a b : ℕ) → b ≤ a → nat_lt a b ≡ false
-lt_false a b is = grind (arith, nat_tests)
-
-pub le_true : (a b : ℕ) → a ≤ b → nat_le a b ≡ true
-le_true a b is = grind (arith, nat_tests)
-
-pub le_false : (a b : ℕ) → b < a → nat_le a b ≡ false
-le_false a b is = grind (arith, nat_tests)
-
-pub and_false : (a : Bool) → (a && false) ≡ false
-and_false true = refl
-and_false false = refl
-
-pub and_true : (a : Bool) → (a && true) ≡ a
-and_true true = refl
-and_true false = refl
-
-pub or_true : (a : Bool) → (a || true) ≡ true
-or_true true = refl
-or_true false = refl
-
-pub or_false : (a : Bool) → (a || false) ≡ a
-or_false true = refl
-or_false false = refl
 
 pub or_assoc : (a b c : Bool) → (a || (b || c)) ≡ ((a || b) || c)
 or_assoc true b c = refl
@@ -61,10 +27,10 @@ or_swap false b c = refl
 
 pub none_among : (xs : List ℕ) (b : ℕ) → ((k : ℕ) → k < length xs → get_or xs k 0 ≢ b) → is_among xs b ≡ false
 none_among [] b away = refl
-none_among (x ∷ xs) b away = (λ i. unequal x b (away 0 (omega arith)) i || none_among xs b (λ k low. away (suc k) (omega (arith, low))) i)
+none_among (x ∷ xs) b away = (λ i. different x b (away 0 (omega arith)) i || none_among xs b (λ k low. away (suc k) (omega (arith, low))) i)
 
 pub one_among : (xs : List ℕ) (k b : ℕ) → k < length xs → get_or xs k 0 ≡ b → is_among xs b ≡ true
-one_among xs k b low is = list_any_at (λ x. x == b) xs k 0 low (equal (get_or xs k 0) b is)
+one_among xs k b low is = list_any_at (λ x. x == b) xs k 0 low (alike (get_or xs k 0) b is)
 
 split : (xs : List ℕ) (n b : ℕ) → is_among xs b ≡ (is_among (take n xs) b || is_among (drop n xs) b)
 split xs n b = ap (λ ys. is_among ys b) (sym (take-append-drop n xs)) ∙ list_any-append (λ x. x == b) (take n xs) (drop n xs)
@@ -102,7 +68,7 @@ module _ (xs : List ℕ) (rising : IsRising xs) (b p : ℕ) (place : IsPlace xs 
   -- the blocks from the place on are above the block, where it doesn't stand there
   pub strictly : (nat_lt p (length xs) && (get_or xs p 0 == b)) ≡ false → (k : ℕ) → p ≤ k → k < length xs → b < get_or xs k 0
   strictly away k more within =
-      let here : get_or xs p 0 ≢ b = λ is. let t = (λ i. sym (lt_true p (length xs) (omega (arith, more, within))) i && sym (equal (get_or xs p 0) b is) i) ∙ away in absurd (cc) in
+      let here : get_or xs p 0 ≢ b = λ is. let t = (λ i. sym (lt-ltb p (length xs) (omega (arith, more, within))) i && sym (alike (get_or xs p 0) b is) i) ∙ away in absurd (cc) in
       let least = place.above p (omega arith) (omega (arith, more, within)) in
       let rises = mono xs rising p k more within in
       omega (arith, here, least, rises)
@@ -202,7 +168,7 @@ module _ (xs : List ℕ) (rising : IsRising xs) where
           let a = get_or-remove_above xs p 0 k more low in
           let z = rising p (k + 1) (omega (arith, more)) (omega (arith, within, n)) in omega (arith, a, z, here, is))
           (below_or k p))
-          ∙ sym (ap (λ t. is_among xs b && not t) e ∙ and_false (is_among xs b))
+          ∙ sym (ap (λ t. is_among xs b && not t) e ∙ and_none (is_among xs b))
       by false e =
           let rest = ap (λ n. drop n xs) (let z : p + 1 ≡ suc p = omega arith in z) in
           list_any-append (λ x. x == b) (take p xs) (drop (suc p) xs)
@@ -255,7 +221,7 @@ module _ (xs : List ℕ) (rising : IsRising xs) where
           let a = get_or-drop p xs k 0 in
           let n = length-drop p xs in
           let z = place.above (p + k) (omega arith) (omega (arith, within, n)) in omega (arith, a, z, is, less, covers)))
-          ∙ or_false (is_among (take p xs) b))
+          ∙ or_none (is_among (take p xs) b))
       by false e =
           let more = not_below (b * 4096) size e in
           none_among (take p xs) b
@@ -263,25 +229,25 @@ module _ (xs : List ℕ) (rising : IsRising xs) where
           let n = length-take p xs in
           let a = get_or-take p xs k 0 (omega (arith, within, n)) in
           let z = place.below k (omega (arith, within, n)) in omega (arith, a, z, is, more, least))
-          ∙ sym (ap (λ t. is_among xs b && t) e ∙ and_false (is_among xs b))
+          ∙ sym (ap (λ t. is_among xs b && t) e ∙ and_none (is_among xs b))
 
 -- Runs of blocks
 
 pub within_none : (n b : ℕ) → (nat_le n b && nat_lt b n) ≡ false
-within_none n b = ⊎_elim (λ (less : b < n). ap (λ t. t && nat_lt b n) (le_false n b less))
-    (λ (rest : (n < b) ⊎ (b ≡ n)). let more : n ≤ b = ⊎_elim (λ (m : n < b). omega (arith, m)) (λ (m : b ≡ n). omega (arith, m)) rest in ap (λ t. nat_le n b && t) (lt_false b n more) ∙ and_false (nat_le n b)) (below_or b n)
+within_none n b = ⊎_elim (λ (less : b < n). ap (λ t. t && nat_lt b n) (lt-leb n b less))
+    (λ (rest : (n < b) ⊎ (b ≡ n)). let more : n ≤ b = ⊎_elim (λ (m : n < b). omega (arith, m)) (λ (m : b ≡ n). omega (arith, m)) rest in ap (λ t. nat_le n b && t) (le-ltb b n more) ∙ and_none (nat_le n b)) (below_or b n)
 
 pub within_more : (first block b : ℕ) → first ≤ block → ((block == b) || (nat_le first b && nat_lt b block)) ≡ (nat_le first b && nat_lt b (block + 1))
 within_more first block b low =
     ⊎_elim
     (λ (less : block < b).
-    (λ i. unequal block b (omega (arith, less)) i || (nat_le first b && lt_false b block (omega (arith, less)) i)) ∙ and_false (nat_le first b)
-    ∙ sym (ap (λ t. nat_le first b && t) (lt_false b (block + 1) (omega (arith, less))) ∙ and_false (nat_le first b)))
+    (λ i. different block b (omega (arith, less)) i || (nat_le first b && le-ltb b block (omega (arith, less)) i)) ∙ and_none (nat_le first b)
+    ∙ sym (ap (λ t. nat_le first b && t) (le-ltb b (block + 1) (omega (arith, less))) ∙ and_none (nat_le first b)))
     (⊎_elim
     (λ (more : b < block).
-    (λ i. unequal block b (omega (arith, more)) i || (nat_le first b && lt_true b block more i))
-    ∙ ap (λ t. nat_le first b && t) (sym (lt_true b (block + 1) (omega (arith, more)))))
+    (λ i. different block b (omega (arith, more)) i || (nat_le first b && lt-ltb b block more i))
+    ∙ ap (λ t. nat_le first b && t) (sym (lt-ltb b (block + 1) (omega (arith, more)))))
     (λ (same : block ≡ b).
-    ap (λ t. t || (nat_le first b && nat_lt b block)) (equal block b same)
-    ∙ sym (λ i. le_true first b (omega (arith, low, same)) i && lt_true b (block + 1) (omega (arith, same)) i)))
+    ap (λ t. t || (nat_le first b && nat_lt b block)) (alike block b same)
+    ∙ sym (λ i. le-leb first b (omega (arith, low, same)) i && lt-ltb b (block + 1) (omega (arith, same)) i)))
     (below_or block b)

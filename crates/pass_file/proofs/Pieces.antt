@@ -3,25 +3,11 @@ use Rattle.std.proofs.Common.{◌≡◌, ◌∙◌, ℕ, zero, suc, ◌+◌, ◌
 use Rattle.std.proofs.lemmas.List.{length-append, length-take, length-take-le, length-drop, length-replicate, take-take, take_all, drop-drop, take-replicate, drop-replicate}
 use Rattle.pass_plain.specs.Files.{extended, written, resized}
 use Rattle.pass_plain.proofs.Replays.{le_or_ge}
+use Rattle.pass_entry.proofs.Places.{take_append, drop_append}
 
 take_none : {X : Type 0} (n : ℕ) → take {A = X} n [] ≡ []
 take_none zero = refl
 take_none (suc n) = refl
-
-drop_none : {X : Type 0} (n : ℕ) → drop {A = X} n [] ≡ []
-drop_none zero = refl
-drop_none (suc n) = refl
-
--- the first of two lists, one behind the other
-take_over : {X : Type 0} (n : ℕ) (xs ys : List X) → take n (xs ++ ys) ≡ take n xs ++ take (n - length xs) ys
-take_over zero xs ys = ap (λ k. take k ys) (let z : 0 ≡ 0 - length xs = omega arith in z)
-take_over (suc n) [] ys = ap (λ k. take k ys) (let z : suc n ≡ suc n - 0 = omega arith in z)
-take_over (suc n) (x ∷ xs) ys = ap (λ zs. x ∷ zs) (take_over n xs ys ∙ ap (λ k. take n xs ++ take k ys) (let z : n - length xs ≡ suc n - suc (length xs) = omega arith in z))
-
-drop_over : {X : Type 0} (n : ℕ) (xs ys : List X) → drop n (xs ++ ys) ≡ drop n xs ++ drop (n - length xs) ys
-drop_over zero xs ys = ap (λ k. xs ++ drop k ys) (let z : 0 ≡ 0 - length xs = omega arith in z)
-drop_over (suc n) [] ys = ap (λ k. drop k ys) (let z : suc n ≡ suc n - 0 = omega arith in z)
-drop_over (suc n) (x ∷ xs) ys = drop_over n xs ys ∙ ap (λ k. drop n xs ++ drop k ys) (let z : n - length xs ≡ suc n - suc (length xs) = omega arith in z)
 
 drop_taken : {X : Type 0} (a b : ℕ) (xs : List X) → drop a (take b xs) ≡ take (b - a) (drop a xs)
 drop_taken zero b xs = ap (λ k. take k xs) (let z : b ≡ b - 0 = omega arith in z)
@@ -50,8 +36,8 @@ part_resized old size at count len is =
     ∙ ap (λ n. replicate n 0) (let z : len - length rest ≡ len - length (take count rest) = omega (arith, is, own) in z) in
     ap (take count) (drop_taken at size (old ++ gap))
     ∙ take_both count (size - at) len (drop at (old ++ gap)) is
-    ∙ ap (take len) (drop_over at old gap)
-    ∙ take_over len rest (drop (at - length old) gap)
+    ∙ ap (take len) (drop_append at old gap)
+    ∙ take_append len rest (drop (at - length old) gap)
     ∙ (λ i. front i ++ behind i)
 
 same_part : (old : List ℕ) (i j m n : ℕ) → m ≡ n → ((m ≡ 0) ⊎ (i ≡ j)) → take m (drop i old) ≡ take n (drop j old)
@@ -79,7 +65,7 @@ part_written old (b ∷ rest) at place count from piece some from_is piece_is =
     let skipped = length-drop (place - at) bytes in
     let size = ap length piece_is ∙ length-take (count - from) (drop (place - at) bytes) in
     let front : take count (drop place (head ++ bytes)) ≡ take from own ++ replicate (from - length own) 0 ++ piece =
-    ap (take count) (drop_over place head bytes) ∙ take_over count (drop place head) (drop (place - length head) bytes)
+    ap (take count) (drop_append place head bytes) ∙ take_append count (drop place head) (drop (place - length head) bytes)
     ∙ (λ i. part_resized old at place count from from_is i
     ++ take ((let z : count - length (drop place head) ≡ count - from = omega (arith, left, heads, from_is) in z) i) (drop (place - heads i) bytes))
     ∙ ap (λ p. take from own ++ replicate (from - length own) 0 ++ p) (sym piece_is) in
@@ -92,8 +78,8 @@ part_written old (b ∷ rest) at place count from piece some from_is piece_is =
     (le_or_ge (at + length bytes) (place + count)))
     ∙ ap (take (count - (from + length piece))) (sym (drop-drop (from + length piece) place old))
     ∙ sym (drop_taken (from + length piece) count (drop place old)) in
-    ap (take count) (drop_over place (head ++ bytes) tail)
-    ∙ take_over count (drop place (head ++ bytes)) (drop (place - length (head ++ bytes)) tail)
+    ap (take count) (drop_append place (head ++ bytes) tail)
+    ∙ take_append count (drop place (head ++ bytes)) (drop (place - length (head ++ bytes)) tail)
     ∙ (λ i. front i ++ behind i)
 
 -- the first of what lies behind the first of a list

@@ -6,19 +6,11 @@ use Rattle.pass_entry.specs.declared.entry.Act.TheVariants as act
 use Rattle.pass_plain.specs.Files.{file_act}
 use Rattle.pass_plain.specs.Records.{block_size, row_act}
 use Rattle.pass_plain.specs.Recording.{block_count, flags, is_change}
+use Rattle.pass_plain.proofs.KeptFiles.{quiet_row}
+pub use Rattle.pass_plain.proofs.KeptFiles.{quiet_bytes}
 use Rattle.pass_range.proofs.Dirtying.{quiet_act}
 use Rattle.pass_flow.specs.Flows.{is_flow_act}
 use Rattle.pass_file.specs.FileViews.{dirty_by, end_of}
-
-pub quiet_bytes : (content : List ℕ) (a : Act) → is_change a ≡ false → file_act content a ≡ content
-quiet_bytes content (act.Put out at bytes) is = absurd (cc)
-quiet_bytes content (act.Cut out size) is = absurd (cc)
-quiet_bytes content _ is = refl
-
-pub quiet_row : (block : ℕ) (had : Bool) (a : Act) → is_change a ≡ false → row_act block had a ≡ had
-quiet_row block had (act.Put out at bytes) is = absurd (cc)
-quiet_row block had (act.Cut out size) is = absurd (cc)
-quiet_row block had _ is = refl
 
 pub quiet_dirty : (old : List ℕ) (had : Bool) (a : Act) (block : ℕ) (was : Bool) → is_change a ≡ false → dirty_by (length old) (length (file_act old a)) had a block was ≡ was
 unfolding dirty_by
@@ -27,7 +19,7 @@ quiet_dirty old had a block was is =
     ∙ ap (λ (b : Bool). if b && nat_le (length (file_act old a)) (block * block_size) then false else was) is
 
 pub quiet_rows : (rows : List Bool) (had : ℕ → Bool) (a : Act) → is_change a ≡ false → rows ≡ flags had block_count → rows ≡ flags (λ block. row_act block (had block) a) block_count
-quiet_rows rows had a is same = same ∙ ap (λ (had : ℕ → Bool). flags had block_count) (λ i block. sym (quiet_row block (had block) a is) i)
+quiet_rows rows had a is same = same ∙ ap (λ (had : ℕ → Bool). flags had block_count) (λ i block. sym (quiet_row a block (had block) is) i)
 
 pub quiet_dirties : (dirty : List Bool) (old : List ℕ) (had was : ℕ → Bool) (a : Act) → is_change a ≡ false → dirty ≡ flags was block_count
     → dirty ≡ flags (λ block. dirty_by (length old) (length (file_act old a)) (had block) a block (was block)) block_count

@@ -4,14 +4,14 @@ use Rattle.std.specs.Prelude.{nat_lt, nat_le, filter, Option, Some, None, IfSome
 use Rattle.std.specs.List.{range_with_len}
 use Rattle.std.specs.Option.{option_map_or}
 use Rattle.std.proofs.lemmas.List.Elements.{filter-append}
-use Rattle.std.proofs.lemmas.List.{map-append}
+use Rattle.std.proofs.lemmas.List.{map-append, append-nil}
+use Rattle.std.proofs.lemmas.Bool.{le-leb, lt-ltb, le-ltb, lt-leb}
 use Rattle.pass_entry.specs.declared.entry.Act.{Act}
+use Rattle.pass_entry.proofs.Lists.{or_true, and_none, alike, different}
 use Rattle.pass_plain.specs.Records.{digest_of}
 use Rattle.pass_plain.specs.Recording.{digests_by, is_digested_by}
-use Rattle.pass_plain.proofs.Replays.{append-nil}
 use Rattle.pass_file.specs.declared.touched.Touched.{Touched}
 use Rattle.pass_file.specs.Touches.{is_at, is_within, is_touched, digests_at}
-use Rattle.pass_file.proofs.Members.{equal, unequal, lt_true, lt_false, le_true, le_false, and_false, or_true}
 
 range_split : (a m n : ℕ) → range_with_len a (m + n) ≡ range_with_len a m ++ range_with_len (a + m) n
 range_split a zero n = (λ i. range_with_len (w i) (z i))
@@ -60,16 +60,16 @@ module _ (first end_ count : ℕ) (order : first ≤ end_) (most : end_ ≤ coun
   front : (edge : Option ℕ) → IfSome edge (λ e. e < first) → filter (λ b. is_at edge b || is_within first end_ b) (range_with_len 0 (first - 0)) ≡ at_edge edge
   front None below =
       filter_none (λ b. is_within first end_ b) 0 (first - 0)
-      (λ k low high. ap (λ t. t && nat_lt k end_) (le_false first k (omega (arith, high))))
+      (λ k low high. ap (λ t. t && nat_lt k end_) (lt-leb first k (omega (arith, high))))
   front (Some e) below =
       let p : ℕ → Bool = λ b. (e == b) || is_within first end_ b in
-      let gone : (k : ℕ) → k < first → (e == k) ≡ false → p k ≡ false = λ k high other. (λ i. other i || (le_false first k high i && nat_lt k end_)) in
+      let gone : (k : ℕ) → k < first → (e == k) ≡ false → p k ≡ false = λ k high other. (λ i. other i || (lt-leb first k high i && nat_lt k end_)) in
       ap (filter p) (split_at 0 e first (omega arith) (omega (arith, below)))
       ∙ filter-append p (range_with_len 0 (e - 0)) (range_with_len e (first - e))
-      ∙ ap (λ xs. xs ++ filter p (range_with_len e (first - e))) (filter_none p 0 (e - 0) (λ k low high. gone k (omega (arith, high, below)) (unequal e k (omega (arith, high)))))
+      ∙ ap (λ xs. xs ++ filter p (range_with_len e (first - e))) (filter_none p 0 (e - 0) (λ k low high. gone k (omega (arith, high, below)) (different e k (omega (arith, high)))))
       ∙ ap (λ n. filter p (range_with_len e n)) (let z : first - e ≡ suc (first - e - 1) = omega (arith, below) in z)
-      ∙ ap (λ t. cond t (e ∷ filter p (range_with_len (e + 1) (first - e - 1))) (filter p (range_with_len (e + 1) (first - e - 1)))) (ap (λ t. t || is_within first end_ e) (equal e e refl))
-      ∙ ap (λ xs. e ∷ xs) (filter_none p (e + 1) (first - e - 1) (λ k low high. gone k (omega (arith, high, below)) (unequal e k (omega (arith, low)))))
+      ∙ ap (λ t. cond t (e ∷ filter p (range_with_len (e + 1) (first - e - 1))) (filter p (range_with_len (e + 1) (first - e - 1)))) (ap (λ t. t || is_within first end_ e) (alike e e refl))
+      ∙ ap (λ xs. e ∷ xs) (filter_none p (e + 1) (first - e - 1) (λ k low high. gone k (omega (arith, high, below)) (different e k (omega (arith, low)))))
 
   touched : (edge : Option ℕ) → IfSome edge (λ e. e < first) → filter (λ b. is_at edge b || is_within first end_ b) (range_with_len 0 count) ≡ at_edge edge ++ range_with_len first (end_ - first)
   touched edge below =
@@ -82,13 +82,13 @@ module _ (first end_ count : ℕ) (order : first ≤ end_) (most : end_ ≤ coun
       ∙ (λ i. front edge below i ++ filter-append p (range_with_len first (end_ - first)) (range_with_len end_ (count - end_)) i)
       ∙ (λ i.
       at_edge edge
-      ++ (filter_all p first (end_ - first) (λ k low high. (λ j. is_at edge k || (le_true first k low j && lt_true k end_ (omega (arith, high, low)) j)) ∙ or_true (is_at edge k)) i
-      ++ filter_none p end_ (count - end_) (λ k low high. (λ j. away edge below k (omega (arith, low, order)) j || (nat_le first k && lt_false k end_ low j)) ∙ and_false (nat_le first k)) i))
+      ++ (filter_all p first (end_ - first) (λ k low high. (λ j. is_at edge k || (le-leb first k low j && lt-ltb k end_ (omega (arith, high, low)) j)) ∙ or_true (is_at edge k)) i
+      ++ filter_none p end_ (count - end_) (λ k low high. (λ j. away edge below k (omega (arith, low, order)) j || (nat_le first k && le-ltb k end_ low j)) ∙ and_none (nat_le first k)) i))
       ∙ ap (λ xs. at_edge edge ++ xs) (append-nil (range_with_len first (end_ - first)))
     where
       away : (edge : Option ℕ) → IfSome edge (λ e. e < first) → (k : ℕ) → first ≤ k → is_at edge k ≡ false
       away None below k low = refl
-      away (Some e) below k low = unequal e k (omega (arith, below, low))
+      away (Some e) below k low = different e k (omega (arith, below, low))
 
 pub digests_touched : (file old : ℕ) (new : List ℕ) (had : ℕ → Bool) (a : Act) (count : ℕ) (t : Touched) → ((b : ℕ) → b < count → is_digested_by old (length new) (had b) a b ≡ is_touched t b)
     → t.first ≤ t.end → t.end ≤ count → IfSome t.edge (λ e. e < t.first) → digests_by file old new had a count ≡ digests_at file new t

@@ -1,19 +1,20 @@
 -- What a change makes of the rows and of the dirty blocks, as flags.
 use Rattle.std.proofs.Common.{◌≡◌, ◌∙◌, ℕ, zero, suc, ◌+◌, ◌*◌, ◌<◌, ◌≤◌, ◌==◌, ◌&&◌, ◌||◌, Bool, true, false, List, [], ◌∷◌, ◌++◌, length, get_or, refl, ap, sym, arith, subst, append_assoc}
-use Rattle.std.specs.Prelude.{nat_lt, nat_le, Option, Some, None, IfSome, IfOk, Result, Ok, Err, if◌then◌else◌}
+use Rattle.std.specs.Prelude.{nat_lt, nat_le, Option, Some, None, IfSome, if◌then◌else◌}
 use Rattle.std.proofs.lemmas.List.FromFn.{fill_by_all, length-map-range_with_len, get_or-map-range_with_len}
-use Rattle.std.proofs.lemmas.Option.{get_or_from_slice_get}
+use Rattle.std.proofs.lemmas.Bool.{le-leb, lt-ltb, lt-leb}
 use Rattle.pass_entry.specs.declared.entry.Act.{Act}
 use Rattle.pass_entry.specs.declared.entry.Act.TheVariants as act
 use Rattle.pass_entry.specs.declared.record.Record.{Record}
 use Rattle.pass_entry.specs.declared.record.Record.TheVariants as log
-use Rattle.pass_entry.proofs.Lists.{is_place, any_at, true_right, same_numbers, below_is, not_below}
+use Rattle.pass_entry.proofs.Lists.{any_at, true_right, same_numbers, below_is, not_below, or_true, and_none, and_true}
 use Rattle.pass_plain.specs.Files.{file_act}
 use Rattle.pass_plain.specs.Records.{row_act, is_written}
 use Rattle.pass_plain.specs.Recording.{block_count, flags, is_change, is_digested_by, digests_by, content_by}
 use Rattle.pass_plain.proofs.Digests.{flag_at}
 use Rattle.pass_plain.specs.Sound.{IsSoundFile}
 use Rattle.pass_plain.specs.declared.start.StartFile.{StartFile}
+use Rattle.pass_plain.proofs.Sizes.{no_shorter, length-resized}
 use Rattle.pass_range.specs.Rows.{range}
 use Rattle.pass_clean.specs.Blocks.{AreListed}
 use Rattle.pass_file.specs.declared.touched.Touched.{Touched}
@@ -21,8 +22,8 @@ use Rattle.pass_file.specs.BlockSets.{BlockSetView, is_among, IsRising, AreBelow
 use Rattle.pass_table.specs.Tables.{BlocksView}
 use Rattle.pass_file.specs.FileViews.{AreSet, IsFileState, dirty_by, end_of}
 use Rattle.pass_file.specs.Touches.{is_at, is_within, is_touched, nothing_at, IsTouchOf, digests_at}
-use Rattle.pass_file.proofs.Members.{lt_true, le_true, le_false, and_false, and_true, or_true, within_none}
-use Rattle.pass_file.proofs.Resizing.{length_resized, longer, touch_nothing}
+use Rattle.pass_file.proofs.Members.{within_none}
+use Rattle.pass_file.proofs.Resizing.{touch_nothing}
 use Rattle.pass_file.proofs.Ranges.{digests_touched}
 
 -- Flags
@@ -78,12 +79,12 @@ module _ (content rows : List ℕ) (a : Act) (t : Touched) (below : AreBelow row
       (λ among.
       let less = below b among in
       let size = is.sized ∙ ap (λ c. length (file_act content c)) (sym same) in
-      let grows = longer content at bytes in
-      lt_true (b * 4096) t.size (omega (arith, less, size, grows)))
+      let grows = no_shorter content at bytes in
+      lt-ltb (b * 4096) t.size (omega (arith, less, size, grows)))
       ∙ ap (λ w. is_among rows b || w) (sym (is.written b) ∙ ap (λ c. is_written c b) (sym same))
   written_longer b (act.Cut out size) same ch =
       ap (λ w. w || (is_among rows b && low b)) (sym (is.written b) ∙ ap (λ c. is_written c b) (sym same))
-      ∙ ap (λ n. is_among rows b && nat_lt (b * 4096) n) (is.sized ∙ ap (λ c. length (file_act content c)) (sym same) ∙ length_resized content size)
+      ∙ ap (λ n. is_among rows b && nat_lt (b * 4096) n) (is.sized ∙ ap (λ c. length (file_act content c)) (sym same) ∙ length-resized content size)
   written_longer b _ same ch = absurd (cc)
 
   pub row_turned : (had : ℕ → Bool) (new : List ℕ) → flags (is_among rows) block_count ≡ flags had block_count
@@ -99,11 +100,11 @@ module _ (content rows : List ℕ) (a : Act) (t : Touched) (below : AreBelow row
       by : (d l w : Bool) → is_touched t b ≡ d → low b ≡ l → (is_touched t b || (w && low b)) ≡ (if is_touched t b then true else if is_change a && nat_le t.size (b * 4096) then false else w)
       by true l w d_is l_is = (λ i. d_is i || (w && low b)) ∙ sym (ap (λ d. if d then true else if is_change a && nat_le t.size (b * 4096) then false else w) d_is)
       by false true w d_is l_is =
-          let less : nat_le t.size (b * 4096) ≡ false = le_false t.size (b * 4096) (let z : b * 4096 < t.size = below_is (b * 4096) t.size l_is in z) in
+          let less : nat_le t.size (b * 4096) ≡ false = lt-leb t.size (b * 4096) (let z : b * 4096 < t.size = below_is (b * 4096) t.size l_is in z) in
           (λ i. d_is i || (w && l_is i)) ∙ and_true w ∙ sym (λ i. if d_is i then true else if change i && less i then false else w)
       by false false w d_is l_is =
-          let more : nat_le t.size (b * 4096) ≡ true = le_true t.size (b * 4096) (not_below (b * 4096) t.size l_is) in
-          (λ i. d_is i || (w && l_is i)) ∙ and_false w ∙ sym (λ i. if d_is i then true else if change i && more i then false else w)
+          let more : nat_le t.size (b * 4096) ≡ true = le-leb t.size (b * 4096) (not_below (b * 4096) t.size l_is) in
+          (λ i. d_is i || (w && l_is i)) ∙ and_none w ∙ sym (λ i. if d_is i then true else if change i && more i then false else w)
 
   pub dirty_turned : (had was : ℕ → Bool) (dirty new : List ℕ) → flags (is_among rows) block_count ≡ flags had block_count → flags (is_among dirty) block_count ≡ flags was block_count
       → ((b : ℕ) → is_among new b ≡ (is_touched t b || (is_among dirty b && low b)))
@@ -180,7 +181,7 @@ kept_below : (xs : List ℕ) (size b : ℕ) → AreBelow xs size → is_among xs
 kept_below xs size b below = by (is_among xs b) refl
   where
     by : (t : Bool) → is_among xs b ≡ t → is_among xs b ≡ (is_among xs b && nat_lt (b * 4096) size)
-    by true is = is ∙ sym (λ i. is i && lt_true (b * 4096) size (below b is) i)
+    by true is = is ∙ sym (λ i. is i && lt-ltb (b * 4096) size (below b is) i)
     by false is = is ∙ sym (ap (λ t. t && nat_lt (b * 4096) size) is)
 
 module _ (content rows : List ℕ) (out at : ℕ) (bytes : List ℕ) (none : bytes ≡ []) (small : length content ≤ 4194304) (below : AreBelow rows (length content)) where
@@ -231,15 +232,6 @@ module _ (content rows : List ℕ) (a : Act) (t : Touched) (is : IsTouchOf conte
 
 -- Rows of an opening
 
-pub rising_rows : (file : StartFile) → IsSoundFile file → IsRising file.rows.items
-rising_rows file sound i j less low =
-    let a = is_place file.rows.items i (omega (arith, less, low)) in
-    let b = is_place file.rows.items j low in
-    let z = sound.ascending i j a.0 b.0 a.1 b.1 less in
-    let x = get_or_from_slice_get file.rows.items i a.0 0 a.1 in
-    let y = get_or_from_slice_get file.rows.items j b.0 0 b.1 in
-    omega (arith, z, x, y)
-
 pub opened_below : (file : StartFile) → IsSoundFile file → AreBelow file.rows.items (length file.bytes.items)
 opened_below file sound b among =
     let at = any_at (λ r. r == b) file.rows.items among in
@@ -256,7 +248,3 @@ listed_same p q content own n xs same agree are = record {
   all = λ b low is. are.all b low (agree b low ∙ is);
   rising = are.rising;
 }
-
-pub if_ok : {T E : Type 0} (P Q : T → Type 0) → ((x : T) → P x → Q x) → (r : Result T E) → IfOk r P → IfOk r Q
-if_ok P Q then_ (Ok x) p = then_ x p
-if_ok P Q then_ (Err e) p = tt

@@ -12,11 +12,10 @@ use Rattle.pass_plain.specs.Replies.{reply_to}
 use Rattle.pass_plain.specs.Sessions.{Session, is_opened, opening_version}
 use Rattle.pass_plain.specs.Versions.{node_in, nodes_of}
 use Rattle.pass_version.specs.States.{VersionState, IsStateAfter}
-use Rattle.pass_version.proofs.OneObject.{opening_law}
+use Rattle.pass_version.proofs.OneObject.{opening_law, alike_state}
 use Rattle.pass_book.specs.Tokens.{BookId, DeskState}
 use Rattle.pass_flow.specs.Entering.{IsVersioned, is_object_act, current_node}
 use Rattle.pass_flow.specs.Flows.{is_flow_act}
-use Rattle.pass_flow.proofs.Versioning.{alike_state}
 
 pub flow_fits : (a : Act) → is_flow_act a ≡ true → is_object_act a ≡ true
 flow_fits act.Freeze is = refl

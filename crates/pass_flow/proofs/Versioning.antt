@@ -3,6 +3,7 @@ use Rattle.std.proofs.Common.{◌≡◌, ℕ, ◌+◌, ◌<◌, ◌≤◌, ◌^�
 use Rattle.std.specs.Prelude.{Option, Some, None, is_some, slice_get, if◌then◌else◌}
 use Rattle.std.specs.Option.{option_map_or}
 use Rattle.std.specs.List.{list_any}
+use Rattle.std.proofs.lemmas.Bool.{false≢true}
 use Rattle.pass_entry.specs.declared.entry.Entry.{Entry}
 use Rattle.pass_entry.specs.declared.entry.Act.{Act}
 use Rattle.pass_entry.specs.declared.entry.Act.TheVariants as act
@@ -20,16 +21,14 @@ use Rattle.pass_plain.specs.Versions.{nodes_of, source_in, is_in, is_exec, alway
 use Rattle.pass_plain.proofs.Lineages.{lineage_law}
 use Rattle.pass_plain.proofs.TwoPrefixes.{none_later}
 use Rattle.pass_plain.proofs.Versioned.{version_law}
+use Rattle.pass_plain.proofs.LastNodes.{versions_low}
 use Rattle.pass_version.specs.States.{IsStateAfter, VersionState}
-use Rattle.pass_version.proofs.OneObject.{alike_then, alike_turned, used_alike, source_alike, frozen_alike, linked_alike}
+use Rattle.pass_version.proofs.OneObject.{alike_then, alike_turned, act_alike, alike_state}
 use Rattle.pass_book.specs.declared.view.VaultSync.{VaultSync}
 use Rattle.pass_book.specs.Tokens.{BookId, DeskState}
 use Rattle.pass_hold.specs.Callings.{IsEntered}
-use Rattle.pass_hold.proofs.Objects.{lineage_stays, node_there, repeats_has, versions_low}
+use Rattle.pass_hold.proofs.Objects.{lineage_stays, node_there, repeats_has}
 use Rattle.pass_flow.specs.Entering.{IsVersioned, is_object_act, current_node, moved_by, version_records, moved_records, later_records, rest_records}
-
-differ : false ≡ true → ⊥
-differ same = absurd (cc)
 
 -- a lineage's node, or the one of its next version
 abbrev pub versioned_node : Lineage → Bool → Node
@@ -69,33 +68,6 @@ object_act (act.Tag attr value) is = record { no_exec = refl; freezes_alone = λ
 object_act _ is = absurd (cc)
 
 -- what an act makes of a lineage hangs on what can be told of it
-
-act_alike : (l m : Lineage) (source : Option Node) (a : Act) → IsAlike l m → IsAlike (lineage_act l source a) (lineage_act m source a)
-act_alike l m source a same = by_act a
-  where
-    by_source : (s : Option Node) → IsAlike (option_map_or (linked l) s l) (option_map_or (linked m) s m)
-    by_source None = same
-    by_source (Some s) = linked_alike l m s same
-
-    exec_source : (s : Option Node) → IsAlike (option_map_or (with_source (frozen l)) s (frozen l)) (option_map_or (with_source (frozen m)) s (frozen m))
-    exec_source None = frozen_alike l m same
-    exec_source (Some s) = source_alike (frozen l) (frozen m) s (frozen_alike l m same)
-
-    by_act : (a : Act) → IsAlike (lineage_act l source a) (lineage_act m source a)
-    by_act act.Freeze = frozen_alike l m same
-    by_act (act.Exec out name args) = exec_source source
-    by_act (act.Show fd len) = used_alike l m same
-    by_act (act.Spawn child) = used_alike l m same
-    by_act act.Reap = used_alike l m same
-    by_act (act.Give at len) = used_alike l m same
-    by_act act.Load = used_alike l m same
-    by_act (act.Take len) = used_alike l m same
-    by_act act.Cite = used_alike l m same
-    by_act _ = by_source source
-
-pub alike_state : (session : Session) (h : List Entry) (m n : Lineage) → IsAlike m n → IsStateAfter session h n → IsStateAfter session h m
-alike_state session h m n a is =
-    subst (λ o. IsAlike m (lineage_after session h o)) (sym (ap (λ (n : Node). n.pnode) a.node)) (alike_then m n (lineage_after session h n.node.pnode) a is)
 
 pub version_low : (book : BookId) (d : DeskState) (v : VersionState) → IsVersioned book d v → IsSound book.session → IsLegal book.session d.seen → v.lineage.node.version < 2 ^ 63
 version_low book d v is sound legal =
@@ -149,7 +121,7 @@ module _ (session : Session) (desk : List Entry) (e : Entry) (l : Lineage) (sour
       some = takes_some ∙ ap is_some at
 
       takes : out_of e.act ≡ None → ⊥
-      takes none = differ (sym (ap (λ o. option_map_or (λ out. true) o false) none) ∙ some)
+      takes none = false≢true (sym (ap (λ o. option_map_or (λ out. true) o false) none) ∙ some)
 
       calm : always_freezes e.act ≡ false
       calm = by_test (always_freezes e.act) refl
@@ -295,10 +267,10 @@ module _ (book : BookId) (line : List Entry) (d : DeskState) (v : VersionState) 
 -- what no such entry is
 
 pub no_finish : (a : Act) → is_object_act a ≡ true → ¬ (a ≡ act.Finish)
-no_finish a is at = differ (sym (ap (λ (x : Act). is_object_act x) at) ∙ is)
+no_finish a is at = false≢true (sym (ap (λ (x : Act). is_object_act x) at) ∙ is)
 
 pub no_birth : (a : Act) → is_object_act a ≡ true → (out : ℕ) (descriptors : Held) → ¬ (a ≡ act.Born out descriptors)
-no_birth a is out descriptors at = differ (sym (ap (λ (x : Act). is_object_act x) at) ∙ is)
+no_birth a is out descriptors at = false≢true (sym (ap (λ (x : Act). is_object_act x) at) ∙ is)
 
 pub no_kept : (a : Act) → is_object_act a ≡ true → (fd : ℕ) → ¬ (a ≡ act.Kept fd)
-no_kept a is fd at = differ (sym (ap (λ (x : Act). is_object_act x) at) ∙ is)
+no_kept a is fd at = false≢true (sym (ap (λ (x : Act). is_object_act x) at) ∙ is)

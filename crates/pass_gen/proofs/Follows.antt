@@ -1,9 +1,8 @@
 -- The lines of a generated trace may follow each other.
-use Rattle.std.proofs.Common.{◌≡◌, ℕ, zero, suc, ◌+◌, ◌-◌, ◌/◌, ◌%◌, ◌<◌, ◌≤◌, Bool, true, false, not, ◌&&◌, cond, eqb, leb, List, [], ◌∷◌, ◌++◌, map, replicate, codes, Some, None, inl, inr, refl, sym, ◌∙◌, subst, arith, append_assoc, append-nil}
+use Rattle.std.proofs.Common.{◌≡◌, ℕ, zero, suc, ◌+◌, ◌-◌, ◌/◌, ◌%◌, ◌<◌, ◌≤◌, Bool, true, false, not, ◌&&◌, cond, eqb, leb, List, [], ◌∷◌, ◌++◌, map, replicate, codes, Some, None, inl, inr, refl, sym, subst, arith, append_assoc, append-nil}
 use Rattle.std.specs.List.{range_with_len, list_any}
-use Rattle.std.proofs.lemmas.Bool.{agree_below_at, or_left, or_right, cases_lt}
+use Rattle.std.proofs.lemmas.Bool.{agree_below_at, or_right, cases_lt}
 use Rattle.std.proofs.lemmas.List.{get_or-replicate, length-replicate, get_or_past}
-use Rattle.std.proofs.lemmas.List.Folds.{list_any-append}
 use Rattle.pass_trace.specs.declared.trace.Command.{Command}
 use Rattle.pass_trace.specs.declared.trace.Command.TheVariants as command
 use Rattle.pass_trace.specs.declared.trace.Payload.TheVariants.{Given}
@@ -12,6 +11,8 @@ use Rattle.pass_trace.specs.declared.trace.TraceReason.TheVariants as reason
 use Rattle.pass_trace.specs.Ranges.{IsPayload, IsGood, IsGoodLine}
 use Rattle.pass_trace.specs.Rules.{forks, forks_as, is_there, may_call, creates, count_created, rule_of, LinesFollow}
 use Rattle.pass_gen.specs.Generated.{line, word_at, child_at, length_of, transfer_of, command_of, first_lines, drawn_lines, last_lines, generated}
+use Rattle.pass_entry.proofs.Lists.{of_both}
+use Rattle.pass_entry.proofs.Places.{any_more}
 
 LinesFollow-append : (earlier xs ys : List TraceLine) → LinesFollow earlier xs → LinesFollow (earlier ++ xs) ys → LinesFollow earlier (xs ++ ys)
 LinesFollow-append earlier [] ys f g = subst (λ e. LinesFollow e ys) (append-nil earlier) g
@@ -23,13 +24,10 @@ record HasChildren (earlier : List TraceLine) : Type 0 where
   there : (child : ℕ) → child < 7 → list_any (forks (2 + child)) earlier ≡ true
   own : (child : ℕ) → child < 7 → list_any (forks_as 1 (2 + child)) earlier ≡ true
 
-stays : (p : TraceLine → Bool) (xs ys : List TraceLine) → list_any p xs ≡ true → list_any p (xs ++ ys) ≡ true
-stays p xs ys h = list_any-append p xs ys ∙ or_left (list_any p xs) (list_any p ys) h
-
 HasChildren-append : (xs ys : List TraceLine) → HasChildren xs → HasChildren (xs ++ ys)
 HasChildren-append xs ys h = record {
-  there = λ child small. stays (forks (2 + child)) xs ys (h.there child small);
-  own = λ child small. stays (forks_as 1 (2 + child)) xs ys (h.own child small);
+  there = λ child small. any_more (forks (2 + child)) xs ys (h.there child small);
+  own = λ child small. any_more (forks_as 1 (2 + child)) xs ys (h.own child small);
 }
 
 HasChildren-first : HasChildren first_lines
@@ -81,15 +79,11 @@ IsQuiet-write len byte short small = record { good = (omega arith, IsPayload-rep
 IsQuiet-seek : (off : ℕ) → off ≤ 65535 → IsQuiet (command.Seek 3 off)
 IsQuiet-seek off near = record { good = (omega arith, omega (arith, near)); makes = refl; may = λ earlier process. refl }
 
-either : (P : Command → Type 0) (b : Bool) (x y : Command) → P x → P y → P (cond b x y)
-either P true x y p q = p
-either P false x y p q = q
-
 IsQuiet-drawn : (i word : ℕ) → IsQuiet (command_of i word)
 IsQuiet-drawn i word =
     let short : length_of word ≤ 4096 = omega arith in
-    let transfer = either IsQuiet (eqb (word % 2) 0) (command.Read 3 (length_of word)) (command.Write 3 (Given (replicate (length_of word) (word / 8192 % 256)))) (IsQuiet-read (length_of word) (omega arith) short) (IsQuiet-write (length_of word) (word / 8192 % 256) short (omega arith)) in
-    either IsQuiet (eqb (i % 2) 0) (command.Seek 3 (word % 65536)) (transfer_of word) (IsQuiet-seek (word % 65536) (omega arith)) transfer
+    let transfer = of_both IsQuiet (eqb (word % 2) 0) (command.Read 3 (length_of word)) (command.Write 3 (Given (replicate (length_of word) (word / 8192 % 256)))) (IsQuiet-read (length_of word) (omega arith) short) (IsQuiet-write (length_of word) (word / 8192 % 256) short (omega arith)) in
+    of_both IsQuiet (eqb (i % 2) 0) (command.Seek 3 (word % 65536)) (transfer_of word) (IsQuiet-seek (word % 65536) (omega arith)) transfer
 
 -- no reason against a line whose process is there, that may call and makes nothing
 fits : (a b c d : Bool) → a ≡ true → b ≡ true → c ≡ false → cond (not (a && b)) (Some reason.Process) (cond (c && d) (Some reason.Many) None) ≡ None

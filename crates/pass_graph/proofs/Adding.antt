@@ -1,6 +1,6 @@
 -- The tables of a list become those of the list with one more record.
 use Rattle.std.proofs.Common.{ℕ, ◌≡◌, ◌≤◌, ◌<◌, ◌+◌, ◌==◌, Bool, true, false, not, ◌&&◌, ◌||◌, refl, sym, ap, ◌∙◌, List, [], ◌∷◌, ◌++◌, length, arith, cond, min, subst, unwrap_or}
-use Rattle.std.specs.Prelude.{Option, Some, None, is_some, nat_eq, nat_lt, nat_le, bytes_eq, count_by, option_map, if◌then◌else◌}
+use Rattle.std.specs.Prelude.{Some, None, nat_eq, nat_lt, nat_le, bytes_eq, count_by, option_map, if◌then◌else◌}
 use Rattle.std.specs.Option.{option_map_or}
 use Rattle.std.specs.List.{list_any}
 use Rattle.std.specs.Cmp.Lexicographic.{nat_list_eq_equiv}
@@ -21,23 +21,20 @@ use Rattle.pass_entry.specs.declared.objects.Kind.{Kind}
 use Rattle.pass_entry.specs.declared.objects.Kind.TheVariants as kind
 use Rattle.pass_entry.specs.declared.record.Record.{Record}
 use Rattle.pass_entry.specs.declared.record.Record.TheVariants as log
-use Rattle.pass_entry.specs.declared.record.FlawReason.{FlawReason}
 use Rattle.pass_entry.specs.declared.record.FlawReason.TheVariants as flaw
+use Rattle.pass_entry.proofs.Variants.{none_of}
 use Rattle.pass_plain.specs.Registries.{is_limited, same_kind}
 use Rattle.std.proofs.lemmas.Bool.Decides.{nat_tests}
 use Rattle.pass_plain.specs.Versions.{same_node}
 use Rattle.pass_plain.specs.WellLogged.{kind_look, kind_of, version_look, current_of, size_look, size_of, name_look, last_name_of, ceiling_look, ceiling_of, has_kind, names_other, has_source, is_input, is_known, is_file_of, flaw_if, flaw_of}
-use Rattle.pass_plain.proofs.Lists.{same_numbers, same_itself}
+use Rattle.pass_plain.proofs.Lists.{same_numbers, same_itself, or_none}
+use Rattle.pass_plain.proofs.Flaws.{unflawed}
 use Rattle.pass_graph.specs.declared.logged.Told.{Told}
 use Rattle.pass_graph.specs.declared.logged.Logged.{Logged}
 use Rattle.pass_graph.specs.Logged.{Summarizes, told, same_pair}
 
 abbrev Objects : Type 0
 Objects = HashMap ℕ Told (BuildHasherDefault FoldHasher)
-
-or_nothing : (b : Bool) → b || false ≡ b
-or_nothing true = refl
-or_nothing false = refl
 
 module _ (list : List Record) (r : Record) where
   abbrev more : List Record
@@ -62,7 +59,7 @@ module _ (list : List Record) (r : Record) where
   any_more p = list_any-append p list (r ∷ [])
 
   any_same : (p : Record → Bool) → p r ≡ false → list_any p more ≡ list_any p list
-  any_same p no_more = any_more p ∙ ap (λ b. list_any p list || (b || false)) no_more ∙ or_nothing (list_any p list)
+  any_same p no_more = any_more p ∙ ap (λ b. list_any p list || (b || false)) no_more ∙ or_none (list_any p list)
 
   count_more : (p : Record → Bool) → count_by p more ≡ count_by p list + cond (p r) 1 0
   count_more p = sum_by_push (λ x. cond (p x) 1 0) list r
@@ -74,14 +71,6 @@ module _ (list : List Record) (r : Record) where
       ∙ ap (λ n. option_map (λ k. record { kind = k; version = version_look q (current_of list q) r; size = n }) (kind_look q (kind_of list q) r)) (size_more q)
 
 -- a test that finds no flaw
-
-pub unflawed : (b : Bool) (reason : FlawReason) (next : Option FlawReason) → flaw_if b reason next ≡ None → (b ≡ false) × (next ≡ None)
-unflawed true reason next h = absurd (cc)
-unflawed false reason next h = (refl, h)
-
-no_kind : (o : Option Kind) → is_some o ≡ false → o ≡ None
-no_kind None none = refl
-no_kind (Some k) none = absurd (cc)
 
 nothing_more : (n : ℕ) → n ≡ n + 0
 nothing_more n = omega arith
@@ -97,7 +86,7 @@ module _ (old : Logged) (list : List Record) (s : Summarizes old list) (p : ℕ)
   made = record { kind = k; version = 1; size = 0 }
 
   new : kind_of list p ≡ None
-  new = no_kind (kind_of list p) (unflawed (is_known list p) _ _ fine).0
+  new = none_of (kind_of list p) (unflawed (is_known list p) _ _ fine).0
 
   object_told : (objects : Objects) → ((q : ℕ) → get nat_eq objects q ≡ cond (p == q) (Some made) (get nat_eq old.objects q)) → (q : ℕ) → get nat_eq objects q ≡ told (list ++ log.Object p k ∷ []) q
   object_told objects after q = after q ∙ at_test (p == q) refl ∙ sym (told_more list (log.Object p k) q)
@@ -166,10 +155,7 @@ module _ (old : Logged) (list : List Record) (s : Summarizes old list) (p : ℕ)
 
 -- a new edge
 
-same_turned : (a b : Node) → same_node a b ≡ same_node b a
-same_turned a b = grind (arith, nat_tests)
-
-first_or : (b c : Bool) → cond b true c ≡ (c || (b || false))
+pub first_or : (b c : Bool) → cond b true c ≡ (c || (b || false))
 first_or true true = refl
 first_or true false = refl
 first_or false true = refl
@@ -223,7 +209,7 @@ Texts = HashMap ℕ (List ℕ) (BuildHasherDefault FoldHasher)
 abbrev Holders : Type 0
 Holders = HashMap (Vec ℕ Global) ℕ (BuildHasherDefault FoldHasher)
 
-abbrev same_key : Vec ℕ Global → Vec ℕ Global → Bool
+abbrev pub same_key : Vec ℕ Global → Vec ℕ Global → Bool
 same_key a b = bytes_eq a.items b.items
 
 abbrev is_text : List ℕ → Vec ℕ Global → Bool

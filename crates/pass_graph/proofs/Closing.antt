@@ -1,5 +1,5 @@
 -- The place at which a record first closes a node, with one more record.
-use Rattle.std.proofs.Common.{ℕ, ◌≡◌, ◌≤◌, ◌<◌, ◌+◌, Bool, true, false, ◌||◌, inl, inr, subst, refl, sym, ap, ◌∙◌, List, [], ◌∷◌, ◌++◌, length, arith, cond, length-append}
+use Rattle.std.proofs.Common.{ℕ, ◌≡◌, ◌≤◌, ◌<◌, ◌+◌, Bool, true, false, inl, inr, subst, refl, sym, ap, ◌∙◌, List, [], ◌∷◌, ◌++◌, length, arith, cond}
 use Rattle.std.specs.Prelude.{Option, Some, None, is_some, nat_lt, map, unwrap_or, Contains, if◌then◌else◌}
 use Rattle.std.specs.Option.{option_or}
 use Rattle.std.specs.List.{list_any, position, position_or_len}
@@ -7,25 +7,17 @@ use Rattle.std.proofs.lemmas.Bool.Decides.{nat_tests}
 use Rattle.pass_entry.specs.declared.objects.Node.{Node}
 use Rattle.pass_entry.specs.declared.record.Record.{Record}
 use Rattle.pass_plain.specs.Versions.{same_node}
-use Rattle.pass_plain.specs.WellLogged.{has_source}
 use Rattle.std.specs.HashMap.{HashMap, get}
 use Rattle.std.specs.declared.hash.FoldHasher.{FoldHasher}
 use Rattle.std.specs.declared.hash.BuildHasherDefault.{BuildHasherDefault}
 use Rattle.pass_graph.specs.Check.{AreFirst}
-use Rattle.pass_graph.specs.ListRanks.{begins_after, list_rank, graph_nodes, ranks_of, FallAlong}
+use Rattle.pass_graph.specs.ListRanks.{list_rank, graph_nodes, ranks_of, FallAlong}
 use Rattle.pass_plain.specs.WellLogged.{IsWellLogged}
 use Rattle.std.proofs.lemmas.List.Elements.{Contains-append_cases, Contains-push_cases}
+use Rattle.std.proofs.lemmas.Bool.{false_from_ne_true, lt-ltb, le-ltb}
+use Rattle.std.proofs.lemmas.List.{length_push}
 use Rattle.pass_graph.proofs.Noding.{same_node_is}
-use Rattle.pass_graph.proofs.Ranking.{first_of, stays_first, first_next, some_first, not_any, list_rank_law}
-
-below_yes : (a b : ℕ) → a < b → nat_lt a b ≡ true
-below_yes a b h = grind (arith, nat_tests)
-
-below_no : (a b : ℕ) → b ≤ a → nat_lt a b ≡ false
-below_no a b h = grind (arith, nat_tests)
-
-length_more : {X : Type 0} (xs : List X) (x : X) → length (xs ++ x ∷ []) ≡ length xs + 1
-length_more xs x = simp length-append (omega arith)
+use Rattle.pass_graph.proofs.Ranking.{first_of, stays_first, first_next, some_first, list_rank_law, closes}
 
 module _ {X : Type 0} (p : X → Bool) (xs : List X) (x : X) where
   abbrev first : ℕ
@@ -37,18 +29,18 @@ module _ {X : Type 0} (p : X → Bool) (xs : List X) (x : X) where
   found : first < length xs → position p (xs ++ x ∷ []) ≡ Some first
   found within =
       let stays : after ≡ first = stays_first p xs x within in
-      let n = length_more xs x in
-      ap (λ b. cond b (Some after) None) (below_yes after (length (xs ++ x ∷ [])) (omega (arith, stays, within, n))) ∙ ap (λ k. Some k) stays
+      let n = length_push xs x in
+      ap (λ b. cond b (Some after) None) (lt-ltb after (length (xs ++ x ∷ [])) (omega (arith, stays, within, n))) ∙ ap (λ k. Some k) stays
 
   not_found : list_any p xs ≡ false → (b : Bool) → p x ≡ b → position p (xs ++ x ∷ []) ≡ (if b then Some (length xs) else None)
   not_found none true passes =
       let next : after ≡ length xs = first_next p xs x none ∙ ap (λ b. cond b (length xs) (length xs + 1)) passes in
-      let n = length_more xs x in
-      ap (λ b. cond b (Some after) None) (below_yes after (length (xs ++ x ∷ [])) (omega (arith, next, n))) ∙ ap (λ k. Some k) next
+      let n = length_push xs x in
+      ap (λ b. cond b (Some after) None) (lt-ltb after (length (xs ++ x ∷ [])) (omega (arith, next, n))) ∙ ap (λ k. Some k) next
   not_found none false fails =
       let next : after ≡ length xs + 1 = first_next p xs x none ∙ ap (λ b. cond b (length xs) (length xs + 1)) fails in
-      let n = length_more xs x in
-      ap (λ b. cond b (Some after) None) (below_no after (length (xs ++ x ∷ [])) (omega (arith, next, n)))
+      let n = length_push xs x in
+      ap (λ b. cond b (Some after) None) (le-ltb after (length (xs ++ x ∷ [])) (omega (arith, next, n)))
 
   pub position_more : position p (xs ++ x ∷ []) ≡ option_or (position p xs) (if p x then Some (length xs) else None)
   position_more = at_test (nat_lt first (length xs)) refl
@@ -57,7 +49,7 @@ module _ {X : Type 0} (p : X → Bool) (xs : List X) (x : X) where
       at_test true is = found (grind (arith, nat_tests))
       at_test false is =
           let past : length xs ≤ first = grind (arith, nat_tests) in
-          not_found (not_any (list_any p xs) (λ any. let z = some_first p xs any in omega (arith, z, past))) (p x) refl
+          not_found (false_from_ne_true (list_any p xs) (λ any. let z = some_first p xs any in omega (arith, z, past))) (p x) refl
 
 -- the place of the first one, or the length
 pub place_or_length : {X : Type 0} (p : X → Bool) (xs : List X) → unwrap_or (position p xs) (length xs) ≡ position_or_len p xs
@@ -66,9 +58,6 @@ place_or_length p xs = at_test (nat_lt (position_or_len p xs) (length xs)) refl
     at_test : (b : Bool) → nat_lt (position_or_len p xs) (length xs) ≡ b → unwrap_or (cond b (Some (position_or_len p xs)) None) (length xs) ≡ position_or_len p xs
     at_test true is = refl
     at_test false is = let most = first_of p xs in let past : length xs ≤ position_or_len p xs = grind (arith, nat_tests) in omega (arith, most, past)
-
-abbrev closes : Node → Record → Bool
-closes n r = has_source n r || begins_after n r
 
 abbrev Places : Type 0
 Places = HashMap Node ℕ (BuildHasherDefault FoldHasher)

@@ -1,8 +1,8 @@
 -- The records of a file's content, and those that follow an exec, may stand.
-use Rattle.std.proofs.Common.{ℕ, ◌≡◌, ◌<◌, ◌+◌, ◌-◌, ◌*◌, Bool, true, false, ◌&&◌, inl, inr, refl, sym, ap, ◌∙◌, subst, List, [], ◌∷◌, ◌++◌, length, take, map, arith, cond, length-append}
-use Rattle.std.specs.Prelude.{filter, drop, replicate, nat_lt, codes}
+use Rattle.std.proofs.Common.{ℕ, ◌≡◌, ◌<◌, ◌+◌, ◌-◌, ◌*◌, Bool, true, false, ◌&&◌, inl, inr, refl, sym, ap, ◌∙◌, subst, List, [], ◌∷◌, ◌++◌, length, map, arith, cond}
+use Rattle.std.specs.Prelude.{filter, nat_lt, codes}
 use Rattle.std.specs.List.{range_with_len}
-use Rattle.std.proofs.lemmas.List.{length-replicate, length-take-le}
+use Rattle.std.proofs.lemmas.Bool.{or_cases}
 use Rattle.pass_entry.specs.declared.entry.Entry.{Entry}
 use Rattle.pass_entry.specs.declared.entry.Act.{Act}
 use Rattle.pass_entry.specs.declared.entry.Act.TheVariants as act
@@ -12,36 +12,23 @@ use Rattle.pass_entry.specs.declared.objects.Kind.TheVariants as kind
 use Rattle.pass_entry.specs.declared.record.Record.{Record}
 use Rattle.pass_entry.specs.declared.record.Record.TheVariants as log
 use Rattle.pass_plain.specs.Sessions.{Session}
-use Rattle.pass_plain.specs.Files.{file_after, file_act, extended, written}
-use Rattle.pass_plain.specs.Registries.{Registry, Exists, same_kind}
+use Rattle.pass_plain.specs.Files.{file_after, file_act}
+use Rattle.pass_plain.specs.Registries.{Registry, Exists}
 use Rattle.pass_plain.specs.Lawful.{suits}
 use Rattle.pass_plain.specs.Records.{extra_records, content_records, digest_of, is_digested, is_written, has_row, args_records}
 use Rattle.pass_plain.specs.WellLogged.{size_of}
 use Rattle.pass_plain.proofs.Lists.{true_left, true_right, below_is, same_itself}
-use Rattle.pass_graph.proofs.Telling.{true_or}
+use Rattle.pass_plain.proofs.Sizes.{written_begins}
+use Rattle.pass_plain.proofs.Objects.{file_kind}
 use Rattle.pass_graph.proofs.Accepting.{IsTold, fine_one, size_more, size_told, size_fine, digest_told, digest_fine, attr_told, attr_fine}
 use Rattle.pass_graph.proofs.Naming.{Stepped, stepped-append, nothing_stepped}
-
--- a block that is written begins below the end of the file
-written_low : (a : Act) (content : List ℕ) (block : ℕ) → is_written a block ≡ true → block * 4096 < length (file_act content a)
-written_low (act.Put out at []) content block is = absurd (let z : false ≡ true = is in cc)
-written_low (act.Put out at (b ∷ bytes)) content block is =
-    let len : ℕ = length (b ∷ bytes) in
-    let front : block * 4096 < at + len = below_is _ _ (true_right (nat_lt 0 len) (nat_lt (block * 4096) (at + len)) (true_left (nat_lt 0 len && nat_lt (block * 4096) (at + len)) _ is)) in
-    let long : length (extended content at) ≡ length content + (at - length content) = length-append content (replicate (at - length content) 0) ∙ ap (λ n. length content + n) (length-replicate (at - length content) 0) in
-    let head : length (take at (extended content at)) ≡ at = length-take-le at (extended content at) (omega (arith, long)) in
-    let whole : length (written content at (b ∷ bytes)) ≡ length (take at (extended content at) ++ (b ∷ bytes)) + length (drop (at + len) content) =
-    length-append (take at (extended content at) ++ (b ∷ bytes)) (drop (at + len) content) in
-    let rest = length-append (take at (extended content at)) (b ∷ bytes) in
-    omega (arith, front, head, whole, rest)
-written_low _ content block is = absurd (cc)
 
 digested_low : (session : Session) (past : List Entry) (e : Entry) (block : ℕ) → is_digested session past e block ≡ true → block * 4096 < length (file_act (file_after session past e.what) e.act)
 digested_low session past e block is =
     let old : List ℕ = file_after session past e.what in
     let new : List ℕ = file_act old e.act in
-    elim (true_or (is_written e.act block) _ is) [
-      | inl wrote ↦ written_low e.act old block wrote
+    elim (or_cases (is_written e.act block) _ is) [
+      | inl wrote ↦ written_begins e.act old block wrote
       | inr had ↦ below_is _ _ (true_right (has_row session past e.what block) (nat_lt (block * 4096) (length new)) (true_left (has_row session past e.what block && nat_lt (block * 4096) (length new)) _ had))
     ]
 
@@ -76,10 +63,6 @@ module _ (session : Session) (past : List Entry) (e : Entry) (list : List Record
   args_step n k [] has level = nothing_stepped session list r version t
   args_step n k (b ∷ args) has level =
       (fine_one list (log.Attr n (codes "ARGV") (b ∷ args)) (attr_fine session list r version t n (codes "ARGV") (b ∷ args) k has level), attr_told session list r version t n (codes "ARGV") (b ∷ args))
-
-file_kind : (k : Kind) → same_kind k kind.File ≡ true → k ≡ kind.File
-file_kind kind.File h = refl
-file_kind _ h = absurd (cc)
 
 -- what follows the records of an IN
 pub extra_step : (session : Session) (past : List Entry) (e : Entry) (list : List Record) (r : Registry) (version : ℕ → ℕ) → IsTold session list r version

@@ -8,24 +8,22 @@ use Rattle.pass_entry.specs.declared.entry.Entry.{Entry}
 use Rattle.pass_entry.specs.declared.objects.Node.{Node}
 use Rattle.pass_entry.specs.declared.record.Record.TheVariants as log
 use Rattle.std.proofs.lemmas.Option.{slice_get_within}
+use Rattle.std.proofs.lemmas.Bool.{or_cases}
 use Rattle.pass_plain.specs.Sessions.{Session, is_opened, opening_version}
 use Rattle.pass_plain.specs.Legal.{IsLegal}
 use Rattle.pass_plain.specs.Versions.{same_node, nodes_of, source_in, is_used, node_in, version_in}
 use Rattle.pass_plain.specs.Records.{records_of, entry_records}
 use Rattle.pass_plain.specs.Graphs.{IsEdge}
 use Rattle.pass_plain.specs.Graphs.IsEdge.{input as by_input, version as by_version}
-use Rattle.pass_plain.proofs.Lists.{true_left, true_right, both_true, same_itself, is_place}
+use Rattle.pass_plain.proofs.Lists.{true_left, true_right, both_true, same_itself, is_place, le_or_above, some_is}
 use Rattle.pass_graph.specs.Places.{is_out_at, is_fresh_at, is_freeze_at}
 use Rattle.pass_graph.specs.Ranks.{has_node, next_version, closes, rank_of}
-use Rattle.pass_graph.proofs.Stories.{IsStory, IsBegun, mono, le_cases}
+use Rattle.pass_graph.proofs.Stories.{IsStory, IsBegun, mono}
 use Rattle.pass_graph.proofs.Falling.{Edge, Ends, IsRank}
 use Rattle.pass_graph.proofs.Falling.Edge.{took, froze}
 use Rattle.pass_graph.proofs.Standing.{version_at, now, node_stands, version_own, version_past}
-use Rattle.pass_graph.proofs.Telling.{what_at, named_at, told, is_told, in_at, IsInAt, takes_past, fresh_freezes, same_parts, parts_same, true_or, what_is, fresh_is, freeze_is}
+use Rattle.pass_graph.proofs.Telling.{what_at, named_at, told, is_told, in_at, IsInAt, takes_past, fresh_freezes, same_parts, parts_same, what_is, fresh_is, freeze_is}
 use Rattle.pass_graph.proofs.Recording.{recorded, stands_recorded, version_recorded, input_recorded, record_version, record_input}
-
-some_node : (a b : Node) → ◌≡◌ {A = Option Node} (Some a) (Some b) → a ≡ b
-some_node a b e = cc
 
 -- the first place of a range that passes
 
@@ -38,7 +36,7 @@ first_below p a (suc n) k short is = at_test (p a) refl (λ j below passes. firs
 
     at_test : (b : Bool) → p a ≡ b → ((j : ℕ) → j < n → p (a + 1 + j) ≡ true → rest ≤ j) → cond (not b) (1 + rest) 0 ≤ k
     at_test true t later = omega arith
-    at_test false t later = elim (le_cases 1 k) [
+    at_test false t later = elim (le_or_above 1 k) [
       | inr none ↦ absurd (let z : true ≡ false = sym is ∙ ap p (let e : a + k ≡ a = omega (arith, none) in e) ∙ t in cc)
       | inl some ↦
           let j : ℕ = k - 1 in
@@ -92,7 +90,7 @@ module _ (session : Session) (history : List Entry) (legal : IsLegal session his
         let i : IsInAt history k = in_at session history legal k within ((is_told session history legal first fits (λ o. 0)).news k within new) in
         let same_entry : i.entry ≡ e = some_entry _ _ (sym i.stands ∙ at) in
         let from : record { pnode = i.source.what; version = version i.source.what i.out } ≡ b =
-        some_node _ _ (sym (takes_past session history legal first fits k k i (omega (arith, within)) (omega arith)) ∙ ap (λ f. source_in (nodes_of session (take k history)) f) same_entry ∙ given) in
+        some_is _ _ (sym (takes_past session history legal first fits k k i (omega (arith, within)) (omega arith)) ∙ ap (λ f. source_in (nodes_of session (take k history)) f) same_entry ∙ given) in
         let source : i.source.what ≡ b.pnode = ap (λ (n : Node). n.pnode) from in (
           new,
           object,
@@ -153,7 +151,7 @@ module _ (session : Session) (history : List Entry) (legal : IsLegal session his
     closes_ends opened a k within is =
         let (e, at) = is_place history k within in
         let s : IsStory (told first opened session history) = is_told session history legal first fits opened in
-        elim (true_or (is_out_at history k && has_node session history a k) _ is) [
+        elim (or_cases (is_out_at history k && has_node session history a k) _ is) [
           | inl out ↦
               let uses : is_out_at history k ≡ true = true_left _ _ out in
               let (object, level) = same_parts (now session history k e) a (sym (node_is k e a at) ∙ true_right (is_out_at history k) _ out) in

@@ -3,9 +3,10 @@ use Rattle.std.proofs.Common.{ℕ, ◌≡◌, ◌≤◌, ◌<◌, suc, Bool, tru
 use native.Mathlib.Decide.{ℕ_discrete}
 use Rattle.pass_entry.specs.declared.objects.Node.{Node}
 use Rattle.pass_entry.specs.declared.record.Record.{Record}
+use Rattle.pass_entry.proofs.Lists.{le_or_above}
 use Rattle.pass_plain.specs.Graphs.{IsEdge, HasPath, IsAcyclic}
 use Rattle.pass_plain.specs.Graphs.HasPath.{edge, step}
-use Rattle.pass_graph.proofs.Stories.{Story, IsStory, IsBegun, mono, step_le, is_later, le_cases}
+use Rattle.pass_graph.proofs.Stories.{Story, IsStory, IsBegun, mono, step_le, is_later}
 
 -- a node of the opening
 abbrev pub Within : (ℕ → ℕ) → Node → Type 0
@@ -40,7 +41,7 @@ clash b t f = absurd (true≢false (sym t ∙ f))
 -- nothing marks or ends the version that an entry gave to its object, up to that entry
 pub after_taking : (s : Story) → IsStory s → (a : Node) (k : ℕ) → k < s.size → s.fresh k ≡ true → s.what k ≡ a.pnode → s.version a.pnode (suc k) ≡ a.version → (j : ℕ) → Ends s a j → k < j
 after_taking s h a k l f e ev j ends =
-    elim (le_cases j k) [
+    elim (le_or_above j k) [
       | inr lt ↦ lt
       | inl le ↦
           let o : ℕ = a.pnode in
@@ -64,7 +65,7 @@ after_taking s h a k l f e ev j ends =
 
 after_freezing : (s : Story) → IsStory s → (a : Node) (k : ℕ) → k < s.size → s.freezes k ≡ true → s.what k ≡ a.pnode → s.version a.pnode (suc k) ≡ a.version → (j : ℕ) → Ends s a j → k < j
 after_freezing s h a k l fr e ev j ends =
-    elim (le_cases j k) [
+    elim (le_or_above j k) [
       | inr lt ↦ lt
       | inl le ↦
           let m1 : s.version a.pnode j ≤ s.version a.pnode k = mono s h a.pnode j k le (omega arith) in

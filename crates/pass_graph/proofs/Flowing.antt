@@ -3,9 +3,10 @@ use Rattle.std.proofs.Common.{ℕ, ◌≡◌, ◌≤◌, ◌<◌, suc, zero, tru
 use native.Mathlib.Decide.{ℕ_discrete}
 use Rattle.pass_entry.specs.declared.objects.Node.{Node}
 use Rattle.pass_entry.specs.declared.record.Record.{Record}
+use Rattle.pass_entry.proofs.Lists.{le_or_above}
 use Rattle.pass_plain.specs.Graphs.{IsEdge, HasPath}
 use Rattle.pass_plain.specs.Graphs.HasPath.{edge, step}
-use Rattle.pass_graph.proofs.Stories.{Story, IsStory, IsBegun, First, Left, mono, step_le, first, left_by, le_cases}
+use Rattle.pass_graph.proofs.Stories.{Story, IsStory, IsBegun, First, Left, mono, step_le, first, left_by}
 use Rattle.pass_graph.proofs.Falling.{Edge, Within, IsOpening, Splits, stays}
 use Rattle.pass_graph.proofs.Falling.Edge.{took, froze}
 
@@ -41,14 +42,14 @@ pub record Before (s : Story) (o x w q : ℕ) : Type 0 where
 -- a marked version took each of its sources before its first mark
 pub before_mark : (s : Story) → IsStory s → (k o x q : ℕ) → k < s.size → s.is_in k ≡ true → s.what k ≡ o → s.what (s.out k) ≡ x → q < s.size → s.is_out q ≡ true → s.what q ≡ o → s.version o (suc k) ≤ s.version o q → Before s o x (s.version x (s.out k)) q
 before_mark s h k o x q l i e ex lq out eq le =
-    elim (le_cases q k) [
+    elim (le_or_above q k) [
       | inr lt ↦ record { place = k; below = lt; inside = l; is_in = i; what = e; source = ex; source_version = refl }
       | inl ge ↦
           let g : First s k o (s.version o (suc k)) x (s.version x (s.out k)) = first s h k o x l i e ex in
           let m1 : s.version o q ≤ s.version o k = mono s h o q k ge (omega arith) in
           let m2 : s.version o k ≤ s.version o (suc k) = (step_le s h o k l).0 in
           let lg : g.place < s.size = omega (arith, g.below) in
-          let found : g.place < q = elim (le_cases q g.place) [
+          let found : g.place < q = elim (le_or_above q g.place) [
             | inr lt ↦ lt
             | inl q_le ↦ elim (ℕ_discrete q g.place) [
               | yes same ↦ absurd (true≢false (sym g.is_in ∙ (ap s.is_in (sym same) ∙ (h.outs q lq out).1)))
@@ -99,7 +100,7 @@ joins (step e p) q = step e (joins p q)
 -- a version and the one before it
 step_down : (s : Story) → IsStory s → IsBegun s → (before all : List Record) → IsOpening s.opened before → Holds s before all → (o v : ℕ) → 1 ≤ v → suc v ≤ s.version o s.size → IsEdge all (record { pnode = o; version = suc v }) (record { pnode = o; version = v })
 step_down s h g before all op holds o v one_le le =
-    elim (le_cases (suc v) (s.opened o)) [
+    elim (le_or_above (suc v) (s.opened o)) [
       | inl opened_v ↦ holds.0 _ _ (op.versions (record { pnode = o; version = suc v }) (record { pnode = o; version = v }) refl refl one_le opened_v)
       | inr new ↦
           let f : Left s o v = left_by s h g o v s.size (omega arith) (omega arith) le in

@@ -8,8 +8,8 @@ use Rattle.pass_entry.specs.declared.record.FlawReason.TheVariants as flaw
 use Rattle.pass_entry.specs.Lengths.{record_length}
 use Rattle.pass_plain.specs.WellLogged.{version_look, current_of, ceiling_look, ceiling_of, flaw_of}
 use Rattle.pass_plain.proofs.Lists.{or_false, not_below, same_numbers}
+use Rattle.pass_plain.proofs.Flaws.{unflawed}
 use Rattle.pass_graph.specs.Bounds.{records_length, CeilingLengthLaw, VersionLengthLaw, CeilingRoomLaw, VersionRoomLaw}
-use Rattle.pass_graph.proofs.Logging.{unflawed}
 use Rattle.pass_graph.proofs.Accepting.{current_more, ceiling_more}
 use Rattle.pass_graph.proofs.Ranking.{good_version, logged_induction}
 

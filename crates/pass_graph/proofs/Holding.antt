@@ -4,6 +4,7 @@ use Rattle.std.specs.Prelude.{Option, Some, None, IfSome, bytes_eq, fold, if◌t
 use Rattle.std.specs.Option.{option_map_or}
 use Rattle.std.specs.List.{list_any}
 use Rattle.std.proofs.lemmas.Slice.Eq.{bytes_eq-Decides}
+use Rattle.std.proofs.lemmas.Bool.{or_right, or_left}
 use Rattle.pass_entry.specs.declared.record.Record.{Record}
 use Rattle.pass_entry.specs.declared.record.Record.TheVariants as log
 use Rattle.pass_plain.specs.WellLogged.{last_name_of, name_look, names_other}
@@ -11,14 +12,6 @@ use Rattle.pass_plain.proofs.Lists.{same_numbers, same_itself, true_left, true_r
 
 same_text : (a b : List ℕ) → a ≡ b → bytes_eq a b ≡ true
 same_text a b same = (bytes_eq-Decides a b).1 same
-
-or_right : (a b : Bool) → b ≡ true → a || b ≡ true
-or_right true b h = refl
-or_right false b h = h
-
-or_left : (a b : Bool) → a ≡ true → a || b ≡ true
-or_left true b h = refl
-or_left false b h = absurd (cc)
 
 other_number : (a b : ℕ) → (a ≡ b → ⊥) → not (a == b) ≡ true
 other_number a b apart = at_test (a == b) refl

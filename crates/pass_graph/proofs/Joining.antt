@@ -15,7 +15,7 @@ use Rattle.pass_plain.specs.Flows.Chain.{one as chain_one, more as chain_more}
 use Rattle.pass_plain.specs.Graphs.{HasPath}
 use Rattle.pass_plain.specs.Joined.{IsOrigin, IsJoined}
 use Rattle.pass_plain.specs.Joined.IsJoined.{earlier as by_earlier, used as by_used, opened as by_opened, used_opened as by_used_opened}
-use Rattle.pass_plain.proofs.Lists.{is_place}
+use Rattle.pass_plain.proofs.Lists.{is_place, some_is}
 use Rattle.pass_graph.specs.Places.{is_in_at}
 use Rattle.pass_graph.proofs.Stories.{Story, IsStory}
 use Rattle.pass_graph.proofs.Flowing.{Flows, Reaches}
@@ -23,12 +23,6 @@ use Rattle.pass_graph.proofs.Flowing.Flows.{one, more}
 use Rattle.pass_graph.proofs.Flowing.Reaches.{earlier, past, flowed}
 use Rattle.pass_graph.proofs.Standing.{version_at, now, node_stands, version_own}
 use Rattle.pass_graph.proofs.Telling.{what_at, named_at, told, is_told, in_at, IsInAt, what_is, in_is, named_is}
-
-some_node : (a b : Node) → ◌≡◌ {A = Option Node} (Some a) (Some b) → a ≡ b
-some_node a b e = cc
-
-some_entry : (a b : Entry) → ◌≡◌ {A = Option Entry} (Some a) (Some b) → a ≡ b
-some_entry a b e = cc
 
 object_of : (o : Option Entry) (n : ℕ) → option_map (λ e. e.what) o ≡ Some n → (e : Entry) × (o ≡ Some e) × (e.what ≡ n)
 object_of None n h = absurd (cc)
@@ -93,7 +87,7 @@ module _ (session : Session) (history : List Entry) (legal : IsLegal session his
     node_is : (k : ℕ) (n : Node) → slice_get (nodes_of session history) k ≡ Some n → k < length history → (what_at history k ≡ n.pnode) × (version n.pnode (suc k) ≡ n.version)
     node_is k n at within =
         let (e, stands) = is_place history k within in
-        let same : now session history k e ≡ n = some_node _ _ (sym (node_stands session history k e stands) ∙ at) in
+        let same : now session history k e ≡ n = some_is _ _ (sym (node_stands session history k e stands) ∙ at) in
         let object : e.what ≡ n.pnode = ap (λ (n : Node). n.pnode) same in
         (what_is session history k e stands ∙ object, ap (λ o. version o (suc k)) (sym object) ∙ version_own session history first k e stands ∙ ap (λ (n : Node). n.version) same)
 

@@ -1,11 +1,13 @@
 -- Between two OUTs of one node its object takes nothing new.
 use Rattle.std.proofs.Common.{ℕ, ◌≡◌, ◌≤◌, ◌<◌, suc, true, false, inl, inr, sym, arith}
+use Rattle.std.proofs.lemmas.Bool.{cases_Bool}
 use Rattle.pass_graph.specs.Lawful.{IsBetween}
-use Rattle.pass_graph.proofs.Stories.{Story, IsStory, mono, bool_cases, le_cases}
+use Rattle.pass_graph.proofs.Stories.{Story, IsStory, mono}
+use Rattle.pass_entry.proofs.Lists.{le_or_above}
 
 still : (s : Story) → IsStory s → (x p q i : ℕ) → q < s.size → s.is_out p ≡ true → s.what p ≡ x → s.version x p ≡ s.version x q → p < i → i < q → s.what i ≡ x → s.fresh i ≡ false
 still s h x p q i lq out ep ev pi iq ei =
-    elim (bool_cases (s.fresh i)) [
+    elim (cases_Bool (s.fresh i)) [
       | inr f ↦ f
       | inl f ↦
           let li : i < s.size = omega arith in
@@ -20,7 +22,7 @@ still s h x p q i lq out ep ev pi iq ei =
 -- whichever stands first
 pub still_between : (s : Story) → IsStory s → (x p q i : ℕ) → p < s.size → q < s.size → s.is_out p ≡ true → s.is_out q ≡ true → s.what p ≡ x → s.what q ≡ x → s.version x p ≡ s.version x q → IsBetween p q i → s.what i ≡ x → s.fresh i ≡ false
 still_between s h x p q i lp lq outp outq ep eq ev between ei =
-    elim (le_cases p q) [
+    elim (le_or_above p q) [
       | inl le ↦ still s h x p q i lq outp ep ev (omega (arith, between.0)) (omega (arith, between.1)) ei
       | inr gt ↦ still s h x q p i lp outq eq (sym ev) (omega (arith, between.0)) (omega (arith, between.1)) ei
     ]

@@ -4,7 +4,7 @@ mod Flowing
 mod Keeping
 mod Standing
 mod Telling
-mod Recording
+pub mod Recording
 mod Edging
 mod Joining
 pub mod Logging
@@ -15,11 +15,11 @@ mod Wording
 pub mod Accepting
 mod Naming
 mod Contents
-mod Prolonging
+pub mod Prolonging
 mod Prefixing
 mod Listing
 mod Holding
-mod Adding
+pub mod Adding
 pub mod Ranking
 pub mod Noding
 mod Closing

@@ -11,18 +11,12 @@ use Rattle.pass_plain.specs.Sessions.{Session, opening_version}
 use Rattle.pass_plain.specs.Legal.{IsLegal}
 use Rattle.pass_plain.specs.Versions.{nodes_of, source_in, is_in, is_exec, is_repeated, is_fresh, is_freeze}
 use Rattle.pass_plain.specs.Records.{records_of, entry_records}
-use Rattle.pass_plain.proofs.Lists.{true_left}
+use Rattle.pass_plain.proofs.Lists.{true_left, some_is}
 use Rattle.pass_graph.specs.Places.{node_at, source_at, is_in_at, is_fresh_at, is_freeze_at}
 use Rattle.pass_graph.specs.Lawful.{VersionRecordLaw, InputRecordLaw}
 use Rattle.pass_graph.proofs.Standing.{now, node_stands}
 use Rattle.pass_graph.proofs.Telling.{in_at, IsInAt, takes_from, takes_past, in_is, fresh_is, freeze_is}
 use Rattle.pass_graph.proofs.Recording.{recorded, stands_recorded, version_recorded, input_recorded, record_version, record_input}
-
-some_node : (a b : Node) → ◌≡◌ {A = Option Node} (Some a) (Some b) → a ≡ b
-some_node a b e = cc
-
-some_entry : (a b : Entry) → ◌≡◌ {A = Option Entry} (Some a) (Some b) → a ≡ b
-some_entry a b e = cc
 
 -- an entry stands where something is true of it
 stands_there : (f : Entry → Bool) (o : Option Entry) → option_map_or f o false ≡ true → (e : Entry) × (o ≡ Some e)
@@ -41,7 +35,7 @@ module _ (session : Session) (history : List Entry) (legal : IsLegal session his
   source_same k e at here =
       let within : k < length history = slice_get_within history k e at in
       let i : IsInAt history k = in_at session history legal k within here in
-      let same : i.entry ≡ e = some_entry _ _ (sym i.stands ∙ at) in
+      let same : i.entry ≡ e = some_is _ _ (sym i.stands ∙ at) in
       ap (λ f. source_in (nodes_of session (take k history)) f) (sym same) ∙ takes_past session history legal (opening_version session.start) fits k k i (omega (arith, within)) (omega arith)
       ∙ sym (takes_from session history legal (opening_version session.start) fits k i) ∙ sym (ap (option_and_then (source_in (nodes_of session history))) i.stands)
 
@@ -57,7 +51,7 @@ module _ (session : Session) (history : List Entry) (legal : IsLegal session his
   there_version : (n : Node) (k : ℕ) → is_freeze_at session history k ≡ true → node_at session history k ≡ Some n → Contains (records_of session history) (log.Version n)
   there_version n k moved stands =
       let (e, at) = stands_there (is_freeze session (take k history) (nodes_of session (take k history))) (slice_get history k) moved in
-      let made : now session history k e ≡ n = some_node _ _ (sym (node_stands session history k e at) ∙ stands) in
+      let made : now session history k e ≡ n = some_is _ _ (sym (node_stands session history k e at) ∙ stands) in
       let there = record_version session (take k history) e (sym (freeze_is session history k e at) ∙ moved) in
       subst (λ xs. Contains (records_of session xs) (log.Version n)) whole
       (stands_recorded session history (length history) (omega arith) (log.Version n) k e (slice_get_within history k e at) at (subst (λ m. Contains (entry_records session (take k history) e) (log.Version m)) made there))
@@ -72,7 +66,7 @@ module _ (session : Session) (history : List Entry) (legal : IsLegal session his
   there_input t s k new stands from =
       let (e, at) = stands_there (is_fresh session (take k history) (nodes_of session (take k history))) (slice_get history k) new in
       let fresh : is_fresh session (take k history) (nodes_of session (take k history)) e ≡ true = sym (fresh_is session history k e at) ∙ new in
-      let made : now session history k e ≡ t = some_node _ _ (sym (node_stands session history k e at) ∙ stands) in
+      let made : now session history k e ≡ t = some_is _ _ (sym (node_stands session history k e at) ∙ stands) in
       let there = record_input session (take k history) e s fresh (source_same k e at (in_here k e at fresh) ∙ from) in
       subst (λ xs. Contains (records_of session xs) (log.Input t s)) whole
       (stands_recorded session history (length history) (omega arith) (log.Input t s) k e (slice_get_within history k e at) at (subst (λ m. Contains (entry_records session (take k history) e) (log.Input m s)) made there))

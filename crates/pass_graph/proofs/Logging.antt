@@ -1,24 +1,25 @@
 -- A well logged list is an opening: its edges lead between its versions, no version is missing, and there is no cycle.
 use Rattle.std.proofs.Common.{ℕ, ◌≡◌, ◌≢◌, ◌≤◌, ◌+◌, ◌==◌, suc, Bool, true, false, not, ◌||◌, ◌⊎◌, inl, inr, refl, sym, ap, ◌∙◌, subst, List, [], ◌∷◌, ◌++◌, arith, append_assoc}
-use Rattle.std.specs.Prelude.{Option, Some, None, is_some, nat_lt, nat_le, slice_get, Contains, if◌then◌else◌}
-use Rattle.std.specs.Option.{option_map_or}
+use Rattle.std.specs.Prelude.{Some, None, is_some, nat_lt, nat_le, slice_get, Contains, if◌then◌else◌}
 use Rattle.std.specs.List.{list_any}
 use Rattle.std.proofs.lemmas.List.Sums.{fold-append}
 use Rattle.std.proofs.lemmas.List.Elements.{Contains-push, Contains-push_cases, Contains-append_left}
 use Rattle.std.proofs.lemmas.Bool.Decides.{nat_tests}
 use Rattle.std.proofs.lemmas.Option.{slice_get-get_or}
+use Rattle.std.proofs.lemmas.List.{append-nil}
 use Rattle.pass_entry.specs.declared.objects.Node.{Node}
 use Rattle.pass_entry.specs.declared.objects.Kind.{Kind}
 use Rattle.pass_entry.specs.declared.record.Record.{Record}
 use Rattle.pass_entry.specs.declared.record.Record.TheVariants as log
-use Rattle.pass_entry.specs.declared.record.FlawReason.{FlawReason}
+use Rattle.pass_entry.proofs.Variants.{no_first}
+use Rattle.pass_entry.proofs.Places.{contains_none}
 use Rattle.pass_plain.specs.Versions.{same_node}
 use Rattle.pass_plain.specs.Graphs.{IsEdge, HasPath, IsAcyclic}
 use Rattle.pass_plain.specs.Graphs.IsEdge.{input as by_input, version as by_version}
 use Rattle.pass_plain.specs.Graphs.HasPath.{edge, step}
-use Rattle.pass_plain.specs.WellLogged.{kind_look, kind_of, version_look, current_of, has_source, is_known, is_current, flaw_if, flaw_of, first_flaw_after, IsWellLogged, ceiling_look, ceiling_of}
-use Rattle.pass_plain.proofs.Replays.{append-nil}
+use Rattle.pass_plain.specs.WellLogged.{kind_look, kind_of, version_look, current_of, has_source, is_known, is_current, flaw_of, first_flaw_after, IsWellLogged, ceiling_look, ceiling_of}
 use Rattle.pass_plain.proofs.Lists.{or_false, same_numbers, same_itself, any_of, not_false, not_below}
+use Rattle.pass_plain.proofs.Flaws.{unflawed}
 use Rattle.pass_graph.proofs.Falling.{Within, IsOpening}
 use Rattle.pass_graph.proofs.Telling.{parts_same}
 
@@ -34,16 +35,13 @@ record IsSteady (list : List Record) : Type 0 where
   versions : (a b : Node) → a.pnode ≡ b.pnode → a.version ≡ suc b.version → 1 ≤ b.version → a.version ≤ opened_by list a.pnode → Contains list (log.Version a)
   acyclic : IsAcyclic list
 
-pub nothing_in : (r : Record) → Contains [] r → ⊥
-nothing_in r h = let z = h.1 in omega (arith, z)
-
 last_edge : (list : List Record) {a b : Node} → HasPath list a b → (x : Node) × IsEdge list x b
 last_edge list {a} (edge e) = (a, e)
 last_edge list (step e p) = last_edge list p
 
 pub no_edge : (a b : Node) → IsEdge [] a b → ⊥
-no_edge a b (by_input h) = nothing_in _ h
-no_edge a b (by_version h same next) = nothing_in _ h
+no_edge a b (by_input h) = contains_none _ h
+no_edge a b (by_version h same next) = contains_none _ h
 
 none_steady : IsSteady []
 none_steady = record {
@@ -55,14 +53,6 @@ none_steady = record {
 }
 
 -- tests that find no flaw
-
-pub unflawed : (b : Bool) (reason : FlawReason) (next : Option FlawReason) → flaw_if b reason next ≡ None → (b ≡ false) × (next ≡ None)
-unflawed true reason next h = absurd (cc)
-unflawed false reason next h = (refl, h)
-
-pub no_first : {A B : Type 0} (f : A → B) (o : Option A) (rest : Option B) → option_map_or (λ x. Some (f x)) o rest ≡ None → (o ≡ None) × (rest ≡ None)
-no_first f None rest h = (refl, h)
-no_first f (Some x) rest h = absurd (cc)
 
 module _ (list : List Record) (r : Record) where
   abbrev pub more : List Record
@@ -162,7 +152,7 @@ object_step list pnode k s new =
     not_known o none true same = absurd (let z : true ≡ false = sym (ap is_some (kind_next list (log.Object pnode k) o ∙ ap (λ b. if b then Some k else kind_of list o) same)) ∙ none in cc)
     not_known o none false other = sym (ap is_some (kind_next list (log.Object pnode k) o ∙ ap (λ b. if b then Some k else kind_of list o) other)) ∙ none
 
-input_parts : (t s a b : Node) → log.Input t s ≡ log.Input a b → (t ≡ a) × (s ≡ b)
+pub input_parts : (t s a b : Node) → log.Input t s ≡ log.Input a b → (t ≡ a) × (s ≡ b)
 input_parts t s a b e = (cc, cc)
 
 input_step : (list : List Record) (target source : Node) → IsSteady list → 1 ≤ source.version → flaw_of list (log.Input target source) ≡ None → IsSteady (list ++ log.Input target source ∷ [])

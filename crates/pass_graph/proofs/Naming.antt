@@ -5,6 +5,7 @@ use Rattle.std.specs.Option.{option_map_or}
 use Rattle.std.specs.FinMap as finite_map
 use Rattle.std.specs.Cmp.Lexicographic.{nat_list_cmp_total, texts_ties}
 use Rattle.std.proofs.lemmas.Slice.Eq.{bytes_eq-Decides}
+use Rattle.std.proofs.lemmas.List.{append-nil}
 use Rattle.pass_entry.specs.declared.objects.Kind.{Kind}
 use Rattle.pass_entry.specs.declared.objects.Kind.TheVariants as kind
 use Rattle.pass_entry.specs.declared.record.Record.{Record}
@@ -12,14 +13,13 @@ use Rattle.pass_entry.specs.declared.record.Record.TheVariants as log
 use Rattle.pass_entry.specs.declared.entry.Act.TheVariants as act
 use Rattle.pass_entry.specs.declared.entry.Reply.{Reply}
 use Rattle.pass_entry.specs.declared.entry.Reply.TheVariants as answer
+use Rattle.pass_entry.proofs.Places.{slice_get-last}
 use Rattle.pass_plain.specs.Histories.{pnode_of}
 use Rattle.pass_plain.specs.Sessions.{Session}
 use Rattle.pass_plain.specs.Registries.{Registry, Names, Exists, registry_act, with_object, next_pnode, is_full, renamed}
 use Rattle.pass_plain.specs.Records.{lost_name, file_named, move_records}
 use Rattle.pass_plain.specs.WellLogged.{last_name_of, name_look}
-use Rattle.pass_plain.proofs.Lists.{same_numbers, same_itself}
-use Rattle.pass_plain.proofs.Appends.{slice_get-last}
-use Rattle.pass_plain.proofs.Replays.{append-nil}
+use Rattle.pass_plain.proofs.Lists.{same_numbers, same_itself, some_is}
 use Rattle.pass_graph.proofs.Accepting.{AreFine, IsTold, fine_one, fine-append, object_fine, object_told, name_more, name_fine, name_told, texts_same}
 
 -- the records may stand after the list, and it then tells of the registry and the versions
@@ -31,9 +31,6 @@ stepped-append session list r s v w xs ys a b = (fine-append list xs ys a.0 b.0,
 
 pub nothing_stepped : (session : Session) (list : List Record) (r : Registry) (v : ℕ → ℕ) → IsTold session list r v → Stepped session list r v []
 nothing_stepped session list r v t = (refl, subst (λ l. IsTold session l r v) (sym (append-nil list)) t)
-
-some_is : (a b : ℕ) → ◌≡◌ {A = Option ℕ} (Some a) (Some b) → a ≡ b
-some_is a b e = cc
 
 got_insert : (names : Names) (name q : List ℕ) (v : ℕ) → finite_map.get (finite_map.insert names name v) q ≡ cond (bytes_eq q name) (Some v) (finite_map.get names q)
 got_insert names name q v = finite_map.get-insert nat_list_cmp_total names name v q ∙ ap (λ b. cond b (Some v) (finite_map.get names q)) (sym (texts_ties q name))

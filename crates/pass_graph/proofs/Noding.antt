@@ -7,6 +7,8 @@ use Rattle.std.proofs.lemmas.Bool.Decides.{nat_tests}
 use Rattle.std.proofs.lemmas.List.Elements.{Contains-push, Contains-push_cases, Contains-append_left, filter_map-append}
 use Rattle.std.proofs.lemmas.Map.Keys.{IsDistinct-push}
 use Rattle.std.proofs.lemmas.Map.Views.{Contains-from_any}
+use Rattle.std.proofs.lemmas.Bool.{false_from_ne_true}
+use Rattle.std.proofs.lemmas.List.{append-nil}
 use Rattle.pass_entry.specs.declared.objects.Node.{Node}
 use Rattle.pass_entry.specs.declared.record.Record.{Record}
 use Rattle.pass_entry.specs.declared.record.Record.TheVariants as log
@@ -14,10 +16,10 @@ use Rattle.pass_entry.specs.declared.record.FlawReason.TheVariants as flaw
 use Rattle.pass_plain.specs.Versions.{same_node}
 use Rattle.pass_plain.specs.WellLogged.{kind_of, current_of, is_known, flaw_of}
 use Rattle.pass_plain.proofs.Lists.{same_numbers, same_itself, true_left, true_right, not_false, some_is}
-use Rattle.pass_plain.proofs.Replays.{append-nil}
+use Rattle.pass_plain.proofs.Flaws.{unflawed}
 use Rattle.pass_graph.specs.ListRanks.{made_node, graph_nodes, HasNode, NodesLaw}
-use Rattle.pass_graph.proofs.Logging.{unflawed, kind_next, version_next}
-use Rattle.pass_graph.proofs.Ranking.{rises, good_version, not_any, logged_induction}
+use Rattle.pass_graph.proofs.Logging.{kind_next, version_next}
+use Rattle.pass_graph.proofs.Ranking.{rises, good_version, logged_induction}
 
 pub same_node_is : (a b : Node) → same_node a b ≡ true → a ≡ b
 same_node_is a b is =
@@ -50,7 +52,7 @@ none_noded = record {
 }
 
 -- a known object stays one
-known_on : (list : List Record) (r : Record) (o : ℕ) → is_known list o ≡ true → is_known (list ++ r ∷ []) o ≡ true
+pub known_on : (list : List Record) (r : Record) (o : ℕ) → is_known list o ≡ true → is_known (list ++ r ∷ []) o ≡ true
 known_on list (log.Object p k) o known = ap is_some (kind_next list (log.Object p k) o) ∙ at_test (p == o)
   where
     at_test : (t : Bool) → is_some (if t then Some k else kind_of list o) ≡ true
@@ -196,7 +198,7 @@ module _ (list : List Record) (r : Record) (s : IsNoded list) (fine : flaw_of li
           | inr is ↦ let at : m ≡ n = some_is m n (sym makes ∙ is) in subst (λ xs. Contains xs n) (sym same) (subst (λ x. Contains (graph_nodes list ++ m ∷ []) x) at (Contains-push (graph_nodes list) m))
         ];
         distinct = subst (IsDistinct same_node) (sym same) (IsDistinct-push same_node_equiv (graph_nodes list) m s.distinct
-            (not_any (list_any (same_node m) (graph_nodes list)) (λ h. w.new (s.listed m (Contains-from_any same_node_is m (graph_nodes list) h)))));
+            (false_from_ne_true (list_any (same_node m) (graph_nodes list)) (λ h. w.new (s.listed m (Contains-from_any same_node_is m (graph_nodes list) h)))));
       }
 
 noded_next : (list : List Record) (r : Record) → IsNoded list → flaw_of list r ≡ None → IsNoded (list ++ r ∷ [])

@@ -1,6 +1,6 @@
 -- A session begins with the versions of its opening, and no entry is on an object of the opening that its start has not.
 use Rattle.std.proofs.Common.{ℕ, ◌≡◌, ◌≤◌, ◌==◌, zero, suc, max, Bool, true, false, ◌||◌, inl, inr, refl, sym, ap, ◌∙◌, List, [], ◌∷◌, ◌++◌, length, take, map, arith, cond}
-use Rattle.std.specs.Prelude.{Option, Some, None, fold, find, is_some, slice_get, if◌then◌else◌}
+use Rattle.std.specs.Prelude.{Option, Some, fold, find, is_some, slice_get, if◌then◌else◌}
 use Rattle.std.specs.Option.{option_map_or}
 use Rattle.std.proofs.lemmas.List.{take_all}
 use Rattle.pass_entry.specs.declared.entry.Entry.{Entry}
@@ -19,15 +19,12 @@ use Rattle.pass_plain.proofs.Calling.{legal_take}
 use Rattle.pass_plain.proofs.Making.{making}
 use Rattle.pass_plain.proofs.Objects.{object_law, origin_law}
 use Rattle.pass_plain.proofs.Versioned.{length-nodes_of}
+use Rattle.pass_plain.proofs.LastNodes.{begins_at}
 use Rattle.pass_graph.specs.Openings.{Opens}
 use Rattle.pass_graph.proofs.Stories.{mono}
 use Rattle.pass_graph.proofs.Standing.{version_at}
 use Rattle.pass_graph.proofs.Telling.{told, is_told}
 use Rattle.pass_graph.proofs.Logging.{opened_by, current_low, are_numbered}
-
-or_true : (a : Bool) → a || true ≡ true
-or_true true = refl
-or_true false = refl
 
 some_if : {X : Type 0} (b : Bool) (x : X) (o : Option X) (more : Bool) → (is_some o || more ≡ true) → is_some (cond b (Some x) o) || more ≡ true
 some_if true x o more h = refl
@@ -61,12 +58,6 @@ there (f ∷ files) apps (suc i) n k at =
 opened_exists : (session : Session) (n : ℕ) (k : Kind) → Exists (opening_registry session.start) n k → is_opened session.start n ≡ true
 opened_exists session n k (i, at) = there session.start.files.items session.start.apps.items i n k at
 
--- an object that is not of the start begins at 1
-new_version : (f : Option StartFile) (n : Option Node) → is_some f || is_some n ≡ false → option_map_or (λ (f : StartFile). f.node.version) f (option_map_or (λ (n : Node). n.version) n 1) ≡ 1
-new_version None None h = refl
-new_version None (Some n) h = absurd (cc)
-new_version (Some f) n h = absurd (cc)
-
 raised : (o a b : ℕ) → a ≤ b → (nodes : List Node) → fold (λ v (n : Node). if n.pnode == o then n.version else v) a nodes ≤ fold (λ v (n : Node). if n.pnode == o then n.version else v) b nodes
 raised o a b le [] = le
 raised o a b le (n ∷ nodes) = raised o (if n.pnode == o then n.version else a) (if n.pnode == o then n.version else b) (at_test (n.pnode == o)) nodes
@@ -87,7 +78,7 @@ module _ (before : List Record) (session : Session) (opens : Opens before sessio
       let (known, same) = opens.current o is in
       let z : opened o ≡ current_of before o = ap (λ b. if b then current_of before o else 0) known in
       omega (arith, same, z)
-  begins o false is = let z : opening_version session.start o ≡ 1 = new_version (opened_file session.start o) (opened_app session.start o) is in omega (arith, z)
+  begins o false is = let z : opening_version session.start o ≡ 1 = begins_at (opened_file session.start o) (opened_app session.start o) is in omega (arith, z)
 
   module _ (history : List Entry) (legal : IsLegal session history) where
     -- an entry on an object of the opening is on one of the start
@@ -129,7 +120,7 @@ module _ (before : List Record) (session : Session) (opens : Opens before sessio
             let low = (current_low before opens.logged opens.sources e.what).0 in
             omega (arith, same, z, low)
         by_opened false is =
-            let z : opening_version session.start e.what ≡ 1 = new_version (opened_file session.start e.what) (opened_app session.start e.what) is in
+            let z : opening_version session.start e.what ≡ 1 = begins_at (opened_file session.start e.what) (opened_app session.start e.what) is in
             let y : opened_by before e.what ≡ 0 = ap (λ b. if b then current_of before e.what else 0) (unknown k e at is) in
             omega (arith, z, y)
 

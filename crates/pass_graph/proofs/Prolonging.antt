@@ -1,11 +1,13 @@
 -- The records of an entry may stand after those of the entries before it.
 use Rattle.std.proofs.Common.{ℕ, ◌≡◌, ◌≤◌, ◌<◌, ◌+◌, ◌==◌, suc, max, Bool, true, false, not, ◌||◌, ◌&&◌, ◌⊎◌, inl, inr, refl, sym, ap, ◌∙◌, subst, List, [], ◌∷◌, ◌++◌, length, take, arith, cond}
 use native.Mathlib.Decide.{ℕ_discrete}
-use Rattle.std.specs.Prelude.{Option, Some, None, is_some, slice_get, option_map, option_and_then, Contains, if◌then◌else◌}
+use Rattle.std.specs.Prelude.{Option, Some, None, slice_get, option_map, option_and_then, Contains, if◌then◌else◌}
 use Rattle.std.specs.Option.{option_map_or}
 use Rattle.std.specs.FinMap as finite_map
 use Rattle.std.proofs.lemmas.List.Elements.{Contains-append_cases, Contains-push_cases}
 use Rattle.std.proofs.lemmas.Option.{slice_get_within, get_or_from_slice_get}
+use Rattle.std.proofs.lemmas.Bool.{cases_Bool}
+use Rattle.std.proofs.lemmas.List.{take-take}
 use Rattle.pass_entry.specs.declared.entry.Entry.{Entry}
 use Rattle.pass_entry.specs.declared.entry.Act.{Act}
 use Rattle.pass_entry.specs.declared.entry.Act.TheVariants as act
@@ -18,6 +20,8 @@ use Rattle.pass_entry.specs.declared.objects.Kind.TheVariants as kind
 use Rattle.pass_entry.specs.declared.objects.Node.{Node}
 use Rattle.pass_entry.specs.declared.record.Record.{Record}
 use Rattle.pass_entry.specs.declared.record.Record.TheVariants as log
+use Rattle.pass_entry.proofs.Places.{take_one_more}
+use Rattle.pass_entry.proofs.Variants.{some_of}
 use Rattle.pass_plain.specs.Histories.{is_fault, uses, out_of, own_step, call_entries}
 use Rattle.pass_plain.specs.Sessions.{Session, opening_version}
 use Rattle.pass_plain.specs.Registries.{Registry, Exists, registry_after, registry_act, is_full, next_pnode}
@@ -31,7 +35,7 @@ use Rattle.pass_plain.specs.Graphs.IsEdge.{input as by_input}
 use Rattle.pass_plain.specs.Records.{records_of, entry_records, act_records, version_records, extra_records, file_named}
 use Rattle.pass_plain.specs.WellLogged.{has_source, is_input}
 use Rattle.pass_plain.proofs.Lists.{true_left, true_right, some_is, is_place}
-use Rattle.pass_plain.proofs.Replays.{own_step-own, own_step-other, own_step-fault, take-take_le}
+use Rattle.pass_plain.proofs.Replays.{own_step-own, own_step-other, own_step-fault}
 use Rattle.pass_plain.proofs.Rows.{Row}
 use Rattle.pass_plain.proofs.Calling.{legal_take, row}
 use Rattle.pass_plain.proofs.Making.{registry-append, made_reply, stocked}
@@ -39,9 +43,9 @@ use Rattle.pass_plain.proofs.Holding.{objects_stay_take}
 use Rattle.pass_plain.proofs.Objects.{object_law}
 use Rattle.pass_graph.specs.Openings.{Opens, session_list}
 use Rattle.pass_graph.specs.Places.{object_at, source_at, is_fresh_at, is_freeze_at}
-use Rattle.pass_graph.proofs.Stories.{Story, IsStory, mono, is_later, bool_cases}
+use Rattle.pass_graph.proofs.Stories.{Story, IsStory, mono, is_later}
 use Rattle.pass_graph.proofs.Falling.{after_taking}
-use Rattle.pass_graph.proofs.Standing.{take_suc, version_at, now, version_own, version_step}
+use Rattle.pass_graph.proofs.Standing.{version_at, now, version_own, version_step}
 use Rattle.pass_graph.proofs.Telling.{what_at, named_at, told, in_at, IsInAt, takes_from, takes_past, same_parts, what_is, in_is, fresh_is, freeze_is}
 use Rattle.pass_graph.proofs.Recording.{recorded}
 use Rattle.pass_graph.proofs.Edging.{took_at}
@@ -52,12 +56,6 @@ use Rattle.pass_graph.proofs.Proved.{in_own, is, begun, opening}
 use Rattle.pass_graph.proofs.Accepting.{IsTold, fine_one, none_any, version_told, version_fine, input_told, input_fine, attr_told, attr_fine}
 use Rattle.pass_graph.proofs.Naming.{Stepped, stepped-append, nothing_stepped, mint_step, bind_step, unbind_step, move_step}
 use Rattle.pass_graph.proofs.Contents.{extra_step}
-
-some_node : (a b : Node) → ◌≡◌ {A = Option Node} (Some a) (Some b) → a ≡ b
-some_node a b e = cc
-
-some_entry : (a b : Entry) → ◌≡◌ {A = Option Entry} (Some a) (Some b) → a ≡ b
-some_entry a b e = cc
 
 -- an OUT is on no registry
 out_object : (a : Act) → uses a ≡ true → is_registry_act a ≡ false
@@ -70,7 +68,7 @@ out_object (act.Known n) is = absurd (cc)
 out_object _ is = refl
 
 -- an act on the registry makes no version
-registry_rests : (a : Act) → is_registry_act a ≡ true → (always_freezes a ≡ false) × (out_of a ≡ None)
+pub registry_rests : (a : Act) → is_registry_act a ≡ true → (always_freezes a ≡ false) × (out_of a ≡ None)
 registry_rests (act.Bind name) is = (refl, refl)
 registry_rests (act.Find name) is = (refl, refl)
 registry_rests (act.Move old new) is = (refl, refl)
@@ -79,7 +77,7 @@ registry_rests (act.Mint k) is = (refl, refl)
 registry_rests (act.Known n) is = (refl, refl)
 registry_rests _ is = absurd (cc)
 
-registry_extra : (session : Session) (past : List Entry) (e : Entry) (n : Node) (a : Act) → is_registry_act a ≡ true → extra_records session past e n a ≡ []
+pub registry_extra : (session : Session) (past : List Entry) (e : Entry) (n : Node) (a : Act) → is_registry_act a ≡ true → extra_records session past e n a ≡ []
 registry_extra session past e n (act.Bind name) is = refl
 registry_extra session past e n (act.Find name) is = refl
 registry_extra session past e n (act.Move old new) is = refl
@@ -109,10 +107,6 @@ free_if false y z e fine = (refl, e)
 done_is : (b : Bool) (f : CallFault) (z : Reply) → done_if b f ≡ z → is_fault z ≡ false → b ≡ true
 done_is true f z e fine = refl
 done_is false f z e fine = absurd (let n : true ≡ false = ap is_fault e ∙ fine in cc)
-
-got_some : (o : Option ℕ) → is_some o ≡ true → (f : ℕ) × (o ≡ Some f)
-got_some None h = absurd (cc)
-got_some (Some f) h = (f, refl)
 
 module _ (before : List Record) (session : Session) (history : List Entry) (opens : Opens before session) (legal : IsLegal session history) where
   abbrev opened : ℕ → ℕ
@@ -207,7 +201,7 @@ module _ (before : List Record) (session : Session) (history : List Entry) (open
     own_source fresh = in_at session history legal k within (h.news k within fresh)
 
     same_own : (fresh : is_fresh_at session history k ≡ true) → (own_source fresh).entry ≡ e
-    same_own fresh = some_entry _ _ (sym (own_source fresh).stands ∙ at)
+    same_own fresh = some_is _ _ (sym (own_source fresh).stands ∙ at)
 
     -- the node from which the entry takes
     source_node : (src : Node) (fresh : is_fresh_at session history k ≡ true) → source_in nodes e ≡ Some src
@@ -217,7 +211,7 @@ module _ (before : List Record) (session : Session) (history : List Entry) (open
         let same = same_own fresh in
         let here = within in
         let pair : record { pnode = i.source.what; version = version i.source.what i.out } ≡ src =
-        some_node _ _ (sym (takes_past session history legal first begins k k i (omega (arith, here)) (omega arith)) ∙ ap (λ f. source_in nodes f) same ∙ given) in
+        some_is _ _ (sym (takes_past session history legal first begins k k i (omega (arith, here)) (omega arith)) ∙ ap (λ f. source_in nodes f) same ∙ given) in
         let from : i.source.what ≡ src.pnode = ap (λ (m : Node). m.pnode) pair in (
           ap (what_at history) i.named ∙ what_is session history i.out i.source i.source_stands ∙ from,
           ap (version src.pnode) i.named ∙ ap (λ o. version o i.out) (sym from) ∙ ap (λ (m : Node). m.version) pair,
@@ -251,7 +245,7 @@ module _ (before : List Record) (session : Session) (history : List Entry) (open
             let own = level in
             let within_j : j < length history = omega (arith, short, here) in
             let rise : version n.pnode (suc j) ≤ version n.pnode k = mono s h n.pnode (suc j) k short (omega (arith, here)) in
-            elim (bool_cases (is_freeze_at session history k)) [
+            elim (cases_Bool (is_freeze_at session history k)) [
               | inl moved ↦ let z = h.moves k n.pnode within object moved in omega (arith, z, own, level_a, rise)
               | inr kept ↦
                   let z = h.keeps k n.pnode within object kept in
@@ -302,7 +296,7 @@ module _ (before : List Record) (session : Session) (history : List Entry) (open
         elim (object_law session opens.sound front i.source legal_front (legal i.out i.source i.source_stands)) [
           | inl z ↦ absurd (let y : true ≡ false = sym z.0 ∙ out_object i.source.act (true_left (uses i.source.act) (not (is_fault i.source.reply)) i.is_out) in cc)
           | inr m ↦
-              let shorter : take i.out past ≡ front = let y = i.before in take-take_le i.out k history (omega (arith, y)) in
+              let shorter : take i.out past ≡ front = let y = i.before in take-take i.out k history (omega (arith, y)) in
               let has : Exists (registry_after session (take i.out past)) i.source.what m.0 = subst (λ x. Exists (registry_after session x) i.source.what m.0) (sym shorter) m.1 in
               (m.0, subst (λ o. Exists r o m.0) from (objects_stay_take session past i.out i.source.what m.0 has))
         ]
@@ -444,10 +438,10 @@ module _ (before : List Record) (session : Session) (history : List Entry) (open
           (made_reply session past e.what (act.Mint kd) e.reply (reply_is (act.Mint kd) same) fine kd refl)
           (room_if (is_full session r kd) (answer.Made (next_pnode session r)) e.reply (some_is _ _ (reply_is (act.Mint kd) same)) fine)
       act_step fine (act.Move old new) same =
-          let (f, got) = got_some (finite_map.get r.names old) (done_is (finite_map.contains_key r.names old) fault.NoEntry e.reply (some_is _ _ (reply_is (act.Move old new) same)) fine) in
+          let (f, got) = some_of (finite_map.get r.names old) (done_is (finite_map.contains_key r.names old) fault.NoEntry e.reply (some_is _ _ (reply_is (act.Move old new) same)) fine) in
           move_step session (listed k) r after (rests_at (act.Move old new) same refl) old new f got (stocked session opens.sound past legal_past).named
       act_step fine (act.Unbind name) same =
-          let (f, got) = got_some (finite_map.get r.names name) (done_is (finite_map.contains_key r.names name) fault.NoEntry e.reply (some_is _ _ (reply_is (act.Unbind name) same)) fine) in
+          let (f, got) = some_of (finite_map.get r.names name) (done_is (finite_map.contains_key r.names name) fault.NoEntry e.reply (some_is _ _ (reply_is (act.Unbind name) same)) fine) in
           let named : file_named r.names name ≡ f = ap (λ o. option_map_or (λ file. file) o 0) got in
           subst (λ m. Stepped session (listed k) (registry_act r (act.Unbind name) e.reply) after (log.Name m [] ∷ [])) (sym named)
           (unbind_step session (listed k) r after (rests_at (act.Unbind name) same refl) name f got ((stocked session opens.sound past legal_past).named name f got))
@@ -474,7 +468,7 @@ module _ (before : List Record) (session : Session) (history : List Entry) (open
       act_step fine a same = subst (λ x. Stepped session (listed k) r after (version_records session past e n ++ extra_records session past e n x)) same flow_step
 
       registry_next : registry_after session (take (suc k) history) ≡ own_step (λ past r e. registry_act r e.act e.reply) 0 past r e
-      registry_next = ap (λ x. registry_after session x) (take_suc history k e at) ∙ registry-append session past e
+      registry_next = ap (λ x. registry_after session x) (take_one_more history k e at) ∙ registry-append session past e
 
       -- the records of the entry may stand, and the list then tells of the history with the entry
       pub entry_step : Stepped session (listed k) (registry_after session (take (suc k) history)) after (entry_records session past e)

@@ -1,22 +1,26 @@
 -- Along every edge of a well logged list the rank falls.
-use Rattle.std.proofs.Common.{ℕ, ◌≡◌, ◌≤◌, ◌<◌, ◌+◌, ◌==◌, suc, Bool, true, false, not, ◌&&◌, ◌||◌, ◌⊎◌, inl, inr, refl, sym, ap, ◌∙◌, subst, List, [], ◌∷◌, ◌++◌, length, arith, cond, append_assoc, lt_trans}
+use Rattle.std.proofs.Common.{ℕ, ◌≡◌, ◌≤◌, ◌<◌, ◌+◌, ◌==◌, suc, Bool, true, false, not, ◌&&◌, ◌||◌, inl, inr, refl, sym, ap, ◌∙◌, subst, List, [], ◌∷◌, ◌++◌, length, arith, cond, append_assoc, lt_trans}
 use Rattle.std.specs.Prelude.{None, nat_lt, if◌then◌else◌}
 use Rattle.std.specs.List.{list_any, position_or_len}
 use Rattle.std.proofs.lemmas.List.Sums.{prefix_len-le-length}
 use Rattle.std.proofs.lemmas.List.Folds.{list_any-append}
 use Rattle.std.proofs.lemmas.Bool.Decides.{nat_tests}
+use Rattle.std.proofs.lemmas.Bool.{false_from_ne_true, or_cases}
+use Rattle.std.proofs.lemmas.List.{append-nil}
 use Rattle.pass_entry.specs.declared.objects.Node.{Node}
 use Rattle.pass_entry.specs.declared.record.Record.{Record}
 use Rattle.pass_entry.specs.declared.record.Record.TheVariants as log
 use Rattle.pass_entry.specs.declared.record.FlawReason.TheVariants as flaw
+use Rattle.pass_entry.proofs.Variants.{no_first}
 use Rattle.pass_plain.specs.Versions.{same_node}
 use Rattle.pass_plain.specs.Graphs.{IsEdge, HasPath}
 use Rattle.pass_plain.specs.Graphs.HasPath.{edge, step}
 use Rattle.pass_plain.specs.WellLogged.{current_of, has_source, is_known, is_current, flaw_of, first_flaw_after, IsWellLogged}
-use Rattle.pass_plain.proofs.Lists.{or_false, same_numbers, same_itself, true_left, true_right, not_false, not_below}
-use Rattle.pass_plain.proofs.Replays.{append-nil}
+use Rattle.pass_plain.proofs.Lists.{or_false, same_numbers, true_left, true_right, not_false, not_below, and_none, or_none}
+use Rattle.pass_plain.proofs.Lineages.{same_node-sym, same_node-self}
+use Rattle.pass_plain.proofs.Flaws.{unflawed}
 use Rattle.pass_graph.specs.ListRanks.{begins_after, list_rank, ListRankLaw, ListAcyclicLaw}
-use Rattle.pass_graph.proofs.Logging.{unflawed, no_first, no_edge, edge_cases, version_next}
+use Rattle.pass_graph.proofs.Logging.{no_edge, edge_cases, version_next}
 
 -- the first place at which a test passes, with one more element
 
@@ -83,7 +87,7 @@ module _ {X : Type 0} (p : X → Bool) where
   first_over : (xs : List X) (y : X) → list_any p xs ≡ false → p y ≡ false → position_or_len p (xs ++ y ∷ []) ≡ length xs + 1
   first_over xs y none fails = first_next xs y none ∙ ap (λ b. cond b (length xs) (length xs + 1)) fails
 
-abbrev closes : Node → Record → Bool
+abbrev pub closes : Node → Record → Bool
 closes n r = has_source n r || begins_after n r
 
 -- what the records so far say of the ranks
@@ -92,20 +96,12 @@ record IsRanked (list : List Record) : Type 0 where
   sources : (n : Node) → list_any (has_source n) list ≡ true → n.version ≤ current_of list n.pnode
   begun : (n : Node) → list_any (begins_after n) list ≡ true → n.version < current_of list n.pnode
 
-or_cases : (a b : Bool) → a || b ≡ true → (a ≡ true) ⊎ (b ≡ true)
-or_cases true b is = inl refl
-or_cases false b is = inr is
-
 none_either : (p q : Record → Bool) (xs : List Record) → list_any p xs ≡ false → list_any q xs ≡ false → list_any (λ r. p r || q r) xs ≡ false
 none_either p q [] a b = refl
 none_either p q (x ∷ xs) a b =
     let (pa, ra) = or_false (p x) (list_any p xs) a in
     let (pb, rb) = or_false (q x) (list_any q xs) b in
     ap (λ c. (c || q x) || list_any (λ r. p r || q r) xs) pa ∙ ap (λ c. c || list_any (λ r. p r || q r) xs) pb ∙ none_either p q xs ra rb
-
-pub not_any : (b : Bool) → (b ≡ true → ⊥) → b ≡ false
-not_any true h = absurd (h refl)
-not_any false h = refl
 
 -- the ranks of an old edge's ends still fall
 old_falls : (list : List Record) (r : Record) (a b : Node) → list_rank list b < list_rank list a → list_rank (list ++ r ∷ []) b < list_rank (list ++ r ∷ []) a
@@ -133,28 +129,18 @@ new_falls list r a b closed unclosed fails =
     let zb = first_under (closes b) list r closed in
     omega (arith, za, zb)
 
-same_itself_node : (n : Node) → same_node n n ≡ true
-same_itself_node n = ap (λ b. b && n.version == n.version) (same_itself n.pnode) ∙ same_itself n.version
-
-same_turned : (a b : Node) → same_node a b ≡ same_node b a
-same_turned a b = grind (arith, nat_tests)
-
 no_successor : (n : ℕ) → (n == n + 1) ≡ false
 no_successor n = grind (arith, nat_tests)
-
-and_no : (b : Bool) → b && false ≡ false
-and_no true = refl
-and_no false = refl
 
 -- a current node, which no record has named as a source, is open
 is_open : (list : List Record) → IsRanked list → (n : Node) → n.version ≡ current_of list n.pnode → list_any (has_source n) list ≡ false → list_any (closes n) list ≡ false
 is_open list s n current unnamed =
-    none_either (has_source n) (begins_after n) list unnamed (not_any _ (λ h. let z = s.begun n h in omega (arith, z, current)))
+    none_either (has_source n) (begins_after n) list unnamed (false_from_ne_true _ (λ h. let z = s.begun n h in omega (arith, z, current)))
 
 -- so is the version to come
 is_to_come : (list : List Record) → IsRanked list → (n : Node) → n.version ≡ current_of list n.pnode + 1 → list_any (closes n) list ≡ false
 is_to_come list s n next =
-    none_either (has_source n) (begins_after n) list (not_any _ (λ h. let z = s.sources n h in omega (arith, z, next))) (not_any _ (λ h. let z = s.begun n h in omega (arith, z, next)))
+    none_either (has_source n) (begins_after n) list (false_from_ne_true _ (λ h. let z = s.sources n h in omega (arith, z, next))) (false_from_ne_true _ (λ h. let z = s.begun n h in omega (arith, z, next)))
 
 -- what a flawless edge has
 
@@ -175,7 +161,7 @@ good_input list t n fine =
       come = not_below (current_of list n.pnode) n.version (or_false (not (is_known list n.pnode)) (nat_lt (current_of list n.pnode) n.version) there).1;
       current = same_numbers t.version (current_of list t.pnode) (not_false (is_current list t) version);
       unnamed = unnamed;
-      other = same_turned n t ∙ other;
+      other = same_node-sym n t ∙ other;
     }
 
 pub good_version : (list : List Record) (n : Node) → flaw_of list (log.Version n) ≡ None → n.version ≡ current_of list n.pnode + 1
@@ -209,17 +195,13 @@ module _ (list : List Record) (r : Record) (s : IsRanked list) (fine : flaw_of l
       by_input : r ≡ log.Input a b → list_rank (list ++ r ∷ []) b < list_rank (list ++ r ∷ []) a
       by_input is =
           let g = good_input list a b (subst (λ x. flaw_of list x ≡ None) is fine) in
-          new_falls list r a b (ap (closes b) is ∙ ap (λ c. c || false) (same_itself_node b)) (is_open list s a g.current g.unnamed) (ap (closes a) is ∙ ap (λ c. c || false) g.other)
+          new_falls list r a b (ap (closes b) is ∙ ap (λ c. c || false) (same_node-self b)) (is_open list s a g.current g.unnamed) (ap (closes a) is ∙ ap (λ c. c || false) g.other)
 
       by_version : r ≡ log.Version a → b.pnode ≡ a.pnode → b.version + 1 ≡ a.version → list_rank (list ++ r ∷ []) b < list_rank (list ++ r ∷ []) a
       by_version is same next =
           let g = good_version list a (subst (λ x. flaw_of list x ≡ None) is fine) in
-          new_falls list r a b (ap (closes b) is ∙ ap (λ n. a.pnode == n && a.version == b.version + 1) same ∙ ap (λ n. a.pnode == a.pnode && a.version == n) next ∙ same_itself_node a) (is_to_come list s a g)
-          (ap (closes a) is ∙ ap (λ c. a.pnode == a.pnode && c) (no_successor a.version) ∙ and_no (a.pnode == a.pnode))
-
-or_none : (b : Bool) → b || false ≡ true → b ≡ true
-or_none true is = refl
-or_none false is = is
+          new_falls list r a b (ap (closes b) is ∙ ap (λ n. a.pnode == n && a.version == b.version + 1) same ∙ ap (λ n. a.pnode == a.pnode && a.version == n) next ∙ same_node-self a) (is_to_come list s a g)
+          (ap (closes a) is ∙ ap (λ c. a.pnode == a.pnode && c) (no_successor a.version) ∙ and_none (a.pnode == a.pnode))
 
 -- a source has come, and a version that was ended is below the current one
 
@@ -243,11 +225,11 @@ ranked_next list r s fine = record {
   edges = edges_next list r s fine;
   sources = λ n h. elim (or_cases (list_any (has_source n) list) (has_source n r || false) (sym (list_any-append (has_source n) list (r ∷ [])) ∙ h)) [
     | inl old ↦ let z = s.sources n old in let y = rises list r fine n.pnode in omega (arith, z, y)
-    | inr here ↦ let z = source_come list r fine n (or_none (has_source n r) here) in let y = rises list r fine n.pnode in omega (arith, z, y)
+    | inr here ↦ let z = source_come list r fine n (sym (or_none (has_source n r)) ∙ here) in let y = rises list r fine n.pnode in omega (arith, z, y)
   ];
   begun = λ n h. elim (or_cases (list_any (begins_after n) list) (begins_after n r || false) (sym (list_any-append (begins_after n) list (r ∷ [])) ∙ h)) [
     | inl old ↦ let z = s.begun n old in let y = rises list r fine n.pnode in omega (arith, z, y)
-    | inr here ↦ version_begun list r fine n (or_none (begins_after n r) here)
+    | inr here ↦ version_begun list r fine n (sym (or_none (begins_after n r)) ∙ here)
   ];
 }
 

@@ -5,6 +5,7 @@ use Rattle.std.specs.Option.{option_map_or}
 use Rattle.std.specs.List.{range_with_len}
 use Rattle.std.specs.FinMap as finite_map
 use Rattle.std.proofs.lemmas.List.Elements.{Contains-append_left, Contains-append_right, Contains-append_cases, Contains-push, Contains-push_cases}
+use Rattle.std.proofs.lemmas.Bool.{or_cases}
 use Rattle.pass_entry.specs.declared.entry.Entry.{Entry}
 use Rattle.pass_entry.specs.declared.entry.Act.{Act}
 use Rattle.pass_entry.specs.declared.entry.Act.TheVariants as act
@@ -12,6 +13,7 @@ use Rattle.pass_entry.specs.declared.objects.Node.{Node}
 use Rattle.pass_entry.specs.declared.objects.Kind.TheVariants as kind
 use Rattle.pass_entry.specs.declared.record.Record.{Record}
 use Rattle.pass_entry.specs.declared.record.Record.TheVariants as log
+use Rattle.pass_entry.proofs.Places.{take_one_more}
 use Rattle.pass_plain.specs.Histories.{is_fault, pnode_of, out_of, source_place}
 use Rattle.pass_plain.specs.Sessions.{Session}
 use Rattle.pass_plain.specs.Files.{file_after, file_act}
@@ -20,8 +22,8 @@ use Rattle.pass_plain.specs.Versions.{nodes_of, node_at_entry, source_in, always
 use Rattle.pass_plain.specs.Records.{records_of, entry_records, act_records, version_records, extra_records, content_records, digest_of, is_digested, args_records, lost_name, file_named, move_records}
 use Rattle.pass_plain.proofs.Lists.{true_left, true_right, is_place, below_or}
 use Rattle.pass_plain.proofs.Replays.{replay-append}
-use Rattle.pass_graph.proofs.Standing.{take_suc}
-use Rattle.pass_graph.proofs.Telling.{no_fault, true_or}
+use Rattle.pass_graph.proofs.Telling.{no_fault}
+use Rattle.pass_graph.proofs.Logging.{input_parts}
 
 -- the records of a history are those of its entries
 
@@ -29,7 +31,7 @@ module _ (session : Session) (history : List Entry) where
   pub records-suc : (n : ℕ) (e : Entry) → slice_get history n ≡ Some e
       → records_of session (take (suc n) history) ≡ records_of session (take n history) ++ entry_records session (take n history) e
   records-suc n e at =
-      ap (λ h. records_of session h) (take_suc history n e at)
+      ap (λ h. records_of session h) (take_one_more history n e at)
       ∙ replay-append (λ past list e. list ++ entry_records session past e) [] [] (take n history) e
 
   pub recorded : (n : ℕ) → n ≤ length history → (r : Record) → Contains (records_of session (take n history)) r
@@ -74,7 +76,7 @@ Quiet xs = (r : Record) → makes_edge r ≡ true → Contains xs r → ⊥
 quiet_none : Quiet []
 quiet_none r is h = absurd (let z = h.1 in omega (arith, z))
 
-quiet-append : (xs ys : List Record) → Quiet xs → Quiet ys → Quiet (xs ++ ys)
+pub quiet-append : (xs ys : List Record) → Quiet xs → Quiet ys → Quiet (xs ++ ys)
 quiet-append xs ys p q r is h = elim (Contains-append_cases xs ys r h) [ inl l ↦ p r is l | inr m ↦ q r is m ]
 
 quiet_one : (x : Record) → makes_edge x ≡ false → Quiet (x ∷ [])
@@ -103,16 +105,16 @@ quiet_move names old new =
     quiet_if (bytes_eq old new) [] (lost_name names new ++ log.Name (file_named names old) new ∷ []) quiet_none
     (quiet-append (lost_name names new) (log.Name (file_named names old) new ∷ []) (quiet_given (λ file. log.Name file []) (λ file. refl) (finite_map.get names new)) (quiet_one _ refl))
 
-quiet_args : (node : Node) (args : List ℕ) → Quiet (args_records node args)
+pub quiet_args : (node : Node) (args : List ℕ) → Quiet (args_records node args)
 quiet_args node [] = quiet_none
 quiet_args node (b ∷ args) = quiet_one _ refl
 
-quiet_content : (session : Session) (past : List Entry) (e : Entry) → Quiet (content_records session past e)
+pub quiet_content : (session : Session) (past : List Entry) (e : Entry) → Quiet (content_records session past e)
 quiet_content session past e =
     let new : List ℕ = file_act (file_after session past e.what) e.act in
     quiet_cons (log.Size e.what (length new)) _ refl (quiet_map (digest_of e.what new) (λ block. refl) (filter (is_digested session past e) (range_with_len 0 1024)))
 
-quiet_extra : (session : Session) (past : List Entry) (e : Entry) (node : Node) (a : Act) → Quiet (extra_records session past e node a)
+pub quiet_extra : (session : Session) (past : List Entry) (e : Entry) (node : Node) (a : Act) → Quiet (extra_records session past e node a)
 quiet_extra session past e node (act.Put out at bytes) = quiet_content session past e
 quiet_extra session past e node (act.Cut out size) = quiet_content session past e
 quiet_extra session past e node (act.Exec out name args) = quiet_cons (log.Attr node (codes "EXE") name) (args_records node args) refl (quiet_args node args)
@@ -158,9 +160,6 @@ in_fresh false node o r h = absurd (let z = h.1 in omega (arith, z))
 same_version : (a b : Node) → log.Version a ≡ log.Version b → a ≡ b
 same_version a b e = cc
 
-same_input : (a b c d : Node) → log.Input a b ≡ log.Input c d → (a ≡ c) × (b ≡ d)
-same_input a b c d e = (cc, cc)
-
 module _ (session : Session) (past : List Entry) (e : Entry) where
   abbrev nodes : List Node
   nodes = nodes_of session past
@@ -189,7 +188,7 @@ module _ (session : Session) (past : List Entry) (e : Entry) where
         | inl l ↦ let (f, same) = in_freeze (is_freeze session past nodes e) node (log.Input a b) l in absurd (cc)
         | inr m ↦
             let (g, s, given, same) = in_fresh (is_fresh session past nodes e) node (source_in nodes e) (log.Input a b) m in
-            let (target, source) = same_input node s a b same in
+            let (target, source) = input_parts node s a b same in
             (g, target, given ∙ ap (λ s. Some s) source)
       ]
 
@@ -211,7 +210,7 @@ module _ (session : Session) (past : List Entry) (e : Entry) where
   record_version freezes =
       let fine : is_fault e.reply ≡ false = not_so (is_fault e.reply) (true_left (not (is_fault e.reply)) _ freezes) in
       let acts : (always_freezes e.act ≡ true) ⊎ ((out : ℕ) × (out_of e.act ≡ Some out)) =
-      elim (true_or (always_freezes e.act) _ (true_right (not (is_fault e.reply)) _ freezes)) [
+      elim (or_cases (always_freezes e.act) _ (true_right (not (is_fault e.reply)) _ freezes)) [
         | inl always ↦ inl always
         | inr both ↦ let (none, out, names) = fresh_acts (true_left (is_fresh session past nodes e) (is_marked session past nodes e.what) both) in inr (out, names)
       ] in

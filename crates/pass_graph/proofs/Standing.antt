@@ -1,5 +1,5 @@
 -- Each place of a legal history: its object, its version, and its source.
-use Rattle.std.proofs.Common.{◌≡◌, ◌<◌, ◌≤◌, ◌+◌, ℕ, zero, suc, List, [], ◌∷◌, ◌++◌, length, take, ap, sym, ◌∙◌, arith, true, false, ◌==◌, append_assoc}
+use Rattle.std.proofs.Common.{◌≡◌, ◌<◌, ◌≤◌, ◌+◌, ℕ, zero, suc, List, [], ◌∷◌, ◌++◌, length, take, ap, sym, ◌∙◌, arith, true, false, ◌==◌}
 use Rattle.std.specs.Prelude.{Option, Some, slice_get, fold, zip, drop, if◌then◌else◌}
 use Rattle.std.specs.Option.{option_map_or}
 use Rattle.std.proofs.lemmas.List.{take-append-le, take_all, take-append-drop, length-take-le}
@@ -7,40 +7,18 @@ use Rattle.std.proofs.lemmas.List.Sums.{fold-append}
 use Rattle.std.proofs.lemmas.Option.{slice_get_within}
 use Rattle.pass_entry.specs.declared.entry.Entry.{Entry}
 use Rattle.pass_entry.specs.declared.objects.Node.{Node}
+use Rattle.pass_entry.proofs.Places.{slice_get-take, take_one_more, slice_get-last}
 use Rattle.pass_plain.specs.Sessions.{Session, opening_version}
 use Rattle.pass_plain.specs.Versions.{version_in, nodes_of, node_at_entry, is_freeze}
 use Rattle.pass_plain.proofs.Lists.{same_itself}
-use Rattle.pass_plain.proofs.Appends.{slice_get-last}
-use Rattle.pass_plain.proofs.Replays.{append-nil, slice_get-take}
 use Rattle.pass_plain.proofs.Versioned.{nodes_of-append, length-nodes_of}
-
-pub take_suc : {X : Type 0} (xs : List X) (k : ℕ) (x : X) → slice_get xs k ≡ Some x → take (suc k) xs ≡ take k xs ++ x ∷ []
-take_suc [] k x at = absurd (cc)
-take_suc (y ∷ xs) zero x at = ap (λ (o : Option _). option_map_or (λ z. z ∷ []) o []) at
-take_suc (y ∷ xs) (suc k) x at = ap (λ ys. y ∷ ys) (take_suc xs k x at)
-
-pub zip_at : {X Y : Type 0} (xs : List X) (ys : List Y) (i : ℕ) (x : X) (y : Y) → slice_get xs i ≡ Some x → slice_get ys i ≡ Some y → slice_get (zip xs ys) i ≡ Some (x, y)
-zip_at [] ys i x y a b = absurd (cc)
-zip_at (u ∷ xs) [] i x y a b = absurd (cc)
-zip_at (u ∷ xs) (v ∷ ys) zero x y a b = cc
-zip_at (u ∷ xs) (v ∷ ys) (suc i) x y a b = zip_at xs ys i x y a b
+use Rattle.pass_plain.proofs.LastNodes.{nodes_more}
 
 pub zip_right : {X Y : Type 0} (xs : List X) (ys : List Y) (i : ℕ) (s : X × Y) → slice_get (zip xs ys) i ≡ Some s → slice_get ys i ≡ Some s.1
 zip_right [] ys i s e = absurd (cc)
 zip_right (x ∷ xs) [] i s e = absurd (cc)
 zip_right {X = X} {Y = Y} (x ∷ xs) (y ∷ ys) zero s e = ap (λ (o : Option (X × Y)). option_map_or (λ (s : X × Y). Some s.1) o (Some y)) e
 zip_right (x ∷ xs) (y ∷ ys) (suc i) s e = zip_right xs ys i s e
-
--- the nodes of later entries stand behind those of the earlier ones
-begins : (session : Session) (seen later : List Entry) → (more : List Node) × (nodes_of session (seen ++ later) ≡ nodes_of session seen ++ more)
-begins session seen [] = ([], ap (λ h. nodes_of session h) (append-nil seen) ∙ sym (append-nil (nodes_of session seen)))
-begins session seen (e ∷ later) =
-    let n : Node = node_at_entry session seen (nodes_of session seen) e in
-    let rest : (more : List Node) × (nodes_of session ((seen ++ e ∷ []) ++ later) ≡ nodes_of session (seen ++ e ∷ []) ++ more) = begins session (seen ++ e ∷ []) later in (
-      n ∷ rest.0,
-      ap (λ h. nodes_of session h) (sym (append_assoc seen (e ∷ []) later)) ∙ rest.1 ∙ ap (λ ns. ns ++ rest.0) (nodes_of-append session seen e)
-          ∙ append_assoc (nodes_of session seen) (n ∷ []) rest.0,
-    )
 
 -- the version of an object after the first k entries, from its first one
 abbrev pub version_at : (ℕ → ℕ) → Session → List Entry → ℕ → ℕ → ℕ
@@ -50,7 +28,7 @@ module _ (session : Session) (history : List Entry) where
   pub nodes-take : (k : ℕ) → k ≤ length history → nodes_of session (take k history) ≡ take k (nodes_of session history)
   nodes-take k le =
       let past : List Entry = take k history in
-      let all : (more : List Node) × (nodes_of session (past ++ drop k history) ≡ nodes_of session past ++ more) = begins session past (drop k history) in
+      let all : (more : List Node) × (nodes_of session (past ++ drop k history) ≡ nodes_of session past ++ more) = nodes_more session past (drop k history) in
       let n : length (nodes_of session past) ≡ length past = length-nodes_of session past in
       let m : length past ≡ k = length-take-le k history le in
       sym (ap (λ h. take k (nodes_of session h)) (sym (take-append-drop k history)) ∙ ap (take k) all.1
@@ -68,7 +46,7 @@ module _ (session : Session) (history : List Entry) where
       let n : length (nodes_of session past) ≡ length past = length-nodes_of session past in
       let m : length past ≡ k = length-take-le k history (omega (arith, within)) in
       let whole : take (suc k) (nodes_of session history) ≡ nodes_of session past ++ now k e ∷ [] =
-      sym (nodes-take (suc k) (omega (arith, within))) ∙ ap (λ h. nodes_of session h) (take_suc history k e at) ∙ nodes_of-append session past e in
+      sym (nodes-take (suc k) (omega (arith, within))) ∙ ap (λ h. nodes_of session h) (take_one_more history k e at) ∙ nodes_of-append session past e in
       let size : length (nodes_of session past) ≡ k = omega (arith, n, m) in
       slice_get-take (suc k) k (nodes_of session history) (now k e)
       (ap (λ ns. slice_get ns k) whole ∙ ap (λ i. slice_get (nodes_of session past ++ now k e ∷ []) i) (sym size) ∙ slice_get-last (nodes_of session past) (now k e))
@@ -78,7 +56,7 @@ module _ (session : Session) (history : List Entry) where
         → version_at first session history o (suc k) ≡ (if e.what == o then (now k e).version else version_at first session history o k)
     version_step k o e at =
         let change : ℕ → Node → ℕ = λ v n. if n.pnode == o then n.version else v in
-        ap (fold change (first o)) (take_suc (nodes_of session history) k (now k e) (node_stands k e at))
+        ap (fold change (first o)) (take_one_more (nodes_of session history) k (now k e) (node_stands k e at))
         ∙ fold-append change (first o) (take k (nodes_of session history)) (now k e ∷ [])
 
     pub version_same : (k o : ℕ) (e : Entry) → slice_get history k ≡ Some e → (e.what == o) ≡ false

@@ -1,6 +1,8 @@
 -- What the laws need of a history, as functions of a place, and what follows for versions.
 use Rattle.std.proofs.Common.{ℕ, ◌≡◌, ◌≢◌, ◌≤◌, ◌<◌, zero, suc, max, Bool, true, false, ◌⊎◌, inl, inr, refl, ap, le_trans, le_of_eq, arith}
+use Rattle.std.proofs.lemmas.Bool.{cases_Bool}
 use native.Mathlib.Decide.{ℕ_discrete}
+use Rattle.pass_entry.proofs.Lists.{le_or_above}
 
 -- a history by its places: `version o k` is the version of o after the first k entries, `opened o` the last one of the
 -- opening, or 0
@@ -41,13 +43,6 @@ pub record IsBegun (s : Story) : Type 0 where
   pub start : (o : ℕ) → s.version o 0 ≡ max 1 (s.opened o)
   pub opens : (k o : ℕ) → k < s.size → s.fresh k ≡ true → s.what k ≡ o → s.version o k ≡ s.opened o → s.freezes k ≡ true
 
-pub bool_cases : (b : Bool) → (b ≡ true) ⊎ (b ≡ false)
-bool_cases true = inl refl
-bool_cases false = inr refl
-
-pub le_cases : (a b : ℕ) → (a ≤ b) ⊎ (b < a)
-le_cases a b = grind arith
-
 pub le_split : (a b : ℕ) → a ≤ suc b → (a ≡ suc b) ⊎ (a ≤ b)
 le_split a b h = grind arith
 
@@ -55,7 +50,7 @@ le_split a b h = grind arith
 pub step_le : (s : Story) → IsStory s → (o k : ℕ) → k < s.size → (s.version o k ≤ s.version o (suc k)) × (s.version o (suc k) ≤ suc (s.version o k))
 step_le s h o k l =
     elim (ℕ_discrete (s.what k) o) [
-      | yes e ↦ elim (bool_cases (s.freezes k)) [ inl f ↦ omega (arith, h.moves k o l e f) | inr f ↦ omega (arith, h.keeps k o l e f) ]
+      | yes e ↦ elim (cases_Bool (s.freezes k)) [ inl f ↦ omega (arith, h.moves k o l e f) | inr f ↦ omega (arith, h.keeps k o l e f) ]
       | no ne ↦ omega (arith, h.same k o l ne)
     ]
 
@@ -79,11 +74,11 @@ pub record Left (s : Story) (o v : ℕ) : Type 0 where
 pub left_by : (s : Story) → IsStory s → IsBegun s → (o v b : ℕ) → b ≤ s.size → max 1 (s.opened o) ≤ v → v < s.version o b → Left s o v
 left_by s h g o v zero lb from below = absurd (omega (arith, g.start o))
 left_by s h g o v (suc b) lb from below =
-    elim (le_cases (s.version o b) v) [
+    elim (le_or_above (s.version o b) v) [
       | inr l ↦ left_by s h g o v b (omega arith) from l
       | inl l ↦ elim (ℕ_discrete (s.what b) o) [
         | no ne ↦ absurd (omega (arith, h.same b o lb ne))
-        | yes e ↦ elim (bool_cases (s.freezes b)) [
+        | yes e ↦ elim (cases_Bool (s.freezes b)) [
           | inr f ↦ absurd (omega (arith, h.keeps b o lb e f))
           | inl f ↦ let m : s.version o (suc b) ≡ suc (s.version o b) = h.moves b o lb e f in
               record { place = b; below = lb; what = e; freezes = f; before = omega arith; after = omega arith }
@@ -105,7 +100,7 @@ pub record First (s : Story) (k o v x w : ℕ) : Type 0 where
 pub first_of_its_kind : (s : Story) → IsStory s → (fuel k o v x w : ℕ) → k < fuel → k < s.size → s.is_in k ≡ true → s.what k ≡ o → s.version o (suc k) ≡ v → s.what (s.out k) ≡ x → s.version x (s.out k) ≡ w → First s k o v x w
 first_of_its_kind s h zero k o v x w few l i e ev ex ew = absurd (omega arith)
 first_of_its_kind s h (suc fuel) k o v x w few l i e ev ex ew =
-    elim (bool_cases (s.fresh k)) [
+    elim (cases_Bool (s.fresh k)) [
       | inl f ↦ record { place = k; below = omega arith; is_in = i; fresh = f; what = e; version = ev; source = ex; source_version = ew }
       | inr f ↦
           let r : (s.freezes k ≡ false) × Taken s k o (s.version o k) x (s.version x (s.out k)) = h.repeats k o x l i f e ex in

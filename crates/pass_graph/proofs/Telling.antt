@@ -1,23 +1,26 @@
 -- A legal history is a story.
-use Rattle.std.proofs.Common.{◌≡◌, ◌≢◌, ◌<◌, ◌≤◌, ℕ, suc, List, length, take, refl, ap, sym, ◌∙◌, arith, ◌⊎◌, inl, inr, Bool, true, false, not, ◌||◌, ◌&&◌, ◌==◌}
+use Rattle.std.proofs.Common.{◌≡◌, ◌≢◌, ◌<◌, ◌≤◌, ℕ, suc, List, length, take, refl, ap, sym, ◌∙◌, arith, inl, inr, Bool, true, false, not, ◌||◌, ◌&&◌, ◌==◌}
 use Rattle.std.specs.Prelude.{Option, Some, None, slice_get, zip, option_and_then, if◌then◌else◌}
 use Rattle.std.specs.Option.{option_map_or}
 use Rattle.std.proofs.lemmas.Bool.Decides.{nat_tests}
+use Rattle.std.proofs.lemmas.Bool.{or_right, or_left}
 use Rattle.pass_entry.specs.declared.entry.Entry.{Entry}
 use Rattle.pass_entry.specs.declared.entry.Act.{Act}
 use Rattle.pass_entry.specs.declared.entry.Act.TheVariants as act
 use Rattle.pass_entry.specs.declared.objects.Node.{Node}
+use Rattle.pass_entry.proofs.Places.{slice_get-take, zip_at}
+use Rattle.pass_entry.proofs.Variants.{none_if}
 use Rattle.pass_plain.specs.Histories.{is_fault, is_out, uses, out_of, source_place}
 use Rattle.pass_plain.specs.Sessions.{Session, opening_version}
 use Rattle.pass_plain.specs.Legal.{IsLegal}
 use Rattle.pass_plain.specs.Versions.{same_node, same_source, version_in, node_in, nodes_of, source_in, is_in, is_exec, always_freezes, is_used, is_marked, is_repeated, is_fresh, is_freeze}
-use Rattle.pass_plain.proofs.Lists.{true_left, true_right, both_true, not_false, same_numbers, same_itself, is_place, any_at, any_of, in_take, within_take}
-use Rattle.pass_plain.proofs.Replays.{slice_get-take}
+use Rattle.pass_plain.proofs.Lists.{true_left, true_right, both_true, not_false, same_numbers, same_itself, is_place, any_at, any_of, in_take, within_take, some_is}
 use Rattle.pass_plain.proofs.Versioned.{zip_left}
 use Rattle.pass_plain.proofs.Sources.{source_law}
+use Rattle.pass_plain.proofs.Lineages.{exec_or_none}
 use Rattle.pass_graph.specs.Places.{out_at, is_out_at, is_in_at, is_fresh_at, is_freeze_at}
 use Rattle.pass_graph.proofs.Stories.{Story, Taken, IsStory}
-use Rattle.pass_graph.proofs.Standing.{zip_at, zip_right, version_at, nodes-take, now, node_stands, version_same, version_own, version_past, version_kept, version_moved}
+use Rattle.pass_graph.proofs.Standing.{zip_right, version_at, nodes-take, now, node_stands, version_same, version_own, version_past, version_kept, version_moved}
 
 -- the object of the entry at a place, and the place that it names, 0 where there is none
 abbrev pub what_at : List Entry → ℕ → ℕ
@@ -49,11 +52,6 @@ uses_alone (act.Take len) used = (refl, refl)
 uses_alone act.Cite used = (refl, refl)
 uses_alone _ used = absurd (cc)
 
-pub always_takes : (a : Act) → always_freezes a ≡ true → (is_exec a ≡ true) ⊎ (out_of a ≡ None)
-always_takes act.Freeze freezes = inr refl
-always_takes (act.Exec out name args) freezes = inl refl
-always_takes _ freezes = absurd (cc)
-
 pub given_some : (o : Option ℕ) → option_map_or (λ out. true) o false ≡ true → (out : ℕ) × (o ≡ Some out)
 given_some None h = absurd (cc)
 given_some (Some out) h = (out, refl)
@@ -61,22 +59,6 @@ given_some (Some out) h = (out, refl)
 pub no_fault : (b : Bool) (o : Option ℕ) (out : ℕ) → (if b then None else o) ≡ Some out → (b ≡ false) × (o ≡ Some out)
 no_fault true o out h = absurd (cc)
 no_fault false o out h = (refl, h)
-
-nothing_named : (b : Bool) (o : Option ℕ) → o ≡ None → (if b then None else o) ≡ None
-nothing_named true o h = refl
-nothing_named false o h = h
-
-pub true_or : (a b : Bool) → a || b ≡ true → (a ≡ true) ⊎ (b ≡ true)
-true_or true b h = inl refl
-true_or false b h = inr h
-
-true_first : (a b : Bool) → a ≡ true → a || b ≡ true
-true_first true b h = refl
-true_first false b h = absurd (cc)
-
-pub true_second : (a b : Bool) → b ≡ true → a || b ≡ true
-true_second true b h = refl
-true_second false b h = h
 
 -- the numbers of nodes that are the same
 pub same_parts : (a b : Node) → same_node a b ≡ true → (a.pnode ≡ b.pnode) × (a.version ≡ b.version)
@@ -93,9 +75,6 @@ same_given (Some a) (Some b) h = (a, b, refl, refl, h)
 pub given_place : (nodes : List Node) (o : Option ℕ) (a : Node) → option_map_or (λ out. slice_get nodes out) o None ≡ Some a → (out : ℕ) × (o ≡ Some out) × (slice_get nodes out ≡ Some a)
 given_place nodes None a h = absurd (cc)
 given_place nodes (Some out) a h = (out, refl, h)
-
-some_node : (a b : Node) → ◌≡◌ {A = Option Node} (Some a) (Some b) → a ≡ b
-some_node a b e = cc
 
 module _ (session : Session) (history : List Entry) (k : ℕ) (e : Entry) (at : slice_get history k ≡ Some e) where
   pub what_is : what_at history k ≡ e.what
@@ -154,7 +133,7 @@ module _ (session : Session) (history : List Entry) (legal : IsLegal session his
   out_rests k e at is =
       let (never, none) = uses_alone e.act (true_left (uses e.act) (not (is_fault e.reply)) is) in
       let nodes : List Node = nodes_of session (take k history) in
-      let idle : is_in e ≡ false = ap (λ o. option_map_or (λ out. true) o false) (nothing_named (is_fault e.reply) (out_of e.act) none) in (
+      let idle : is_in e ≡ false = ap (λ o. option_map_or (λ out. true) o false) (none_if (is_fault e.reply) (out_of e.act) none) in (
         ap (λ b. not (is_fault e.reply) && (b || (is_fresh session (take k history) nodes e && is_marked session (take k history) nodes e.what))) never
             ∙ ap (λ b. not (is_fault e.reply) && ((b && (is_exec e.act || not (is_repeated session (take k history) nodes e))) && is_marked session (take k history) nodes e.what)) idle
             ∙ nothing (is_fault e.reply),
@@ -198,7 +177,7 @@ module _ (session : Session) (history : List Entry) (legal : IsLegal session his
         let target : Node = node_in session nodes o in
         let n : Node = record { pnode = f.what; version = version f.what j } in
         let past : version o k ≡ version_in session nodes o = version_past session history first k o within begins in
-        true_first (is_used (take k history) nodes target) _
+        or_left (is_used (take k history) nodes target) _
         (any_of (λ (s : Entry × Node). is_out s.0 && same_node s.1 target) (zip (take k history) nodes) j (f, n)
         (zip_at (take k history) nodes j f n (in_take j k history f short at_j) (past_node k j n within short (out_node j f at_j is)))
         (both_true _ _ is (parts_same n target same (ap (λ o. version o j) same ∙ level ∙ past))))
@@ -210,7 +189,7 @@ module _ (session : Session) (history : List Entry) (legal : IsLegal session his
         let new : is_fresh session (take k history) nodes e ≡ true = sym (fresh_is session history k e at) ∙ fresh in
         let (out, names) = given_some (source_place e) (true_left (is_in e) (is_exec e.act || not (is_repeated session (take k history) nodes e)) new) in
         freeze_is session history k e at
-        ∙ both_true _ _ (ap not (no_fault (is_fault e.reply) (out_of e.act) out names).0) (true_second (always_freezes e.act) _ (both_true _ _ new marked))
+        ∙ both_true _ _ (ap not (no_fault (is_fault e.reply) (out_of e.act) out names).0) (or_right (always_freezes e.act) _ (both_true _ _ new marked))
 
     pub is_told : (opened : ℕ → ℕ) → IsStory (told first opened session history)
     is_told opened = record {
@@ -265,15 +244,15 @@ module _ (session : Session) (history : List Entry) (legal : IsLegal session his
             let at_j : slice_get history j ≡ Some s.0 = slice_get-take k j history s.0 at_past in
             let short : j < k = within_take k j history s.0 at_past in
             let node_j : slice_get nodes j ≡ Some s.1 = zip_right past nodes j s at_s in
-            let is_now : now session history j s.0 ≡ s.1 = some_node _ _ (sym (past_node k j _ (omega (arith, within)) short (node_stands session history j s.0 at_j)) ∙ node_j) in
+            let is_now : now session history j s.0 ≡ s.1 = some_is _ _ (sym (past_node k j _ (omega (arith, within)) short (node_stands session history j s.0 at_j)) ∙ node_j) in
             let (object, level) = same_parts s.1 (node_in session nodes e.what) (true_left _ _ passes) in
             let object_j : s.0.what ≡ e.what = ap (λ (n : Node). n.pnode) is_now ∙ object in
             let (a, b, is_a, is_b, alike) = same_given (source_in nodes s.0) (source_in nodes e) (true_right (same_node s.1 (node_in session nodes e.what)) _ passes) in
             let (out, names, found) = given_place nodes (source_place s.0) a is_a in
             let ij : IsInAt history j = in_at j (omega (arith, short, within)) (in_is session history j s.0 at_j ∙ ap (λ o. option_map_or (λ out. true) o false) names) in
             let same_entry : ij.entry ≡ s.0 = some_entry _ _ (sym ij.stands ∙ at_j) in
-            let from_j : record { pnode = ij.source.what; version = version ij.source.what ij.out } ≡ a = some_node _ _ (sym (takes_past k j ij (omega (arith, within)) (omega (arith, short))) ∙ ap (λ f. source_in nodes f) same_entry ∙ is_a) in
-            let from_k : record { pnode = i.source.what; version = version i.source.what i.out } ≡ b = some_node _ _ (sym (takes_past k k i (omega (arith, within)) (omega arith)) ∙ is_b) in
+            let from_j : record { pnode = ij.source.what; version = version ij.source.what ij.out } ≡ a = some_is _ _ (sym (takes_past k j ij (omega (arith, within)) (omega (arith, short))) ∙ ap (λ f. source_in nodes f) same_entry ∙ is_a) in
+            let from_k : record { pnode = i.source.what; version = version i.source.what i.out } ≡ b = some_is _ _ (sym (takes_past k k i (omega (arith, within)) (omega arith)) ∙ is_b) in
             let (alike_object, alike_version) = same_parts a b alike in
             let source_k : i.source.what ≡ x = sym (what_is session history i.out i.source i.source_stands) ∙ ap (what_at history) (sym i.named) ∙ is_x in
             let source_j : ij.source.what ≡ x = ap (λ (n : Node). n.pnode) from_j ∙ alike_object ∙ sym (ap (λ (n : Node). n.pnode) from_k) ∙ source_k in
@@ -312,7 +291,7 @@ module _ (session : Session) (history : List Entry) (legal : IsLegal session his
                 let e : Entry = i.entry in
                 let stale : is_fresh session (take k history) (nodes_of session (take k history)) e ≡ false = sym (fresh_is session history k e i.stands) ∙ old in
                 let (never, again) = not_new (is_in e) (is_exec e.act) (is_repeated session (take k history) (nodes_of session (take k history)) e) (sym (in_is session history k e i.stands) ∙ is) stale in
-                elim (always_takes e.act t) [
+                elim (exec_or_none e.act t) [
                   | inl exec ↦ absurd (let z : true ≡ false = sym exec ∙ never in cc)
                   | inr none ↦ absurd (let z : None ≡ Some i.out = sym none ∙ (no_fault (is_fault e.reply) (out_of e.act) i.out i.names).1 in cc)
                 ]

@@ -4,22 +4,23 @@ use native.Mathlib.Decide.{ℕ_discrete}
 use Rattle.std.specs.Prelude.{Option, Some, None, slice_get, zip, option_map, option_and_then, if◌then◌else◌}
 use Rattle.std.specs.Option.{option_map_or}
 use Rattle.std.proofs.lemmas.Option.{slice_get_within}
+use Rattle.std.proofs.lemmas.Bool.{or_right, cases_Bool, or_cases}
 use Rattle.pass_entry.specs.declared.entry.Entry.{Entry}
 use Rattle.pass_entry.specs.declared.entry.Act.{Act}
 use Rattle.pass_entry.specs.declared.entry.Act.TheVariants as act
 use Rattle.pass_entry.specs.declared.objects.Node.{Node}
+use Rattle.pass_entry.proofs.Places.{slice_get-take, zip_at}
 use Rattle.pass_plain.specs.Histories.{is_fault, is_out, source_place}
 use Rattle.pass_plain.specs.Sessions.{Session, is_opened, opening_version}
 use Rattle.pass_plain.specs.Legal.{IsLegal}
 use Rattle.pass_plain.specs.Versions.{same_node, same_source, node_in, version_in, nodes_of, source_in, is_in, is_exec, always_freezes, is_used, is_marked, is_repeated, is_fresh, version_after, marked_after}
 use Rattle.pass_plain.proofs.Lists.{true_left, true_right, both_true, not_true, same_numbers, same_itself, is_place, any_at, any_of, in_take, within_take}
-use Rattle.pass_plain.proofs.Replays.{slice_get-take}
 use Rattle.pass_plain.proofs.Versioned.{zip_left}
 use Rattle.pass_graph.specs.Places.{object_at, source_at, is_out_at, is_in_at, is_fresh_at, is_freeze_at}
 use Rattle.pass_graph.specs.Words.{freezes_at, count_freezes, NoFreezeBetween, IsMarkedBefore, HasTaken, IsInWords, WordsLaw}
-use Rattle.pass_graph.proofs.Stories.{Story, Taken, IsStory, mono, bool_cases, le_split}
-use Rattle.pass_graph.proofs.Standing.{zip_at, zip_right, version_at, now, node_stands, version_past}
-use Rattle.pass_graph.proofs.Telling.{takes_from, what_at, named_at, told, in_at, IsInAt, past_node, takes_past, used_since, true_or, true_second, same_parts, parts_same, what_is, out_is, in_is, fresh_is, freeze_is}
+use Rattle.pass_graph.proofs.Stories.{Story, Taken, IsStory, mono, le_split}
+use Rattle.pass_graph.proofs.Standing.{zip_right, version_at, now, node_stands, version_past}
+use Rattle.pass_graph.proofs.Telling.{takes_from, what_at, named_at, told, in_at, IsInAt, past_node, takes_past, used_since, same_parts, parts_same, what_is, out_is, in_is, fresh_is, freeze_is}
 use Rattle.pass_graph.proofs.Joining.{is_node}
 use Rattle.pass_graph.proofs.Repeating.{object_is, is, source_is}
 
@@ -39,7 +40,7 @@ stays_same s h o a (suc b) le most none =
 
 pub no_freeze : (s : Story) → IsStory s → (o a b f : ℕ) → b ≤ s.size → s.version o a ≡ s.version o b → a ≤ f → f < b → s.what f ≡ o → s.freezes f ≡ false
 no_freeze s h o a b f most same al fb on =
-    elim (bool_cases (s.freezes f)) [
+    elim (cases_Bool (s.freezes f)) [
       | inr kept ↦ kept
       | inl moved ↦
           let before : s.version o a ≤ s.version o f = mono s h o a f al (omega (arith, fb, most)) in
@@ -99,7 +100,7 @@ module _ (session : Session) (history : List Entry) (legal : IsLegal session his
             omega (arith, rest, z, y)
         | yes on ↦
             let same : (what_at history k == o) ≡ true = ap (λ n. n == o) on ∙ same_itself o in
-            elim (bool_cases (is_freeze_at session history k)) [
+            elim (cases_Bool (is_freeze_at session history k)) [
               | inl moved ↦
                   let t : freezes_at session history o k ≡ true = is ∙ both_true _ _ moved same in
                   let z : count_freezes session history o (suc k) ≡ suc low = ap (λ b. if b then suc low else low) t in
@@ -130,7 +131,7 @@ module _ (session : Session) (history : List Entry) (legal : IsLegal session his
   marked_word k o le here =
       let nodes : List Node = nodes_of session (take k history) in
       let level : version o k ≡ version_in session nodes o = after_is k o le in
-      elim (true_or (is_used (take k history) nodes (node_in session nodes o)) _ here) [
+      elim (or_cases (is_used (take k history) nodes (node_in session nodes o)) _ here) [
         | inl used ↦
             let (j, p, at, passes) = any_at (λ (p : Entry × Node). is_out p.0 && same_node p.1 (node_in session nodes o)) (zip (take k history) nodes) used in
             let at_past : slice_get (take k history) j ≡ Some p.0 = zip_left (take k history) nodes j p at in
@@ -177,7 +178,7 @@ module _ (session : Session) (history : List Entry) (legal : IsLegal session his
   word_marked k o le (inr old) =
       let nodes : List Node = nodes_of session (take k history) in
       let same : version o 0 ≡ version o k = stays_same s h o 0 k (omega arith) le (λ f zf fk on_f. old.1 f fk (is_object f o (omega (arith, fk, le)) on_f)) in
-      true_second (is_used (take k history) nodes (node_in session nodes o)) _
+      or_right (is_used (take k history) nodes (node_in session nodes o)) _
       (both_true _ _ old.0 (ap (λ v. v == opening_version session.start o) (sym (same ∙ after_is k o le)) ∙ same_itself (opening_version session.start o)))
 
   -- earlier INs
@@ -264,14 +265,14 @@ module _ (session : Session) (history : List Entry) (legal : IsLegal session his
               let new : is_fresh session past nodes e ≡ true = sym (fresh_is session history k e at) ∙ t in
               let here : is_in_at history k ≡ true = in_is session history k e at ∙ true_left (is_in e) _ new in (
                 here,
-                elim (true_or (is_exec e.act) _ (true_right (is_in e) _ new)) [
+                elim (or_cases (is_exec e.act) _ (true_right (is_in e) _ new)) [
                   | inl exec ↦ inl exec
                   | inr once ↦ inr (λ source from taken.
                       let again = word_taken k e source at here from taken in
                       let z : true ≡ false = sym again ∙ not_true _ once in cc)
                 ],
               )),
-          (λ w. elim (bool_cases (is_fresh_at session history k)) [
+          (λ w. elim (cases_Bool (is_fresh_at session history k)) [
             | inl new ↦ new
             | inr stale ↦ elim w.1 [
               | inl exec ↦
@@ -285,7 +286,7 @@ module _ (session : Session) (history : List Entry) (legal : IsLegal session his
           (λ t.
               let moved = sym (freeze_is session history k e at) ∙ t in (
                 not_true _ (true_left (not (is_fault e.reply)) _ moved),
-                elim (true_or (always_freezes e.act) _ (true_right (not (is_fault e.reply)) _ moved)) [
+                elim (or_cases (always_freezes e.act) _ (true_right (not (is_fault e.reply)) _ moved)) [
                   | inl always ↦ elim (always_is e.act always) [ inl f ↦ inl f | inr x ↦ inr (inl x) ]
                   | inr both ↦ inr (inr (
                     fresh_is session history k e at ∙ true_left (is_fresh session past nodes e) _ both,
@@ -299,7 +300,7 @@ module _ (session : Session) (history : List Entry) (legal : IsLegal session his
                 | inl f ↦ ap (λ b. b || (is_fresh session past nodes e && is_marked session past nodes e.what)) (ap always_freezes f)
                 | inr r ↦ elim r [
                   | inl exec ↦ ap (λ b. b || (is_fresh session past nodes e && is_marked session past nodes e.what)) (exec_always e.act exec)
-                  | inr both ↦ true_second (always_freezes e.act) _ (both_true _ _ (sym (fresh_is session history k e at) ∙ both.0) (word_marked k e.what (omega (arith, within)) both.1))
+                  | inr both ↦ or_right (always_freezes e.act) _ (both_true _ _ (sym (fresh_is session history k e at) ∙ both.0) (word_marked k e.what (omega (arith, within)) both.1))
                 ]
               ])),
         );

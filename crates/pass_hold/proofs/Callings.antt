@@ -1,5 +1,5 @@
 -- How a call goes on by one entry, begins and ends.
-use Rattle.std.proofs.Common.{◌≡◌, ℕ, ◌+◌, ◌<◌, ◌≤◌, ◌-◌, List, [], ◌∷◌, ◌++◌, length, refl, ap, sym, ◌∙◌, subst, arith, ◌⊎◌, inl, inr, Bool, true, false, ◌||◌, ◌&&◌, not, ◌==◌, cond, append_assoc}
+use Rattle.std.proofs.Common.{◌≡◌, ℕ, ◌+◌, ◌≤◌, ◌-◌, List, [], ◌∷◌, ◌++◌, length, refl, ap, sym, ◌∙◌, subst, arith, ◌⊎◌, inl, inr, Bool, true, false, ◌||◌, ◌&&◌, not, ◌==◌, cond, append_assoc}
 use Rattle.std.specs.Prelude.{Some, slice_get, take, if◌then◌else◌}
 use Rattle.std.specs.Option.{option_map_or}
 use Rattle.std.proofs.lemmas.List.{append-nil, map-append}
@@ -15,14 +15,12 @@ use Rattle.pass_plain.specs.Calls.{Made, name_of, is_within, call_steps, is_last
 use Rattle.pass_plain.specs.Places.{need_of, call_places, freed_places, keeps}
 use Rattle.pass_plain.specs.Legal.{IsLegal, CallerAllows, IsNextStep, is_start, is_empty, is_next_number, before_call, is_over, may_be_left, last_number, goes_on, ends_call, leaves_call}
 use Rattle.pass_plain.specs.CallLaws.{IsBegun}
-use Rattle.pass_plain.specs.Lawful.{most_steps}
 use Rattle.pass_plain.proofs.Lists.{both_true, same_itself}
 use Rattle.pass_plain.proofs.Appends.{place_of, legal-push}
 use Rattle.pass_plain.proofs.Calling.{numbered, last_number-append, call_entries-append, acts-cases, goes_on-cases}
 use Rattle.pass_plain.proofs.TwoPrefixes.{none_later, process-append, begun_more, SameCaller, caller_agrees}
 use Rattle.pass_plain.proofs.Playing.{before_hit, before_new, no_calls, zero_not}
 use Rattle.pass_plain.proofs.Going.{next_step_law, begun_law}
-use Rattle.pass_plain.proofs.Counts.{step_count_law}
 use Rattle.pass_entry.specs.declared.entry.CallName.TheVariants as call_name
 use Rattle.pass_book.proofs.Prefixes.{prefix_self, prefix_trans, prefix_more, filter_hit}
 use Rattle.pass_hold.specs.Callings.{made_by, entries_in, IsEntered, IsIdle, IsInCall, IsGoing, HasGone, IsCallMade, HasLooked}
@@ -306,18 +304,6 @@ held_going session before seen who number r p s made now is last goes =
     ap (λ n. if is_over seen who n then 0 else option_map_or (λ (s : ℕ × Entry). need_of s.1.call - length (call_entries seen who n)) (slice_get (call_entries seen who n) 0) 0) last
     ∙ (λ i. if ends_call (is.before_is i) (is.made_is i) then 0 else option_map_or (λ (s : ℕ × Entry). need_of s.1.call - length (is.made_is i)) (slice_get (is.made_is i) 0) 0)
     ∙ (λ i. if goes i then 0 else need_of (is.named 0 s refl i) - length (s ∷ made))
-
--- a fork that has a next step holds enough for its child
-fork_low : (held most made : ℕ) → held ≡ 132 - made → made < most → most ≤ 67 → 66 ≤ held
-fork_low held most made is low few = omega (arith, is, low, few)
-
-pub fork_holds : (session : Session) (before seen : List Entry) (who number : ℕ) (r : Request) (p : Process) (s : ℕ × Entry) (made : Made) (now : Process)
-    → IsInCall session before seen who number r p (s ∷ made) now → last_number seen who ≡ number → ends_call p (s ∷ made) ≡ false → name_of r ≡ call_name.Fork
-    → length (s ∷ made) < length (call_steps who p (s ∷ made) r) → 66 ≤ call_places seen who
-fork_holds session before seen who number r p s made now is last goes fork next =
-    fork_low (call_places seen who) (length (call_steps who p (s ∷ made) r)) (length (s ∷ made))
-    (held_going session before seen who number r p s made now is last goes ∙ ap (λ n. need_of n - length (s ∷ made)) fork) next
-    (subst (λ n. length (call_steps who p (s ∷ made) r) ≤ most_steps n) fork (step_count_law who p (s ∷ made) r))
 
 -- a call that may be left is one between calls, too
 pub left_idle : (session : Session) (before seen : List Entry) (who number : ℕ) (r : Request) (p : Process) (made : Made) (now : Process)

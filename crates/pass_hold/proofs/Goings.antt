@@ -1,15 +1,16 @@
 -- A call goes on by looks and entries.
-use Rattle.std.proofs.Common.{◌≡◌, ◌≢◌, ◌<◌, ◌≤◌, ◌+◌, ◌-◌, ℕ, zero, suc, List, [], ◌∷◌, ◌++◌, length, refl, ap, sym, ◌∙◌, subst, arith, inl, inr, Bool, true, false, ◌==◌, ◌||◌, cond, length-append}
+use Rattle.std.proofs.Common.{◌≡◌, ◌≢◌, ◌<◌, ◌≤◌, ◌+◌, ◌-◌, ℕ, zero, suc, List, [], ◌∷◌, ◌++◌, length, refl, ap, sym, ◌∙◌, subst, arith, inl, inr, Bool, true, false, ◌==◌, ◌||◌, length-append}
 use Rattle.std.specs.Prelude.{Some, slice_get, take, if◌then◌else◌}
 use Rattle.std.specs.Option.{option_map_or}
 use Rattle.std.specs.List.{list_any}
-use Rattle.std.proofs.lemmas.List.{take_all, take-append-le, append-nil}
+use Rattle.std.proofs.lemmas.List.{take_all, take-append-le}
 use Rattle.std.proofs.lemmas.Bool.Decides.{nat_tests}
 use mathlib.Core.List.{IsPrefix}
 use Rattle.pass_entry.specs.declared.entry.Entry.{Entry}
 use Rattle.pass_entry.specs.declared.entry.Act.{Act}
 use Rattle.pass_entry.specs.declared.entry.CallName.{CallName}
 use Rattle.pass_entry.specs.declared.entry.CallName.TheVariants as call
+use Rattle.pass_entry.proofs.Places.{within_front}
 use Rattle.pass_plain.specs.declared.request.Request.{Request}
 use Rattle.pass_plain.specs.Histories.{is_of_call, call_entries}
 use Rattle.pass_plain.specs.Sessions.{Session}
@@ -20,10 +21,11 @@ use Rattle.pass_plain.specs.Legal.{IsLegal, before_call, is_over, ends_call, is_
 use Rattle.pass_plain.specs.Lawful.{AgreeBy}
 use Rattle.pass_plain.specs.Places.{need_of, call_places, left_places}
 use Rattle.pass_plain.specs.Runs.{next_number}
-use Rattle.pass_plain.proofs.Lists.{same_itself, same_numbers, true_right, slice_get-front, any_of}
+use Rattle.pass_plain.proofs.Lists.{same_itself, same_numbers, true_right, le_or_above}
 use Rattle.pass_plain.proofs.Appends.{place_of, legal-push}
-use Rattle.pass_plain.proofs.Calling.{legal_take, call_entries-append, le_or_above}
+use Rattle.pass_plain.proofs.Calling.{legal_take}
 use Rattle.pass_plain.proofs.TwoPrefixes.{none_later, SameCaller, caller_agrees, begun_more}
+use Rattle.pass_plain.proofs.OtherCalls.{other_entries}
 use Rattle.pass_book.proofs.Prefixes.{prefix_self, prefix_trans, prefix_more, prefix_length}
 use Rattle.pass_hold.specs.Goings.{IsStepAt, Goes, StillLaw, LookLaw, AddLaw, AnsweredLaw, UnansweredLaw, LeftLaw}
 
@@ -43,28 +45,8 @@ none_in_take p zero (x ∷ xs) none = refl
 none_in_take p (suc n) [] none = refl
 none_in_take p (suc n) (x ∷ xs) none = none_if p x n xs (p x) refl (none_in_take p n xs) none
 
--- an element behind the beginning
-behind_it : {X : Type 0} (xs ys : List X) (n : ℕ) (x : X) → length xs ≤ n → slice_get (xs ++ ys) n ≡ Some x → slice_get ys (n - length xs) ≡ Some x
-behind_it [] ys n x le at = (let z : n - 0 ≡ n = omega arith in ap (λ n. slice_get ys n) z) ∙ at
-behind_it (y ∷ xs) ys zero x le at = absurd (omega arith)
-behind_it (y ∷ xs) ys (suc n) x le at = (let z : suc n - suc (length xs) ≡ n - length xs = omega arith in ap (λ n. slice_get ys n) z) ∙ behind_it xs ys n x (omega arith) at
-
--- who passes stands in the beginning, where none does later
-within : {X : Type 0} (p : X → Bool) (seen later whole : List X) (n : ℕ) (x : X) → seen ++ later ≡ whole → list_any p later ≡ false → slice_get whole n ≡ Some x → p x ≡ true
-    → (n < length seen) × (slice_get seen n ≡ Some x)
-within p seen later whole n x parts none at passes = elim (le_or_above (length seen) n) [
-  | inr less ↦ (less, slice_get-front seen later n x less (ap (λ xs. slice_get xs n) parts ∙ at))
-  | inl le ↦
-      let there = behind_it seen later n x le (ap (λ xs. slice_get xs n) parts ∙ at) in
-      absurd (let z : true ≡ false = sym (any_of p later (n - length seen) x there passes) ∙ none in cc)
-]
-
 pub own_is : (e : Entry) (who number : ℕ) → is_of_call who number e ≡ true → e.number ≡ number
 own_is e who number own = same_numbers e.number number (true_right (e.who == who) (e.number == number) own)
-
-pub other_entries : (history : List Entry) (e : Entry) (who number : ℕ) → is_of_call who number e ≡ false → call_entries (history ++ e ∷ []) who number ≡ call_entries history who number
-other_entries history e who number other =
-    call_entries-append history e who number ∙ ap (λ b. call_entries history who number ++ cond b ((length history, e) ∷ []) []) other ∙ append-nil (call_entries history who number)
 
 pub number_same : (xs ys : List Entry) (who : ℕ) → SameCaller xs ys who → next_number ys who ≡ next_number xs who
 number_same xs ys who same =
@@ -96,7 +78,7 @@ module _ (session : Session) (who : ℕ) (mid new : List Entry) (begun : has_beg
     begins = prefix_trans old mid new goes.begins begins;
     begun = same_caller.begun;
     steps = λ n e at by later.
-        let (less, there) = within (λ (f : Entry). f.who == who) mid begins.0 new n e begins.1 none at (ap (λ w. w == who) by ∙ same_itself who) in
+        let (less, there) = within_front (λ (f : Entry). f.who == who) mid begins.0 new n e begins.1 none at (ap (λ w. w == who) by ∙ same_itself who) in
         subst (λ h. IsStepAt who (next_number old who) request (before_call old who (next_number old who)) h e) (sym (front n (omega (arith, less)))) (goes.steps n e there by later);
     others = λ k n apart later. elim (le_or_above (length mid) n) [
       | inr less ↦ ap (λ h. call_entries h who k) (front n (omega (arith, less))) ∙ goes.others k n apart later

@@ -1,5 +1,5 @@
 -- Frames are staged and appended, one behind the other.
-use Rattle.std.proofs.Common.{◌≡◌, ◌⊎◌, ℕ, zero, suc, ◌+◌, ◌<◌, ◌≤◌, List, [], ◌∷◌, ◌++◌, length, take, drop, get_or, IsTrue, ⊎_elim, refl, sym, ◌∙◌, ap, subst, arith, Vec, length-append, ◌^◌, Result, Ok, Err, OnErr}
+use Rattle.std.proofs.Common.{◌≡◌, ◌⊎◌, ℕ, zero, suc, ◌+◌, ◌<◌, ◌≤◌, List, [], ◌∷◌, ◌++◌, length, take, drop, get_or, IsTrue, ⊎_elim, refl, sym, ◌∙◌, ap, subst, arith, Vec, length-append, ◌^◌}
 use Rattle.std.proofs.lemmas.List.{map-append, take_more, drop_more}
 use Rattle.std.proofs.lemmas.List.Elements.{All-get_or}
 use Rattle.std.proofs.lemmas.List.Sums.{sum_by_push, sum_by-append}
@@ -12,12 +12,12 @@ use Rattle.pass_entry.specs.declared.record.Record.{Record}
 use Rattle.pass_outside.specs.Areas.{Image}
 use Rattle.pass_outside.specs.Moments.{Moment, IsAtEnd, Adds, AfterStep, Follows}
 use Rattle.pass_log.specs.declared.log.Log.{Log}
-use Rattle.pass_outside.specs.Runs.{adds_nothing, adds_steps, follows_both}
-use Rattle.pass_log.specs.Log.{IsSettled, IsFrameOf, SameStore, LeavesStore}
+use Rattle.pass_log.specs.Log.{IsSettled, IsFrameOf, SameStore}
 use Rattle.pass_log.specs.Records.{image_of, with_batch, IsOldOrBoth, spellings}
+use Rattle.pass_log.proofs.Append.{at_end_or}
 use Rattle.pass_keep.specs.Kept.{Story, IsStory, Noted, IsKept, AreParts}
 use Rattle.pass_keep.specs.Parts.{lists_of, frames_length, bytes_length, AreFrames, KeepsMore, KeepsStill}
-use Rattle.pass_keep.proofs.Keeping.{at_end_or, frame_failed, frame_done, more_without_records, kept_fewer}
+use Rattle.pass_keep.proofs.Keeping.{frame_failed, frame_done, more_without_records, kept_fewer}
 
 -- Staging
 
@@ -92,9 +92,6 @@ abbrev pub KeepsPartly : List (Vec ℕ Global) → Moment → Log → ℕ → Mo
 KeepsPartly frames old log i m log_mid = (s : Story) (noted : List Noted) (durable upto : ℕ) (parts : List (List Record)) → IsStory s → IsKept s old log durable noted
     → upto ≤ length s.history → AreParts s durable upto parts → AreFrames parts frames → IsPartly s noted durable upto (drop i parts) m log_mid
 
-pub partly_none : (frames : List (Vec ℕ Global)) (m : Moment) (log : Log) → KeepsPartly frames m log 0 m log
-partly_none frames m log = λ s noted durable upto parts is kept within cut are. record { upto_here = durable; le = omega arith; kept = kept; rest = cut }
-
 -- what the log says of a frame that it appended, or didn't
 module _ (frames : List (Vec ℕ Global)) (old mid new : Moment) (first log log_new : Log) (i : ℕ) (v : Vec ℕ Global) (low : i < length frames)
     (partly : KeepsPartly frames old first i mid log) (counts : (c : Image) → mid.may_leave c → mid.left_since mid.calls c) (less : (t u : ℕ) (c : Image) → t ≤ u → new.left_since u c → new.left_since t c)
@@ -141,20 +138,6 @@ partly_all frames old new first log i high partly = λ s noted durable upto part
     let rest = subst (AreParts s p.upto_here upto) (none_left parts frames i high are) p.rest in
     more_without_records s is new log p.upto_here noted p.kept upto rest.0 within rest.1
 
--- the store area stays while frames are appended
-pub leaves_none : (m : Moment) → LeavesStore m m
-leaves_none m = record { reads = λ told. refl; at_once = λ c may. (c, may, refl); moments = adds_nothing m (AfterStep SameStore m) }
-
-pub leaves_more : (old mid new : Moment) → mid.tells ≡ old.tells → LeavesStore old mid → LeavesStore mid new → LeavesStore old new
-leaves_more old mid new tells one two = record {
-  reads = λ told. two.reads (subst IsTrue (sym tells) told) ∙ one.reads told;
-  at_once = follows_both SameStore old mid new same_two one.at_once two.at_once;
-  moments = adds_steps SameStore old mid new same_two one.at_once one.moments two.moments;
-}
-  where
-    same_two : (a b c : Image) → SameStore a b → SameStore b c → SameStore a c
-    same_two a b c first then_ = then_ ∙ first
-
 -- the end of the log when a frame more is appended
 pub place_more : (frames : List (Vec ℕ Global)) (i : ℕ) (v : Vec ℕ Global) → i < length frames → (before after all : ℕ) → before + bytes_length (drop i frames) ≡ all
     → after ≡ before + length (get_or frames i v).items → after + bytes_length (drop (i + 1) frames) ≡ all
@@ -162,7 +145,3 @@ place_more frames i v low before after all was is =
     let rest : bytes_length (drop i frames) ≡ 0 + length (get_or frames i v).items + bytes_length (drop (i + 1) frames) =
     ap bytes_length (drop_more frames i v low) ∙ sum_by-append (λ (f : Vec ℕ Global). length f.items) (get_or frames i v ∷ []) (drop (i + 1) frames) in
     omega (arith, was, is, rest)
-
-pub on_err : {T E : Type 0} (P : Type 0) (r : Result T E) → P → OnErr r P
-on_err {T} {E} P (Ok x) p = tt
-on_err {T} {E} P (Err e) p = p

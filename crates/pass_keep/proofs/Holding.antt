@@ -7,6 +7,7 @@ use Rattle.pass_entry.specs.declared.record.Record.{Record}
 use Rattle.pass_log.specs.Log.{IsFrameOf}
 use Rattle.pass_keep.specs.Parts.{lists_of, AreFrames}
 use Rattle.std.proofs.lemmas.List.{map-append}
+use Rattle.std.proofs.lemmas.Bool.{false≢true}
 use Rattle.pass_entry.specs.declared.entry.Synced.{Synced}
 use Rattle.pass_outside.specs.Moments.{Moment}
 use Rattle.pass_log.specs.declared.log.Log.{Log}
@@ -51,16 +52,13 @@ keeper_noted view past k new keeper disk log upto files kept is_disk is_log is_d
 
 -- which answer it was
 
-bad : false ≡ true → ⊥
-bad e = absurd (cc)
-
 pub err_case : {T E : Type 0} (P : Type 0) (r : Result T E) (b : Bool) → b ≡ is_err r → b ≡ true → OnErr r P → P
-err_case {T} {E} P (Ok x) b is failed h = absurd (bad (sym is ∙ failed))
+err_case {T} {E} P (Ok x) b is failed h = absurd (false≢true (sym is ∙ failed))
 err_case {T} {E} P (Err e) b is failed h = h
 
 pub ok_case : {T E : Type 0} (P : Type 0) (r : Result T E) (b : Bool) → b ≡ is_err r → b ≡ false → OnOk r P → P
 ok_case {T} {E} P (Ok x) b is went h = h
-ok_case {T} {E} P (Err e) b is went h = absurd (bad (sym went ∙ is))
+ok_case {T} {E} P (Err e) b is went h = absurd (false≢true (sym went ∙ is))
 
 -- each frame is one of some records
 pub frame_some : (parts : List (List Record)) (frames : List (Vec ℕ Global)) → AreFrames parts frames → (i : ℕ) (frame : Vec ℕ Global) → slice_get frames i ≡ Some frame

@@ -1,6 +1,5 @@
 -- What a frame more, or a run of calls that leaves the log alone, leaves of what was kept.
 use Rattle.std.proofs.Common.{◌≡◌, ◌⊎◌, ℕ, zero, suc, ◌+◌, ◌<◌, ◌≤◌, max, if◌then◌else◌, List, [], ◌∷◌, ◌++◌, length, map, IsTrue, Bool, true, false, Some, Result, Ok, Err, inl, inr, ⊎_elim, refl, sym, ◌∙◌, ap, subst, arith, append_assoc, length-append}
-use Rattle.std.proofs.lemmas.Bool.{cases_eq}
 use Rattle.std.specs.Prelude.{slice_get}
 use Rattle.std.proofs.lemmas.List.{append-nil, nil_from_length, map-append}
 use Rattle.pass_entry.specs.declared.entry.Synced.{Synced}
@@ -20,12 +19,6 @@ use Rattle.pass_range.specs.Rows.{number_of}
 use Rattle.pass_keep.specs.Kept.{Story, IsStory, records_to, list_to, source_to, HasRecords, AreKept, IsLeft, IsBegun, Noted, bound_of, covered, Every, IsKeptSince, IsKept, AreOlder, AreRising, synced_of}
 use Rattle.pass_keep.proofs.Older.{older_same, older_more}
 use Rattle.pass_keep.proofs.Stories.{records_more, number_later, source_earlier, source_same, list_same, number_known, source_below}
-
-pub at_end_or : (m : Moment) → IsAtEnd m ⊎ (IsAtEnd m → ⊥)
-at_end_or m = elim (cases_eq m.calls 18446744073709551615) [
-  | inl is ↦ inl (inl is)
-  | inr below ↦ elim (cases_eq m.faults 18446744073709551615) [ inl is ↦ inl (inr is) | inr none ↦ inr (λ h. ⊎_elim below none h) ]
-]
 
 -- Bounds
 

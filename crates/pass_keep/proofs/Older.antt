@@ -1,23 +1,21 @@
 -- What the store area had before a session, in the blocks whose row no entry changed.
 use Rattle.std.proofs.Common.{◌≡◌, ◌∙◌, ◌<◌, ◌≤◌, ◌*◌, ℕ, Bool, true, List, length, take, drop, Some, sym, ap, arith, length-take}
-use Rattle.std.specs.Prelude.{Option, None, is_some}
+use Rattle.std.specs.Prelude.{None, is_some}
 use Rattle.std.proofs.lemmas.List.{take_min}
 use Rattle.pass_entry.specs.declared.entry.Entry.{Entry}
 use Rattle.pass_entry.specs.declared.record.Record.{Record}
+use Rattle.pass_entry.proofs.Variants.{some_of}
 use Rattle.pass_plain.specs.Files.{file_after}
 use Rattle.pass_plain.specs.Records.{has_row, list_of}
 use Rattle.pass_plain.proofs.Lists.{some_is}
 use Rattle.pass_plain.proofs.Sizes.{files_fit}
+use Rattle.pass_plain.proofs.Calling.{legal_take}
 use Rattle.pass_range.specs.Places.{place, stands_there, Holds}
 use Rattle.pass_range.specs.Rows.{row_of, number_of}
 use Rattle.pass_range.specs.Sources.{row_source}
 use Rattle.pass_range.proofs.Proved.{older_proved, has_row_proved, number_proved}
 use Rattle.pass_keep.specs.Kept.{Story, IsStory, list_to, source_to, HasRecords, AreOlder}
-use Rattle.pass_keep.proofs.Stories.{legal_take, shorter, number_later, source_same}
-
-some_in : {A : Type 0} (o : Option A) → is_some o ≡ true → (x : A) × (o ≡ Some x)
-some_in (Some x) is = (x, λ i. Some x)
-some_in None is = absurd (cc)
+use Rattle.pass_keep.proofs.Stories.{shorter, number_later, source_same}
 
 -- what an area had stands there
 stood : (at : ℕ) (area : List ℕ) → Holds at (stands_there at area) area
@@ -50,7 +48,7 @@ module _ (s : Story) (is : IsStory s) where
   pub older_at : (n q p b : ℕ) → q ≤ n → is_some (row_of (list_to s n) p b) ≡ true → source_to s n p b ≡ None
       → (is_some (row_of (list_to s q) p b) ≡ true) × (source_to s q p b ≡ None)
   older_at n q p b le row none =
-      let some = some_in (row_of (list_to s n) p b) row in
+      let some = some_of (row_of (list_to s n) p b) row in
       let was = older_proved s.before s.ceiling s.session (take n s.history) p b some.0 some.1 none q in
       let same : take q (take n s.history) ≡ take q s.history = shorter s q n le in (
         ap (λ (h : List Entry). is_some (row_of (list_of s.before s.ceiling s.session h) p b)) (sym same) ∙ ap is_some was.0,

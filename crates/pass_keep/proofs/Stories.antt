@@ -1,17 +1,14 @@
 -- The prefixes of a session's history: their records, and the entries that their rows come from.
-use Rattle.std.proofs.Common.{◌≡◌, ℕ, ◌<◌, ◌≤◌, List, [], ◌∷◌, ◌++◌, length, take, drop, Some, sym, ◌∙◌, ap, subst, arith, append_assoc, length-append, length-take}
-use Rattle.std.proofs.lemmas.List.{take-append-drop, append-nil}
+use Rattle.std.proofs.Common.{◌≡◌, ℕ, ◌<◌, ◌≤◌, List, [], ◌∷◌, ◌++◌, length, take, drop, Some, sym, ◌∙◌, ap, arith, append_assoc, length-append, length-take}
+use Rattle.std.proofs.lemmas.List.{take-append-drop, append-nil, take-take}
 use Rattle.pass_entry.specs.declared.entry.Entry.{Entry}
 use Rattle.pass_entry.specs.declared.record.Record.{Record}
 use Rattle.pass_entry.specs.declared.record.Record.TheVariants as log
 use Rattle.pass_plain.specs.Histories.{replay}
-use Rattle.pass_plain.specs.Sessions.{Session}
 use Rattle.pass_plain.specs.Records.{entry_records, records_of}
 use Rattle.pass_plain.specs.Files.{file_after}
-use Rattle.pass_plain.specs.Legal.{IsLegal, MayFollow}
 use Rattle.pass_plain.proofs.Appends.{replay-++}
-use Rattle.pass_plain.proofs.Lists.{within_take}
-use Rattle.pass_plain.proofs.Replays.{take-take_le, slice_get-take}
+use Rattle.pass_plain.proofs.Calling.{legal_take}
 use Rattle.pass_range.specs.Places.{place, Holds}
 use Rattle.pass_range.specs.Rows.{range, number_of, IsUnmatched}
 use Rattle.pass_range.specs.Sources.{row_source}
@@ -27,17 +24,12 @@ grows f past list (e ∷ es) =
     let rest = grows f (past ++ e ∷ []) (list ++ f past e) es in
     (f past e ++ rest.0, rest.1 ∙ append_assoc list (f past e) rest.0)
 
-pub legal_take : (session : Session) (history : List Entry) (n : ℕ) → IsLegal session history → IsLegal session (take n history)
-legal_take session history n legal = λ i e is.
-    let low : i < n = within_take n i history e is in
-    subst (λ (h : List Entry). MayFollow session h e) (sym (take-take_le i n history (omega (arith, low)))) (legal i e (slice_get-take n i history e is))
-
 module _ (s : Story) where
   length_to : (n : ℕ) → n ≤ length s.history → length (take n s.history) ≡ n
   length_to n within = omega (arith, within, length-take n s.history)
 
   pub shorter : (q n : ℕ) → q ≤ n → take q (take n s.history) ≡ take q s.history
-  shorter q n le = take-take_le q n s.history le
+  shorter q n le = take-take q n s.history le
 
   pub records_more : (q n : ℕ) → q ≤ n → (more : List Record) × (records_to s n ≡ records_to s q ++ more)
   records_more q n le =

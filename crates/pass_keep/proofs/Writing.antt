@@ -1,6 +1,7 @@
 -- Blocks are written: what that leaves of what was kept.
-use Rattle.std.proofs.Common.{◌≡◌, ◌⊎◌, ℕ, zero, suc, ◌+◌, ◌*◌, ◌<◌, ◌≤◌, List, [], ◌∷◌, ◌++◌, length, take, drop, IsTrue, IsOk, IsErr, Bool, true, Some, Result, Ok, Err, inl, inr, ⊎_elim, refl, sym, ◌∙◌, ap, subst, arith, length-take, get_or}
+use Rattle.std.proofs.Common.{◌≡◌, ◌⊎◌, ℕ, zero, suc, ◌+◌, ◌*◌, ◌<◌, ◌≤◌, List, [], ◌∷◌, ◌++◌, length, take, drop, IsTrue, IsOk, IsErr, Bool, true, Some, Result, Ok, Err, inl, inr, ⊎_elim, refl, sym, ◌∙◌, ap, subst, arith, length-take}
 use Rattle.std.specs.Prelude.{slice_get, None, is_some}
+use Rattle.std.proofs.lemmas.Option.{slice_get_within}
 use Rattle.pass_outside.specs.declared.disk.Area.TheVariants as areas
 use Rattle.pass_outside.specs.Areas.{Image, OnArea, Torn, written}
 use Rattle.pass_outside.specs.Moments.{Moment, IsAtEnd, IsDeviceCall, IsDeviceRun, Adds, AfterStep, Follows}
@@ -149,11 +150,6 @@ module _ (s : Story) (xs : List Noted) (n : ℕ) where
         });
   }
 
-place_below : (ys : List Block) (i : ℕ) (y : Block) → slice_get ys i ≡ Some y → i < length ys
-place_below [] i y e = absurd (cc)
-place_below (z ∷ ys) zero y e = omega arith
-place_below (z ∷ ys) (suc i) y e = let low = place_below ys i y e in omega (arith, low)
-
 -- once the blocks are written, each dirty block of the files is there
 pub all_there : (s : Story) (xs : List Noted) (n : ℕ) (files : ℕ → Bool) (blocks : List Block) (old : List ℕ) → AreSized blocks → AreWritten s xs n files blocks old → (store : List ℕ)
     → AreHeld blocks (length blocks) store → ((at : ℕ) (bytes : List ℕ) → IsApartFrom blocks at (length bytes) → Holds at bytes old → Holds at bytes store) → AreThere s xs n files store
@@ -161,7 +157,7 @@ all_there s xs n files blocks old sized given store held stays = λ number block
     (λ (h : HasBlock blocks number block (range_to s n d.pnode block)).
     subst (λ (l : List ℕ). Holds (place number block) l store) h.same
     (subst (λ (q : ℕ). Holds (place number q) h.x.bytes.now store) h.at_block
-    (subst (λ (q : ℕ). Holds (place q h.x.block) h.x.bytes.now store) h.of_file (held h.i h.x (place_below blocks h.i h.x h.is) h.is))))
+    (subst (λ (q : ℕ). Holds (place q h.x.block) h.x.bytes.now store) h.of_file (held h.i h.x (slice_get_within blocks h.i h.x h.is) h.is))))
     (λ (e : IsElsewhere blocks number block × Holds (place number block) (range_to s n d.pnode block) old).
     stays (place number block) (range_to s n d.pnode block)
     (λ i x at. let size = sized i x at in
@@ -342,8 +338,3 @@ module _ (xs : List Block) (old mid new : Moment) (n : ℕ) (writing : IsWriting
   pub synced_held : length xs ≤ n → ((c : Image) → new.may_leave c → c.store ≡ new.seen.store) → new.seen ≡ mid.seen → IsTrue old.tells → (c : Image) → new.may_leave c → AreHeld xs (length xs) c.store
   synced_held whole durable same told c may = λ j y low is.
       subst (Holds (place y.number y.block) y.bytes.now) (sym (durable c may ∙ ap (λ (i : Image). i.store) same)) (writing.held told j y (omega (arith, low, whole)) is)
-
-pub block_at : (xs : List Block) (i : ℕ) (v : Block) → i < length xs → slice_get xs i ≡ Some (get_or xs i v)
-block_at [] i v low = absurd (omega (arith, low))
-block_at (x ∷ xs) zero v low = refl
-block_at (x ∷ xs) (suc i) v low = block_at xs i v (omega (arith, low))

@@ -9,13 +9,13 @@ use Rattle.pass_entry.specs.declared.entry.Entry.{Entry}
 use Rattle.pass_entry.specs.declared.entry.Reply.TheVariants as answer
 use Rattle.pass_entry.specs.declared.objects.Descriptor.{Descriptor}
 use Rattle.pass_entry.specs.declared.objects.End.{End}
+use Rattle.pass_entry.proofs.Places.{slice_get-last}
 use Rattle.pass_plain.specs.declared.request.Request.{Request}
 use Rattle.pass_plain.specs.declared.request.Request.TheVariants as requests
 use Rattle.pass_plain.specs.Calls.{Step, act_on, end_of, pipe_descriptors, refused_ask, steps_of}
 use Rattle.pass_plain.specs.Legal.{CallerAllows}
 use Rattle.pass_plain.specs.Processes.{Process, has_ended}
 use Rattle.pass_plain.specs.Sessions.{Session}
-use Rattle.pass_plain.proofs.Appends.{slice_get-last}
 use Rattle.pass_plain.proofs.Counts.{few_pipes}
 use Rattle.pass_hold.specs.Callers.{CallerState, moved_on}
 use Rattle.pass_hold.specs.Callings.{IsEntered, HasGone}

@@ -6,10 +6,10 @@ use Rattle.std.specs.List.{cons_option, range_with_len}
 use Rattle.std.specs.FinMap as finite_map
 use Rattle.pass_entry.specs.declared.entry.Entry.{Entry}
 use Rattle.pass_entry.specs.declared.objects.Descriptor.{Descriptor}
+use Rattle.pass_entry.proofs.Places.{slice_get-last}
 use Rattle.pass_plain.specs.Calls.{Made, Step, is_last}
 use Rattle.pass_plain.specs.Legal.{ends_call}
 use Rattle.pass_plain.specs.Processes.{Held, Process, is_pipe}
-use Rattle.pass_plain.proofs.Appends.{slice_get-last}
 use Rattle.pass_lives.specs.Pipes.{pipe_at, pipes_from}
 
 -- under one number more

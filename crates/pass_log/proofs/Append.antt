@@ -12,7 +12,7 @@ use Rattle.pass_log.specs.Frames.{frames_of, longest, with_frame, staged, Rests}
 use Rattle.pass_log.specs.Log.{Stands, IsSettled, IsStaged, batch_of, IsBeforeOrAfter, SameStore, LeavesStore}
 use Rattle.pass_log.proofs.Crash.{image_rests, torn_behind, written_behind, torn_gate, written_gate, Ready, found}
 
-at_end_or : (m : Moment) → IsAtEnd m ⊎ (IsAtEnd m → ⊥)
+pub at_end_or : (m : Moment) → IsAtEnd m ⊎ (IsAtEnd m → ⊥)
 at_end_or m = elim (cases_eq m.calls 18446744073709551615) [
   | inl is ↦ inl (inl is)
   | inr below ↦ elim (cases_eq m.faults 18446744073709551615) [ inl is ↦ inl (inr is) | inr none ↦ inr (λ h. ⊎_elim below none h) ]
@@ -162,3 +162,17 @@ batch_staged b =
     let four : length (to_be_bytes w32 (length b)) ≡ 4 = refl in
     let size : length (staged b) ≡ length b + 5 = omega (arith, four, length-append (to_be_bytes w32 (length b) ++ b) (0 ∷ []), length-append (to_be_bytes w32 (length b)) b) in
     take_at b (0 ∷ []) (length (staged b) - 5) (omega (arith, size))
+
+-- the store area stays while frames are appended
+pub leaves_none : (m : Moment) → LeavesStore m m
+leaves_none m = record { reads = λ told. refl; at_once = λ c may. (c, may, refl); moments = adds_nothing m (AfterStep SameStore m) }
+
+pub leaves_more : (old mid new : Moment) → mid.tells ≡ old.tells → LeavesStore old mid → LeavesStore mid new → LeavesStore old new
+leaves_more old mid new tells one two = record {
+  reads = λ told. two.reads (subst IsTrue (sym tells) told) ∙ one.reads told;
+  at_once = follows_both SameStore old mid new same_two one.at_once two.at_once;
+  moments = adds_steps SameStore old mid new same_two one.at_once one.moments two.moments;
+}
+  where
+    same_two : (a b c : Image) → SameStore a b → SameStore b c → SameStore a c
+    same_two a b c first second = second ∙ first

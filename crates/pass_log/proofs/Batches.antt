@@ -1,5 +1,5 @@
 -- The records of a batch are read again from its frame.
-use Rattle.std.proofs.Common.{◌≡◌, inl, inr, IsTrue, ℕ, suc, ◌+◌, ◌<◌, ◌^◌, List, [], ◌∷◌, ◌++◌, length, Result, Ok, Err, refl, sym, ◌∙◌, ap, subst, arith, length-append}
+use Rattle.std.proofs.Common.{◌≡◌, inl, inr, IsTrue, ℕ, suc, ◌+◌, ◌<◌, List, [], ◌∷◌, ◌++◌, length, Result, Ok, Err, refl, ◌∙◌, ap, arith, length-append}
 use Rattle.std.specs.Prelude.{OnOk}
 use Rattle.std.specs.List.{All}
 use Rattle.pass_outside.specs.Areas.{Image}
@@ -12,9 +12,9 @@ use Rattle.pass_entry.specs.Ranges.{IsInRange}
 use Rattle.pass_record.specs.Reading.{record_at}
 use Rattle.pass_record.specs.Spelling.{spelling}
 use Rattle.pass_log.specs.declared.fault.LogFault.{LogFault}
-use Rattle.pass_log.specs.Frames.{Frames, frames_of, with_frame, staged}
+use Rattle.pass_log.specs.Frames.{Frames, frames_of, with_frame}
 use Rattle.pass_log.specs.Records.{joined, records_in, frame_more, records_of, held, image_in, image_of, spellings, with_batch, IsOldOrBoth}
-use Rattle.pass_log.specs.Log.{IsStaged, IsFrameOf, batch_of, IsBeforeOrAfter}
+use Rattle.pass_log.specs.Log.{IsFrameOf, batch_of, IsBeforeOrAfter}
 use Rattle.pass_log.proofs.Reading.{record_found, records_append}
 use Rattle.pass_log.proofs.Append.{batch_staged}
 
@@ -32,11 +32,6 @@ some_bytes one = omega arith
 
 pub frame_batch : (batch : List Record) (frame : List ℕ) → IsFrameOf batch frame → batch_of frame ≡ spellings batch
 frame_batch batch frame is = ap batch_of is.is ∙ batch_staged (spellings batch)
-
-pub frame_staged : (batch : List Record) (frame : List ℕ) → IsFrameOf batch frame → IsStaged frame
-frame_staged batch frame is =
-    let same = frame_batch batch frame is in
-    record { is = is.is ∙ ap staged (sym same); fits = subst (λ (b : List ℕ). length b < 2 ^ 32) (sym same) is.fits }
 
 module _ (again : IsReadAgain) (lengths : HasLength) where
   pub batch_read : (place : ℕ) (batch : List Record) → All IsInRange batch → records_in 0 place (spellings batch) ≡ Ok batch

@@ -2,12 +2,11 @@
 use Rattle.std.proofs.Common.{◌≡◌, ◌⊎◌, ℕ, ◌-◌, ◌<◌, ◌≤◌, IsTrue, List, [], ◌∷◌, ◌++◌, length, drop, replicate, Result, Ok, Err, ⊎_elim, refl, sym, ◌∙◌, ap, subst, arith}
 use Rattle.std.proofs.lemmas.List.{drop_all}
 use Rattle.pass_outside.specs.declared.disk.Area.TheVariants as areas
-use Rattle.pass_outside.specs.Areas.{Image, OnArea, Torn, written}
-use Rattle.pass_outside.specs.Moments.{Moment, Adds, AfterStep}
-use Rattle.pass_outside.specs.Runs.{adds_weaker}
+use Rattle.pass_outside.specs.Areas.{Image, written}
+use Rattle.pass_outside.specs.Moments.{Moment}
 use Rattle.pass_log.specs.declared.fault.LogFault.{LogFault}
 use Rattle.pass_entry.specs.declared.record.Record.{Record}
-use Rattle.pass_log.specs.Records.{Held, held, image_in, image_of, records_of}
+use Rattle.pass_log.specs.Records.{Held, held, image_in, records_of}
 use Rattle.pass_log.specs.declared.log.Log.{Log}
 use Rattle.pass_log.specs.declared.image.LogImage.{LogImage}
 use Rattle.pass_log.specs.Frames.{Frames, frames_of, longest, Rests}
@@ -71,13 +70,6 @@ stands_short log old new short end done only =
       fits = subst (λ (l : List ℕ). length l ≤ longest) (sym is) fits;
       only = only;
     }
-
--- a crash while the first gate is written leaves an empty log
-pub short_moments : (old new : Moment) → length old.seen.log ≤ 1 → ((c : Image) → old.may_leave c → c.log ≡ old.seen.log)
-    → Adds old new (AfterStep (OnArea areas.Log (Torn 0 1)) old) → Adds old new (λ c. image_of c.log ≡ image_of old.seen.log)
-short_moments old new short only adds = adds_weaker (λ c. image_of c.log ≡ image_of old.seen.log) old new adds (λ c after.
-    let torn : Torn 0 1 old.seen.log c.log = subst (λ (l : List ℕ). Torn 0 1 l c.log) (only after.0 after.1) after.2.here in
-    ap image_in (image_short c.log (omega (arith, torn.no_longer, short)) ∙ sym (image_short old.seen.log short)))
 
 pub settled_now : (log : Log) (m : Moment) → log.opened ≡ m.faults → (IsTrue m.tells → Stands log m) → IsSettled log m
 settled_now log m opened stands = record { opened = omega (arith, opened); stands = λ tells same end. stands tells }

@@ -153,11 +153,6 @@ no_more fs place [] total told shut = sym told ∙ ap (λ (l : List (List ℕ)).
 no_more fs place (gate ∷ rest) total told shut =
     sym told ∙ ap (before fs) (scan_shut place gate rest (shut (omega arith))) ∙ ap (λ (l : List (List ℕ)). Ok (record { list = l; end = place })) (append-nil fs)
 
--- a gate is open, and no whole frame and gate stand behind it
-pub broken_here : (fs : List (List ℕ)) (place : ℕ) (rest : List ℕ) (total : Result Frames ℕ)
-    → before fs (scan 0 place rest) ≡ total → rest ≡ 1 ∷ drop 1 rest → length (drop 1 rest) ≤ number (drop 1 rest) + 4 → total ≡ Err place
-broken_here fs place rest total told gate short = sym told ∙ ap (before fs) (ap (scan 0 place) gate ∙ scan_broken place (drop 1 rest) short)
-
 -- the frames so far begin all frames
 pub begins : (fs : List (List ℕ)) (scanned : Result Frames ℕ) (r : Frames) → before fs scanned ≡ Ok r → (more : List (List ℕ)) × (r.list ≡ fs ++ more)
 begins fs (Ok x) r h = (x.list, sym (ap list_of h))

@@ -1,7 +1,7 @@
 -- A log that reads as some frames is at rest with them.
-use Rattle.std.proofs.Common.{◌≡◌, ◌≢◌, ◌⊎◌, ℕ, zero, suc, ◌+◌, ◌-◌, ◌<◌, ◌≤◌, List, [], ◌∷◌, ◌++◌, length, take, drop, Result, Ok, Err, inl, inr, refl, sym, ◌∙◌, ap, subst, arith, append_assoc, length-append, length-drop, length-take, take-append-drop}
+use Rattle.std.proofs.Common.{◌≡◌, ◌≢◌, ℕ, zero, suc, ◌+◌, ◌-◌, ◌<◌, ◌≤◌, List, [], ◌∷◌, ◌++◌, length, take, drop, Result, Ok, Err, inl, inr, refl, sym, ◌∙◌, ap, subst, arith, append_assoc, length-append, length-drop, length-take, take-append-drop}
 use Rattle.std.specs.Int.{w32, from_be_bytes}
-use Rattle.std.proofs.lemmas.Bool.{cases_eq}
+use Rattle.std.proofs.lemmas.Bool.{cases_eq, cases_lt}
 use Rattle.std.proofs.lemmas.List.{take-take, drop-take}
 use Rattle.pass_log.specs.Frames.{Frames, before, number, scan, frames_of, longest, IsFront, Rests}
 use Rattle.pass_log.proofs.Scan.{scan_skip, scan_shut, scan_open, scan_broken, front_nil, front_append, front_one}
@@ -36,9 +36,6 @@ before_ok fs (Ok x) r h = record { rest = x; is = refl; list = sym (ap list_of h
     end_of (Err e) = 0
 before_ok fs (Err e) r h = absurd (cc h)
 
-lt_or : (m n : ℕ) → (m < n) ⊎ (n ≤ m)
-lt_or m n = grind arith
-
 drop_front : (n : ℕ) (l : List ℕ) → drop 4 (take (n + 4) l) ≡ take n (drop 4 l)
 drop_front n l = let turned : n + 4 ≡ 4 + n = omega arith in ap (λ (k : ℕ). drop 4 (take k l)) turned ∙ drop-take 4 n l
 
@@ -53,7 +50,7 @@ parts (suc fuel) place (gate ∷ rest) r le some h = elim (cases_eq gate 1) [
       (record { front = []; gate = gate; tail = rest; is = refl; shut = shut; passes = front_nil; place_is = omega arith })
   | inl one ↦
       let open_here : scan 0 place (1 ∷ rest) ≡ Ok r = ap (λ (g : ℕ). scan 0 place (g ∷ rest)) (sym one) ∙ h in
-      elim (lt_or (number rest + 4) (length rest)) [
+      elim (cases_lt (number rest + 4) (length rest)) [
         | inr short ↦ let bad : broken place ≡ Ok r = sym (scan_broken place rest short) ∙ open_here in absurd (cc bad)
         | inl fits ↦
             let n = number rest + 4 in
@@ -84,7 +81,7 @@ parts (suc fuel) place (gate ∷ rest) r le some h = elim (cases_eq gate 1) [
 
 -- an area of two bytes or more
 pub rests : (bytes : List ℕ) (r : Frames) → 1 < length bytes → frames_of bytes ≡ Ok r → (length bytes ≤ longest) × Rests r.list r.end bytes
-rests bytes r some h = elim (lt_or longest (length bytes)) [
+rests bytes r some h = elim (cases_lt longest (length bytes)) [
   | inl long ↦ let bad : broken longest ≡ Ok r = sym (image_long bytes long) ∙ h in absurd (cc bad)
   | inr fits ↦
       let p = parts (length bytes) 0 bytes r (omega arith) (omega (arith, some)) (sym (image_scan bytes some fits) ∙ h) in

@@ -2,41 +2,16 @@
 use Rattle.std.proofs.Common.{◌≡◌, ℕ, zero, suc, ◌+◌, ◌-◌, ◌*◌, ◌<◌, ◌≤◌, min, max, List, [], ◌∷◌, ◌++◌, length, take, drop, set, get_or, replicate, Vec, refl, sym, ◌∙◌, ap, arith, append_assoc, add-one, below_more, ◌≢◌, get_or-set_other, get_or-set_same, length-append, length-take, length-drop}
 use Rattle.std.proofs.Math.Nat.{mul-suc}
 use Rattle.std.proofs.Math.Seq.{take-add, take-append-add, drop-append-add}
-use Rattle.std.proofs.lemmas.List.{append-nil, length-replicate, take_at, take-append-le, drop-append-le, drop-drop, take-replicate, drop-replicate, replicate-append-replicate, take_min, drop_min, take_more, get_or-take, set-get_or, take-take, drop-take, drop_all}
+use Rattle.std.proofs.lemmas.List.{append-nil, length-replicate, take_at, take-append-le, drop-append-le, drop-drop, take-replicate, drop-replicate, replicate-append-replicate, take_min, drop_min, take_more, get_or-take, set-get_or}
 use Rattle.std.specs.declared.alloc.Global.{Global}
 use Rattle.pass_outside.specs.Areas.{written}
 use Rattle.pass_outside.specs.Blocks.{padded, flat, held, AreWithin, over, IsArea}
+use Rattle.pass_entry.proofs.Places.{take_append, drop_append}
 
 abbrev pub Block : Type 0
 Block = Vec ℕ Global
 
 -- lists
-
-pub take_append : (n : ℕ) (xs ys : List ℕ) → take n (xs ++ ys) ≡ take n xs ++ take (n - length xs) ys
-take_append zero xs ys = ap (λ (k : ℕ). take k ys) (sym none)
-  where
-    none : 0 - length xs ≡ 0
-    none = omega arith
-take_append (suc n) [] ys = ap (λ (k : ℕ). take k ys) same
-  where
-    same : suc n ≡ suc n - 0
-    same = omega arith
-take_append (suc n) (x ∷ xs) ys =
-    let same : n - length xs ≡ suc n - suc (length xs) = omega arith in
-    ap (λ (l : List ℕ). x ∷ l) (take_append n xs ys ∙ ap (λ (k : ℕ). take n xs ++ take k ys) same)
-
-pub drop_append : (n : ℕ) (xs ys : List ℕ) → drop n (xs ++ ys) ≡ drop n xs ++ drop (n - length xs) ys
-drop_append zero xs ys = ap (λ (k : ℕ). xs ++ drop k ys) (sym none)
-  where
-    none : 0 - length xs ≡ 0
-    none = omega arith
-drop_append (suc n) [] ys = ap (λ (k : ℕ). drop k ys) same
-  where
-    same : suc n ≡ suc n - 0
-    same = omega arith
-drop_append (suc n) (x ∷ xs) ys =
-    let same : n - length xs ≡ suc n - suc (length xs) = omega arith in
-    drop_append n xs ys ∙ ap (λ (k : ℕ). drop n xs ++ drop k ys) same
 
 pub length-over : (old : List ℕ) (at : ℕ) (bytes : List ℕ) → at + length bytes ≤ length old → length (over old at bytes) ≡ length old
 length-over old at bytes le = omega (arith, le, length-append (take at old ++ bytes) (drop (at + length bytes) old), length-append (take at old) bytes, length-take at old, length-drop (at + length bytes) old)
@@ -153,11 +128,6 @@ pub held-set : (bs : List Block) (i : ℕ) (b : Block) → held (set bs i b) ≡
 held-set [] i b = refl
 held-set (x ∷ xs) zero b = refl
 held-set (x ∷ xs) (suc i) b = ap (λ (l : List ℕ). length x.items ∷ l) (held-set xs i b)
-
-pub held-take : (n : ℕ) (bs : List Block) → held (take n bs) ≡ take n (held bs)
-held-take zero bs = refl
-held-take (suc n) [] = refl
-held-take (suc n) (x ∷ xs) = ap (λ (l : List ℕ). length x.items ∷ l) (held-take n xs)
 
 pub held_at : (bs : List Block) (i : ℕ) (d : Block) → i < length bs → get_or (held bs) i 0 ≡ length (get_or bs i d).items
 held_at [] i d le = absurd (omega (arith, le))
@@ -413,21 +383,3 @@ area_written size bs new len at to bytes area within fits writes is =
     area_is size new to (some - (at + length bytes - length old)) (written old at bytes) within
     (writes ∙ ap (λ (l : List ℕ). over l at bytes) area.zeros ∙ written_over old some at bytes (omega (arith, fits, long, area.enough)))
     (length-written old at bytes ∙ ap (λ (k : ℕ). max k (at + length bytes)) long ∙ sym is)
-
--- an area cut short
-pub area_cut : (size : ℕ) (bs new : List Block) (len to n : ℕ) → IsArea size len bs → AreWithin size new → to ≤ len → flat size new ≡ take to (flat size bs) ++ replicate n 0
-    → IsArea size to new × (take to (flat size new) ≡ take to (take len (flat size bs)))
-area_cut size bs new len to n area within le cuts =
-    area_is size new to n (take to (take len (flat size bs))) within
-    (cuts ∙ ap (λ (l : List ℕ). l ++ replicate n 0) (sym (take-take to len (flat size bs) le)))
-    (length-take to (take len (flat size bs)) ∙ omega (arith, length-take len (flat size bs), le, area.enough))
-
--- a read of an area
-pub area_read : (whole : List ℕ) (len at count : ℕ) → at + count ≤ len → take count (drop at whole) ≡ take count (drop at (take len whole))
-area_read whole len at count le =
-    let sum : len ≡ at + (len - at) = omega (arith, le) in
-    sym (ap (λ (k : ℕ). take count (drop at (take k whole))) sum ∙ ap (take count) (drop-take at (len - at) whole) ∙ take-take count (len - at) (drop at whole) (omega (arith, le)))
-
-pub written_first : (bytes : List ℕ) → written [] 0 bytes ≡ bytes
-written_first bytes =
-    ap (λ (l : List ℕ). bytes ++ l) (drop_all (0 + length bytes) [] (omega arith)) ∙ append-nil bytes

@@ -1,113 +1,15 @@
 -- One device call of a disk in memory.
-use Rattle.std.proofs.Common.{◌≡◌, ◌⊎◌, ℕ, ◌+◌, ◌<◌, ◌≤◌, max, true, List, [], ◌∷◌, ◌++◌, length, Vec, Result, Ok, Err, IsErr, inl, inr, ⊎_elim, refl, sym, ◌∙◌, ap, subst, arith}
+use Rattle.std.proofs.Common.{◌≡◌, ◌⊎◌, ℕ, ◌+◌, ◌<◌, ◌≤◌, max, List, [], ◌∷◌, ◌++◌, length, Vec, Ok, inl, inr, ⊎_elim, refl, sym, ◌∙◌, ap, subst, arith}
 use Rattle.std.specs.declared.alloc.Global.{Global}
 use Rattle.pass_outside.specs.declared.disk.Area.{Area}
 use Rattle.pass_outside.specs.declared.change.Change.TheVariants.{Wrote}
 use Rattle.pass_outside.specs.declared.change.Event.{Event}
 use Rattle.pass_outside.specs.Areas.{Image, area_of, with_area, written, Torn, OnArea}
 use Rattle.pass_outside.specs.Moments.{IsDeviceCall}
-use Rattle.pass_outside.specs.Scripts.{Script, is_due, IsOver, HasBegun, IsRefused, GoesOn}
+use Rattle.pass_outside.specs.Scripts.{Script, HasBegun}
 use Rattle.pass_outside.specs.History.{Past, changed, leaves, next, after_all, beginning, latest}
 use Rattle.pass_outside.specs.Memory.{moment_of}
 use Rattle.pass_outside.specs.Images.{pushed, torn_written, on_area, area_with}
-
--- the script
-
-pub goes_ok : {T E : Type 0} (x : T) (old new : Script) → HasBegun old new → GoesOn {T = T} {E = E} old new (Ok x)
-goes_ok x old new begun = record {
-  fail = ap (λ (s : Script). s.fail) begun.counted;
-  stop = ap (λ (s : Script). s.stop) begun.counted;
-  calls = ap (λ (s : Script). s.calls) begun.counted;
-  ok = λ _. (begun.fine, ap (λ (s : Script). s.starved) begun.counted);
-  err = λ failed. absurd (cc failed);
-}
-
-pub goes_refused : {T E : Type 0} (r : Result T E) (old new : Script) → IsErr r → IsRefused old new → (IsOver old → ⊥) → GoesOn old new r
-goes_refused (Ok x) old new failed refused going = absurd (cc failed)
-goes_refused {T} {E} (Err e) old new failed refused going = ⊎_elim (λ stood. absurd (going stood.0)) (λ due. by_due due.1 due.2) refused
-  where
-    by_due : is_due old.fail old.stop (old.calls + 1) ≡ true → new ≡ record old { calls = old.calls + 1; faults = old.faults + 1 } → GoesOn {T = T} {E = E} old new (Err e)
-    by_due due counted = record {
-      fail = ap (λ (s : Script). s.fail) counted;
-      stop = ap (λ (s : Script). s.stop) counted;
-      calls = ap (λ (s : Script). s.calls) counted;
-      ok = λ fine. absurd (cc fine);
-      err = λ _. inl (due, ap (λ (s : Script). s.starved) counted);
-    }
-
-pub goes_starved : {T E : Type 0} (e : E) (old mid new : Script) → HasBegun old mid → new ≡ record mid { faults = mid.faults + 1; starved = mid.starved + 1 } → GoesOn {T = T} {E = E} old new (Err e)
-goes_starved e old mid new begun starves = record {
-  fail = ap (λ (s : Script). s.fail) starves ∙ ap (λ (s : Script). s.fail) begun.counted;
-  stop = ap (λ (s : Script). s.stop) starves ∙ ap (λ (s : Script). s.stop) begun.counted;
-  calls = ap (λ (s : Script). s.calls) starves ∙ ap (λ (s : Script). s.calls) begun.counted;
-  ok = λ fine. absurd (cc fine);
-  err = λ _. inr (begun.fine, ap (λ (s : Script). s.starved) starves ∙ ap (λ (s : Script). s.starved + 1) begun.counted);
-}
-
--- a call that changes nothing
-
-pub call_ok : {T E : Type 0} (x : T) (p : Past) (old new : Script) → HasBegun old new → IsDeviceCall {T = T} {E = E} (moment_of p old) (moment_of p new) (Ok x)
-call_ok x p old new begun =
-    let calls : new.calls ≡ old.calls + 1 = ap (λ (s : Script). s.calls) begun.counted in
-    let faults : new.faults ≡ old.faults = ap (λ (s : Script). s.faults) begun.counted in
-    record {
-      tells = refl;
-      rises = omega (arith, faults);
-      one_more = λ _. calls;
-      ok = λ _. (faults, begun.goes);
-      err = λ failed. absurd (cc failed);
-      adds = record { later = omega (arith, calls); nothing_else = λ t c le left. inl left };
-      keeps = λ t c le left. left;
-    }
-
-pub call_refused : {T E : Type 0} (r : Result T E) (p : Past) (old new : Script) → IsErr r → IsRefused old new → IsDeviceCall (moment_of p old) (moment_of p new) r
-call_refused {T} {E} (Ok x) p old new failed refused = absurd (cc failed)
-call_refused {T} {E} (Err e) p old new failed refused = ⊎_elim by_end by_due refused
-  where
-    by_end : IsOver old × (new ≡ old) → IsDeviceCall {T = T} {E = E} (moment_of p old) (moment_of p new) (Err e)
-    by_end stood =
-        let calls : new.calls ≡ old.calls = ap (λ (s : Script). s.calls) stood.1 in
-        let faults : new.faults ≡ old.faults = ap (λ (s : Script). s.faults) stood.1 in
-        record {
-          tells = refl;
-          rises = omega (arith, faults);
-          one_more = λ going. absurd (going stood.0);
-          ok = λ fine. absurd (cc fine);
-          err = λ _. inr (stood.0, calls, faults);
-          adds = record { later = omega (arith, calls); nothing_else = λ t c le left. inl left };
-          keeps = λ t c le left. left;
-        }
-
-    by_due : (IsOver old → ⊥) × (is_due old.fail old.stop (old.calls + 1) ≡ true) × (new ≡ record old { calls = old.calls + 1; faults = old.faults + 1 }) → IsDeviceCall {T = T} {E = E} (moment_of p old) (moment_of p new) (Err e)
-    by_due due =
-        let calls : new.calls ≡ old.calls + 1 = ap (λ (s : Script). s.calls) due.2 in
-        let faults : new.faults ≡ old.faults + 1 = ap (λ (s : Script). s.faults) due.2 in
-        record {
-          tells = refl;
-          rises = omega (arith, faults);
-          one_more = λ _. calls;
-          ok = λ fine. absurd (cc fine);
-          err = λ _. inl (omega (arith, faults));
-          adds = record { later = omega (arith, calls); nothing_else = λ t c le left. inl left };
-          keeps = λ t c le left. left;
-        }
-
-pub call_starved : {T E : Type 0} (e : E) (p : Past) (old mid new : Script) → HasBegun old mid → new ≡ record mid { faults = mid.faults + 1; starved = mid.starved + 1 }
-    → IsDeviceCall {T = T} {E = E} (moment_of p old) (moment_of p new) (Err e)
-call_starved e p old mid new begun starves =
-    let calls : new.calls ≡ old.calls + 1 = ap (λ (s : Script). s.calls) starves ∙ ap (λ (s : Script). s.calls) begun.counted in
-    let faults : new.faults ≡ old.faults + 1 = ap (λ (s : Script). s.faults) starves ∙ ap (λ (s : Script). s.faults + 1) begun.counted in
-    record {
-      tells = refl;
-      rises = omega (arith, faults);
-      one_more = λ _. calls;
-      ok = λ fine. absurd (cc fine);
-      err = λ _. inl (omega (arith, faults));
-      adds = record { later = omega (arith, calls); nothing_else = λ t c le left. inl left };
-      keeps = λ t c le left. left;
-    }
-
--- a call that makes a change
 
 pub image_is : (i j : Image) → i.log ≡ j.log → i.store ≡ j.store → i ≡ j
 image_is i j a b = λ k. record { log = a k; store = b k }

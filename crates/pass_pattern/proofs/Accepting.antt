@@ -3,9 +3,10 @@ use Rattle.std.proofs.Common.{ℕ, ◌≡◌, ◌==◌, suc, true, false, refl, 
 use Rattle.std.specs.Prelude.{Option, Some, None, codes, Contains, option_map, if◌then◌else◌}
 use Rattle.std.specs.List.{list_all}
 use Rattle.std.proofs.lemmas.List.{append-nil}
+use Rattle.std.proofs.lemmas.Bool.{false_from_ne_true}
+use Rattle.std.proofs.lemmas.Option.{none-some}
 use Rattle.pass_entry.specs.Texts.{IsName, is_name, is_name_byte, is_name_length}
 use Rattle.pass_plain.proofs.Lists.{some_is, true_left, true_right, same_numbers}
-use Rattle.pass_graph.proofs.Ranking.{not_any}
 use Rattle.pass_pattern.specs.declared.pattern.EdgeTest.{EdgeTest}
 use Rattle.pass_pattern.specs.declared.pattern.EdgeTest.TheVariants.{Other, Same, Any}
 use Rattle.pass_pattern.specs.Patterns.{Shape}
@@ -15,7 +16,7 @@ use Rattle.pass_pattern.specs.Grammar.Binding.{alt, seq, rep, atom}
 use Rattle.pass_pattern.specs.Grammar.IsText.{plain, named, group, once, star, only, then_on, alone, or_else}
 use Rattle.pass_pattern.specs.Reading.{Last, Level, State, state, fresh, joined_shape, whole_shape, step_of, pattern_of}
 use Rattle.pass_pattern.specs.Reading.Last.{Nothing, Letter, Name, Atom, Starred}
-use Rattle.pass_pattern.proofs.Running.{and_on, run, runs_on, not_some}
+use Rattle.pass_pattern.proofs.Running.{and_on, run, runs_on}
 
 abbrev with_steps : Option Shape → Option Shape → Level
 with_steps alternatives steps = record { alternatives = alternatives; steps = steps }
@@ -80,7 +81,7 @@ read_bytes edge level outer before (byte ∷ bytes) all none =
     ∙ ap (λ xs. Some (state (Name edge xs) level outer)) (append_assoc before (byte ∷ []) bytes)
   where
     no_brace : (byte == 125) ≡ false
-    no_brace = not_any (byte == 125) (λ same. none (0, omega arith, same_numbers byte 125 same))
+    no_brace = false_from_ne_true (byte == 125) (λ same. none (0, omega arith, same_numbers byte 125 same))
 
 read_named : (edge : EdgeTest) (name : List ℕ) → IsName name → ¬ (Contains name 125) → Reads atom (One edge (Some name)) (letter edge ++ codes "{" ++ name ++ codes "}")
 read_named edge name fine none level outer = record {
@@ -95,43 +96,43 @@ read_named edge name fine none level outer = record {
 
 -- behind a step that may have a star it comes
 read_star : (last : Last) (p : Shape) (level : Level) (outer : List Level) → atom_of last ≡ Some p → run (state last level outer) (codes "*") ≡ Some (state (Starred (Many p)) level outer)
-read_star Nothing p level outer at = absurd (not_some p at)
+read_star Nothing p level outer at = absurd (none-some p at)
 read_star (Letter edge) p level outer at = ap (λ q. Some (state (Starred (Many q)) level outer)) (some_is (One edge None) p at)
-read_star (Name edge name) p level outer at = absurd (not_some p at)
+read_star (Name edge name) p level outer at = absurd (none-some p at)
 read_star (Atom q) p level outer at = ap (λ q. Some (state (Starred (Many q)) level outer)) (some_is q p at)
-read_star (Starred q) p level outer at = absurd (not_some p at)
+read_star (Starred q) p level outer at = absurd (none-some p at)
 
 -- behind a whole step comes a slash, a bar or a parenthesis
 read_slash : (last : Last) (p : Shape) (level : Level) (outer : List Level) → step_of last ≡ Some p
     → run (state last level outer) (codes "/") ≡ Some (state Nothing (with_steps level.alternatives (Some (joined_shape level.steps p))) outer)
-read_slash Nothing p level outer at = absurd (not_some p at)
+read_slash Nothing p level outer at = absurd (none-some p at)
 read_slash (Letter edge) p level outer at = ap (λ q. Some (state Nothing (with_steps level.alternatives (Some (joined_shape level.steps q))) outer)) (some_is (One edge None) p at)
-read_slash (Name edge name) p level outer at = absurd (not_some p at)
+read_slash (Name edge name) p level outer at = absurd (none-some p at)
 read_slash (Atom q) p level outer at = ap (λ q. Some (state Nothing (with_steps level.alternatives (Some (joined_shape level.steps q))) outer)) (some_is q p at)
 read_slash (Starred q) p level outer at = ap (λ q. Some (state Nothing (with_steps level.alternatives (Some (joined_shape level.steps q))) outer)) (some_is q p at)
 
 read_bar : (last : Last) (p : Shape) (level : Level) (outer : List Level) → step_of last ≡ Some p
     → run (state last level outer) (codes "|") ≡ Some (state Nothing (with_steps (Some (whole_shape level p)) None) outer)
-read_bar Nothing p level outer at = absurd (not_some p at)
+read_bar Nothing p level outer at = absurd (none-some p at)
 read_bar (Letter edge) p level outer at = ap (λ q. Some (state Nothing (with_steps (Some (whole_shape level q)) None) outer)) (some_is (One edge None) p at)
-read_bar (Name edge name) p level outer at = absurd (not_some p at)
+read_bar (Name edge name) p level outer at = absurd (none-some p at)
 read_bar (Atom q) p level outer at = ap (λ q. Some (state Nothing (with_steps (Some (whole_shape level q)) None) outer)) (some_is q p at)
 read_bar (Starred q) p level outer at = ap (λ q. Some (state Nothing (with_steps (Some (whole_shape level q)) None) outer)) (some_is q p at)
 
 read_close : (last : Last) (p : Shape) (level above : Level) (outer : List Level) → step_of last ≡ Some p
     → run (state last level (above ∷ outer)) (codes ")") ≡ Some (state (Atom (whole_shape level p)) above outer)
-read_close Nothing p level above outer at = absurd (not_some p at)
+read_close Nothing p level above outer at = absurd (none-some p at)
 read_close (Letter edge) p level above outer at = ap (λ q. Some (state (Atom (whole_shape level q)) above outer)) (some_is (One edge None) p at)
-read_close (Name edge name) p level above outer at = absurd (not_some p at)
+read_close (Name edge name) p level above outer at = absurd (none-some p at)
 read_close (Atom q) p level above outer at = ap (λ q. Some (state (Atom (whole_shape level q)) above outer)) (some_is q p at)
 read_close (Starred q) p level above outer at = ap (λ q. Some (state (Atom (whole_shape level q)) above outer)) (some_is q p at)
 
 atom_step : (last : Last) (p : Shape) → atom_of last ≡ Some p → step_of last ≡ Some p
-atom_step Nothing p at = absurd (not_some p at)
+atom_step Nothing p at = absurd (none-some p at)
 atom_step (Letter edge) p at = at
-atom_step (Name edge name) p at = absurd (not_some p at)
+atom_step (Name edge name) p at = absurd (none-some p at)
 atom_step (Atom q) p at = at
-atom_step (Starred q) p at = absurd (not_some p at)
+atom_step (Starred q) p at = absurd (none-some p at)
 
 read_group : (p : Shape) (text : List ℕ) → Reads alt p text → Reads atom p (codes "(" ++ text ++ codes ")")
 read_group p text reads level outer =

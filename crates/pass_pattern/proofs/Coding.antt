@@ -2,10 +2,10 @@
 use Rattle.std.proofs.Common.{ℕ, ◌≡◌, ◌≢◌, ◌≤◌, ◌<◌, ◌+◌, sym, ap, ◌∙◌, subst, List, [], ◌∷◌, ◌++◌, length, get_or, set, arith, length-append}
 use Rattle.std.specs.Prelude.{Option, Some, Result, Ok, Err, IfOk, OnOk, slice_get, slice_set}
 use Rattle.std.specs.List.{sum_by}
-use Rattle.std.proofs.lemmas.List.{get_or-set_same, get_or-set_other, length-set}
+use Rattle.std.proofs.lemmas.List.{get_or-set_other, length-set}
 use Rattle.std.proofs.lemmas.List.Sums.{sum_by-set, sum_by-append}
 use Rattle.std.proofs.lemmas.Option.{slice_get_within, get_or_from_slice_get, slice_get-get_or}
-use Rattle.pass_plain.proofs.Appends.{slice_get-append, slice_get-last}
+use Rattle.pass_plain.proofs.Appends.{slice_get-append}
 use Rattle.pass_pattern.specs.declared.pattern.EdgeTest.{EdgeTest}
 use Rattle.pass_pattern.specs.declared.code.Instruction.{Instruction}
 use Rattle.pass_pattern.specs.declared.code.Instruction.TheVariants.{Along, Both}
@@ -13,6 +13,7 @@ use Rattle.pass_pattern.specs.Patterns.{Shape, atoms}
 use Rattle.pass_pattern.specs.Patterns.Shape.{One, Then, Or, Many}
 use Rattle.pass_pattern.specs.Codes.{HasCode, IsGrown, edges_of, edges_in}
 use Rattle.pass_pattern.specs.Codes.HasCode.{one, both, either, many}
+use Rattle.pass_entry.proofs.Places.{set_here, slice_get-last}
 
 -- code stands where all from its first place on is kept
 pub kept_code : {code : List Instruction} {from : ℕ} {p : Shape} {start next : ℕ} → HasCode code from p start next → (new : List Instruction) (low : ℕ) → low ≤ from
@@ -37,11 +38,6 @@ grown_on first second = record {
   longer = omega (arith, first.longer, second.longer);
   kept = λ place i at. second.kept place i (first.kept place i at);
 }
-
--- writing at a place
-set_there : (code : List Instruction) (place : ℕ) (i : Instruction) → place < length code → slice_get (slice_set code place i) place ≡ Some i
-set_there code place i within =
-    slice_get-get_or (set code place i) place i (let size = length-set code place i in omega (arith, size, within)) ∙ ap (λ x. Some x) (get_or-set_same code place i i within)
 
 set_other : (code : List Instruction) (place at : ℕ) (i j : Instruction) → at ≢ place → slice_get code at ≡ Some j → slice_get (slice_set code place i) at ≡ Some j
 set_other code place at i j apart is =
@@ -71,7 +67,7 @@ module _ (old put behind : List Instruction) (placed : Instruction) (p : Shape) 
 
   pub many_code : HasCode (slice_set behind place (Both inner next)) (length old) (Many p) place next
   many_code =
-      many (omega (arith, at)) (set_there behind place (Both inner next) within)
+      many (omega (arith, at)) (set_here behind place (Both inner next) within)
       (kept_code has (slice_set behind place (Both inner next)) (length old) (omega (arith, size)) (λ k i after found. set_other behind place k (Both inner next) i (omega (arith, after, at, size)) found))
 
   pub many_edges : edges_of placed ≡ 0 → edges_in behind ≡ edges_in put + atoms p → edges_in (slice_set behind place (Both inner next)) ≡ edges_in old + atoms (Many p)
@@ -80,9 +76,6 @@ module _ (old put behind : List Instruction) (placed : Instruction) (p : Shape) 
       let was : edges_of (get_or behind place placed) ≡ 0 = ap edges_of (get_or_from_slice_get behind place placed placed there) ∙ none in
       let before : edges_in put ≡ edges_in old + sum_by edges_of (placed ∷ []) = ap edges_in is ∙ sum_by-append edges_of old (placed ∷ []) in
       omega (arith, written, was, before, more, none)
-
-pub put_edges : (code : List Instruction) (i : Instruction) → edges_in (code ++ i ∷ []) ≡ edges_in code + edges_of i
-put_edges code i = let all = sum_by-append edges_of code (i ∷ []) in omega (arith, all)
 
 -- The code of a pattern's part is put or emitted last, with this result.
 module _ {E : Type 0} (r : Result ℕ E) where

@@ -3,8 +3,7 @@ use Rattle.std.proofs.Common.{ℕ, ◌≡◌, ◌≤◌, ◌<◌, ◌+◌, true,
 use Rattle.std.specs.Prelude.{Option, Some, None, Ok, Err}
 use Rattle.std.proofs.lemmas.Grind.{get_or_default_zero}
 use Rattle.std.proofs.lemmas.List.{append-nil, take_all, take-take, take-append-drop, length-take-le}
-use Rattle.pass_plain.proofs.Lists.{some_is, at_most, below_or}
-use Rattle.pass_plain.proofs.Calling.{le_or_above}
+use Rattle.pass_plain.proofs.Lists.{some_is, at_most, below_or, le_or_above}
 use Rattle.pass_plain.proofs.Replays.{take-next}
 use Rattle.pass_pattern.specs.declared.reader.Mark.TheVariants as mark
 use Rattle.pass_pattern.specs.declared.fault.PatternFault.TheVariants as fault
@@ -36,13 +35,6 @@ pub record HasRead (text : List ℕ) (at : ℕ) (t : State) : Type 0 where
 
 not_some : {X : Type 0} (x : X) → ◌≡◌ {A = Option X} (Some x) None → ⊥
 not_some x is = cc
-
-pub none_read : (text : List ℕ) → HasRead text 0 first
-none_read text = record {
-  is = refl;
-  shallow = λ size t low is. let z : size ≡ 0 = omega (arith, low) in let same : first ≡ t = some_is first t (sym (ap (λ n. run first (take n text)) z) ∙ is) in
-      let n : length t.outer ≡ 0 = ap (λ (u : State). length u.outer) (sym same) in omega (arith, n);
-}
 
 take_part : (text : List ℕ) (small large : ℕ) → small ≤ large → take large text ≡ take small text ++ drop small (take large text)
 take_part text small large low = sym (take-append-drop small (take large text)) ∙ ap (λ xs. xs ++ drop small (take large text)) (take-take small large text low)
@@ -190,8 +182,3 @@ pub ended_bad : (text : List ℕ) (t : State) (refusal : Refusal) → length tex
 ended_bad text t Deep short has none place is = absurd none
 ended_bad text t NoMemory short has none place is = absurd (let z : fault.NoMemory ≡ fault.Bad place = is in cc)
 ended_bad text t Bad short has none place is = subst (IsBad text) (same_place (length text) place is) (bad_end text t short has none)
-
-pub ended_not_long : (refusal : Refusal) (t : State) (at : ℕ) → IsFinished t (Err refusal) → fault_of refusal at ≡ fault.Long → ⊥
-ended_not_long Deep t at none is = none
-ended_not_long NoMemory t at none is = let z : fault.NoMemory ≡ fault.Long = is in cc
-ended_not_long Bad t at none is = let z : fault.Bad at ≡ fault.Long = is in cc

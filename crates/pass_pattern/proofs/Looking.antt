@@ -11,19 +11,19 @@ use Rattle.std.proofs.lemmas.List.{length-map}
 use Rattle.std.proofs.lemmas.List.Elements.{Contains-append_cases, Contains-append_left, Contains-append_right}
 use Rattle.std.proofs.lemmas.Map.Keys.{IsDistinct-from_sorted}
 use Rattle.std.proofs.lemmas.Map.Made.{length-le_from_is_member}
+use Rattle.std.proofs.lemmas.Bool.{false_from_ne_true}
 use Rattle.pass_entry.specs.declared.objects.Node.{Node}
 use Rattle.pass_entry.specs.declared.record.Record.{Record}
+use Rattle.pass_entry.proofs.Places.{Contains-place, each_contained, Contains-at, Contains-behind}
 use Rattle.pass_plain.specs.Versions.{same_node}
 use Rattle.pass_plain.specs.Graphs.{IsEdge, HasPath}
 use Rattle.pass_plain.specs.Graphs.HasPath.{edge as edge_path, step as step_path}
 use Rattle.pass_plain.proofs.Lists.{any_at, any_of, true_left, true_right, same_numbers}
 use Rattle.pass_graph.specs.Logged.{same_pair}
 use Rattle.pass_graph.proofs.Noding.{same_node_is}
-use Rattle.pass_graph.proofs.Ranking.{not_any}
 use Rattle.pass_waldo.specs.Orders.{node_cmp}
 use Rattle.pass_waldo.proofs.Indexing.{node_cmp_total}
 use Rattle.pass_query.specs.Answers.{HasAllLeaving}
-use Rattle.pass_query.proofs.Elements.{Contains-place, Contains-at, there_behind}
 use Rattle.pass_pattern.specs.declared.pattern.EdgeTest.{EdgeTest}
 use Rattle.pass_pattern.specs.declared.code.Instruction.{Instruction}
 use Rattle.pass_pattern.specs.declared.code.Instruction.TheVariants.{Found, Along, Both}
@@ -57,15 +57,10 @@ same_look_equiv = record {
   congr = λ a b c is. ap (λ l. same_look l c) (same_look_is a b is);
 }
 
-pub each_at : {X : Type 0} (P : X → Type 0) (xs : List X) → AllByRecursion P xs → (y : X) → Contains xs y → P y
-each_at P [] all y (k, within, is) = absurd (omega (arith, within))
-each_at P (x ∷ xs) all y (zero, within, is) = subst P is all.0
-each_at P (x ∷ xs) all y (suc k, within, is) = each_at P xs all.1 y (k, omega (arith, within), is)
-
 none_same : (l : Look) (xs : List Look) → ((y : Look) → Contains xs y → l ≡ y → ⊥) → AllByRecursion (λ y. same_look l y ≡ false) xs
 none_same l [] apart = tt
 none_same l (x ∷ xs) apart = (
-  not_any (same_look l x) (λ same. apart x (0, omega arith, refl) (same_look_is l x same)),
+  false_from_ne_true (same_look l x) (λ same. apart x (0, omega arith, refl) (same_look_is l x same)),
   none_same l xs (λ y (k, within, is) same. apart y (suc k, omega (arith, within), is) same),
 )
 
@@ -91,7 +86,7 @@ distinct_looks place a (b ∷ row) looks once apart distinct = (
   where
     not_again : Contains row b → ⊥
     not_again there =
-        let z : eq_by_cmp node_cmp b b ≡ false = each_at (λ y. eq_by_cmp node_cmp b y ≡ false) row once.0 b there in
+        let z : eq_by_cmp node_cmp b b ≡ false = each_contained (λ y. eq_by_cmp node_cmp b y ≡ false) row once.0 b there in
         let y : true ≡ false = sym ((eq_by_cmp_equiv node_cmp_total).refl b) ∙ z in cc
 
     at_part : (y : Look) → look place a b ≡ y → Contains (map (look place a) row) y ⊎ Contains looks y → ⊥
@@ -213,7 +208,7 @@ place_there k (Both left right ∷ code) (suc j) along =
     (place_there (k + 1) code j (record { edge = along.edge; name = along.name; next = along.next; at = along.at }))
 place_there k (Along edge name next ∷ code) zero along = (0, omega arith, let z : k ≡ k + 0 = omega arith in z)
 place_there k (Along edge name next ∷ code) (suc j) along =
-    there_behind k (places (k + 1) code) (k + suc j) (subst (Contains (places (k + 1) code)) (let z : k + 1 + j ≡ k + suc j = omega arith in z)
+    Contains-behind k (places (k + 1) code) (k + suc j) (subst (Contains (places (k + 1) code)) (let z : k + 1 + j ≡ k + suc j = omega arith in z)
     (place_there (k + 1) code j (record { edge = along.edge; name = along.name; next = along.next; at = along.at })))
 
 abbrev with_place : ℕ → Node × Node → Look

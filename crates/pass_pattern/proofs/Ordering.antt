@@ -7,12 +7,13 @@ use Rattle.std.proofs.lemmas.List.{take_more}
 use Rattle.std.proofs.lemmas.List.Elements.{filter_map-append}
 use Rattle.std.proofs.lemmas.List.Sorted.{Contains-permutation, IsPermutation-sym}
 use Rattle.std.proofs.lemmas.Map.Keys.{IsDistinct-IsPermutation}
+use Rattle.std.proofs.lemmas.Bool.{false_from_ne_true}
 use Rattle.pass_entry.specs.declared.objects.Node.{Node}
 use Rattle.pass_entry.specs.declared.record.Record.{Record}
+use Rattle.pass_entry.proofs.Places.{each_contained}
 use Rattle.pass_plain.specs.Versions.{same_node}
 use Rattle.pass_plain.proofs.Lists.{same_numbers, both_true}
 use Rattle.pass_graph.proofs.Noding.{same_node_is, same_node_equiv}
-use Rattle.pass_graph.proofs.Ranking.{not_any}
 use Rattle.pass_waldo.specs.Orders.{node_cmp}
 use Rattle.pass_query.proofs.Elements.{strictly}
 use Rattle.pass_pattern.specs.declared.code.Instruction.{Instruction}
@@ -22,7 +23,6 @@ use Rattle.pass_pattern.specs.Codes.{IsCode}
 use Rattle.pass_pattern.specs.Visits.{same_visit, visit, AreVisits, end_of, ends_of}
 use Rattle.pass_pattern.specs.Answers.{AreJoined}
 use Rattle.pass_pattern.proofs.Joining.{joined_comes, comes_joined}
-use Rattle.pass_pattern.proofs.Looking.{each_at}
 
 -- an end is that of a visit at the first place
 ends_there : (visits : List Visit) (n : Node) → Contains (ends_of visits) n → Contains visits (visit n 0)
@@ -58,7 +58,7 @@ there_ends (x ∷ visits) n (suc k, within, is) = at_test (x.place == 0) (there_
 none_same : (m : Node) (nodes : List Node) → ((n : Node) → Contains nodes n → m ≡ n → ⊥) → AllByRecursion (λ n. same_node m n ≡ false) nodes
 none_same m [] apart = tt
 none_same m (n ∷ nodes) apart = (
-  not_any (same_node m n) (λ same. apart n (0, omega arith, refl) (same_node_is m n same)),
+  false_from_ne_true (same_node m n) (λ same. apart n (0, omega arith, refl) (same_node_is m n same)),
   none_same m nodes (λ o (k, within, is) same. apart o (suc k, omega (arith, within), is) same),
 )
 
@@ -70,7 +70,7 @@ distinct_ends (x ∷ visits) distinct = at_test (x.place == 0) refl (distinct_en
   where
     not_again : x.place ≡ 0 → (n : Node) → Contains (ends_of visits) n → x.node ≡ n → ⊥
     not_again zero_place n there same =
-        let differ : same_visit x (visit n 0) ≡ false = each_at (λ y. same_visit x y ≡ false) visits distinct.0 (visit n 0) (ends_there visits n there) in
+        let differ : same_visit x (visit n 0) ≡ false = each_contained (λ y. same_visit x y ≡ false) visits distinct.0 (visit n 0) (ends_there visits n there) in
         let alike : same_visit x (visit n 0) ≡ true =
         both_true (same_node x.node n) (x.place == 0) (ap (same_node x.node) (sym same) ∙ same_node_equiv.refl x.node) (ap (λ p. p == 0) zero_place) in
         let z : true ≡ false = sym alike ∙ differ in cc
@@ -99,4 +99,4 @@ pub is_end : (x : Visit) → x.place ≡ 0 → end_of x ≡ Some x.node
 is_end x is = ap (λ p. if p == 0 then Some x.node else None) is
 
 pub is_no_end : (x : Visit) → (x.place ≡ 0 → ⊥) → end_of x ≡ None
-is_no_end x not = ap (λ t. if t then Some x.node else None) (not_any (x.place == 0) (λ same. not (same_numbers x.place 0 same)))
+is_no_end x not = ap (λ t. if t then Some x.node else None) (false_from_ne_true (x.place == 0) (λ same. not (same_numbers x.place 0 same)))

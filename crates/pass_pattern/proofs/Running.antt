@@ -4,9 +4,6 @@ use Rattle.std.specs.Prelude.{Option, Some, None}
 use Rattle.pass_plain.proofs.Lists.{some_is}
 use Rattle.pass_pattern.specs.Reading.{State, read_byte}
 
-pub not_some : {X : Type 0} (x : X) → ◌≡◌ {A = Option X} None (Some x) → ⊥
-not_some x is = cc
-
 abbrev pub and_on : Option State → (State → Option State) → Option State
 and_on None next = None
 and_on (Some s) next = next s

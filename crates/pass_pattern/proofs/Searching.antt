@@ -6,11 +6,12 @@ use Rattle.std.proofs.lemmas.Map.Keys.{apart_from_distinct}
 use Rattle.std.proofs.lemmas.Option.{slice_get_within, get_or_from_slice_get}
 use Rattle.pass_entry.specs.declared.objects.Node.{Node}
 use Rattle.pass_entry.specs.declared.record.Record.{Record}
+use Rattle.pass_entry.proofs.Places.{Contains-place, Contains-at}
 use Rattle.pass_plain.specs.Versions.{same_node}
 use Rattle.pass_plain.proofs.Lists.{below_or, is_place, same_itself, both_true}
 use Rattle.pass_graph.proofs.Noding.{same_node_equiv}
 use Rattle.pass_query.specs.Answers.{HasAllLeaving}
-use Rattle.pass_query.proofs.Elements.{Contains-place, Contains-at, one_value}
+use Rattle.pass_query.proofs.Elements.{one_value}
 use Rattle.pass_pattern.specs.declared.code.Instruction.{Instruction}
 use Rattle.pass_pattern.specs.declared.search.Visit.{Visit}
 use Rattle.pass_pattern.specs.Codes.{edges_in}

@@ -6,6 +6,7 @@ use Rattle.std.proofs.lemmas.Bool.Decides.{nat_tests}
 use Rattle.std.proofs.lemmas.List.{append-nil}
 use Rattle.std.proofs.lemmas.List.Elements.{Contains-push_cases}
 use Rattle.std.proofs.lemmas.List.Folds.{list_all-append}
+use Rattle.std.proofs.lemmas.Option.{none-some}
 use Rattle.pass_entry.specs.Limits.{name_limit}
 use Rattle.pass_entry.specs.Texts.{IsName, is_name, is_name_byte, is_name_length}
 use Rattle.pass_plain.proofs.Lists.{some_is, both_true, same_numbers}
@@ -21,7 +22,7 @@ use Rattle.pass_pattern.specs.Grammar.Binding.{alt, seq, rep, atom}
 use Rattle.pass_pattern.specs.Grammar.IsText.{plain, named, group, once, star, only, then_on, alone, or_else}
 use Rattle.pass_pattern.specs.Reading.{Last, Level, State, state, fresh, joined_shape, either_shape, whole_shape, begun, behind_step, behind_atom, behind_letter, in_name, read_on, read_byte, step_of, pattern_of}
 use Rattle.pass_pattern.specs.Reading.Last.{Nothing, Letter, Name, Atom, Starred}
-use Rattle.pass_pattern.proofs.Running.{and_on, run, not_some}
+use Rattle.pass_pattern.proofs.Running.{and_on, run}
 
 -- the bytes that a mark is
 abbrev pub Means : Mark → ℕ → Type 0
@@ -159,10 +160,10 @@ lettered_end B edge text l = record { front = l.front; own = letter edge; begins
 -- the step that was read last
 step_end : (last : Last) (level : Level) (outer : List Level) (text : List ℕ) (step : Shape) → Stands last level outer text → step_of last ≡ Some step
     → Ends (Within level outer) rep step text
-step_end Nothing level outer text step s is = absurd (not_some step is)
+step_end Nothing level outer text step s is = absurd (none-some step is)
 step_end (Letter edge) level outer text step s is =
     subst (λ p. Ends (Within level outer) rep p text) (some_is (One edge None) step is) (once_end (Within level outer) (One edge None) text (lettered_end (Within level outer) edge text s))
-step_end (Name edge name) level outer text step s is = absurd (not_some step is)
+step_end (Name edge name) level outer text step s is = absurd (none-some step is)
 step_end (Atom p) level outer text step s is = subst (λ p. Ends (Within level outer) rep p text) (some_is p step is) (once_end (Within level outer) p text s)
 step_end (Starred p) level outer text step s is = subst (λ p. Ends (Within level outer) rep p text) (some_is p step is) s
 
@@ -198,15 +199,15 @@ on_step step level outer text byte mark.Slash t is e to =
 on_step step level outer text byte mark.Bar t is e to =
     at_state (state Nothing (record { alternatives = Some (whole_shape level step); steps = None }) outer) t (text ++ byte ∷ []) to
     (record { body = text; ends = whole_end level outer step text e; is = one_more text byte 124 is })
-on_step step level [] text byte mark.Close t is e to = absurd (not_some t to)
+on_step step level [] text byte mark.Close t is e to = absurd (none-some t to)
 on_step step level (above ∷ outer) text byte mark.Close t is e to =
     at_state (state (Atom (whole_shape level step)) above outer) t (text ++ byte ∷ []) to
     (subst (Ends (Within above outer) atom (whole_shape level step)) (sym (one_more text byte 41 is)) (grouped level above outer step text e))
-on_step step level outer text byte (mark.Letter edge) t is e to = absurd (not_some t to)
-on_step step level outer text byte mark.Brace t is e to = absurd (not_some t to)
-on_step step level outer text byte mark.Star t is e to = absurd (not_some t to)
-on_step step level outer text byte mark.Open t is e to = absurd (not_some t to)
-on_step step level outer text byte mark.Other t is e to = absurd (not_some t to)
+on_step step level outer text byte (mark.Letter edge) t is e to = absurd (none-some t to)
+on_step step level outer text byte mark.Brace t is e to = absurd (none-some t to)
+on_step step level outer text byte mark.Star t is e to = absurd (none-some t to)
+on_step step level outer text byte mark.Open t is e to = absurd (none-some t to)
+on_step step level outer text byte mark.Other t is e to = absurd (none-some t to)
 
 -- behind a step to which a star may come
 on_atom : (p : Shape) (level : Level) (outer : List Level) (text : List ℕ) (byte : ℕ) (m : Mark) (t : State) → Means m byte → Ends (Within level outer) atom p text
@@ -223,10 +224,10 @@ on_atom p level outer text byte mark.Star t is e to =
 on_atom p level outer text byte mark.Slash t is e to = on_step p level outer text byte mark.Slash t is (once_end (Within level outer) p text e) to
 on_atom p level outer text byte mark.Bar t is e to = on_step p level outer text byte mark.Bar t is (once_end (Within level outer) p text e) to
 on_atom p level outer text byte mark.Close t is e to = on_step p level outer text byte mark.Close t is (once_end (Within level outer) p text e) to
-on_atom p level outer text byte (mark.Letter edge) t is e to = absurd (not_some t to)
-on_atom p level outer text byte mark.Brace t is e to = absurd (not_some t to)
-on_atom p level outer text byte mark.Open t is e to = absurd (not_some t to)
-on_atom p level outer text byte mark.Other t is e to = absurd (not_some t to)
+on_atom p level outer text byte (mark.Letter edge) t is e to = absurd (none-some t to)
+on_atom p level outer text byte mark.Brace t is e to = absurd (none-some t to)
+on_atom p level outer text byte mark.Open t is e to = absurd (none-some t to)
+on_atom p level outer text byte mark.Other t is e to = absurd (none-some t to)
 
 no_byte : (byte : ℕ) → ¬ (Contains [] byte)
 no_byte byte (k, within, is) = omega (arith, within)
@@ -246,9 +247,9 @@ on_letter edge level outer text byte mark.Star t is l to = on_atom (One edge Non
 on_letter edge level outer text byte mark.Slash t is l to = on_atom (One edge None) level outer text byte mark.Slash t is (lettered_end (Within level outer) edge text l) to
 on_letter edge level outer text byte mark.Bar t is l to = on_atom (One edge None) level outer text byte mark.Bar t is (lettered_end (Within level outer) edge text l) to
 on_letter edge level outer text byte mark.Close t is l to = on_atom (One edge None) level outer text byte mark.Close t is (lettered_end (Within level outer) edge text l) to
-on_letter edge level outer text byte (mark.Letter e) t is l to = absurd (not_some t to)
-on_letter edge level outer text byte mark.Open t is l to = absurd (not_some t to)
-on_letter edge level outer text byte mark.Other t is l to = absurd (not_some t to)
+on_letter edge level outer text byte (mark.Letter e) t is l to = absurd (none-some t to)
+on_letter edge level outer text byte mark.Open t is l to = absurd (none-some t to)
+on_letter edge level outer text byte mark.Other t is l to = absurd (none-some t to)
 
 -- in a name
 on_name : (edge : EdgeTest) (name : List ℕ) (level : Level) (outer : List Level) (text : List ℕ) (byte : ℕ) (t : State) → Naming (Within level outer) edge name text
@@ -281,9 +282,9 @@ on_name edge name level outer text byte t n to = at_end (byte == 125) refl (is_n
         → (if brace then (if whole then Some (state (Atom (One edge (Some name))) level outer) else None) else (if good then Some (state (Name edge (name ++ byte ∷ [])) level outer) else None)) ≡ Some t
         → StandsAt t (text ++ byte ∷ [])
     at_end true is true fine good rest to = at_state (state (Atom (One edge (Some name))) level outer) t (text ++ byte ∷ []) to (finished (same_numbers byte 125 is) fine)
-    at_end true is false fine good rest to = absurd (not_some t to)
+    at_end true is false fine good rest to = absurd (none-some t to)
     at_end false is whole fine true rest to = at_state (state (Name edge (name ++ byte ∷ [])) level outer) t (text ++ byte ∷ []) to (longer is rest)
-    at_end false is whole fine false rest to = absurd (not_some t to)
+    at_end false is whole fine false rest to = absurd (none-some t to)
 
 -- where a step must come
 on_start : (level : Level) (outer : List Level) (text : List ℕ) (byte : ℕ) (m : Mark) (t : State) → Means m byte → Within level outer text
@@ -292,12 +293,12 @@ on_start level outer text byte (mark.Letter edge) t is w to =
     at_state (state (Letter edge) level outer) t (text ++ byte ∷ []) to (record { front = text; begins = w; is = ap (λ x. text ++ x) is })
 on_start level outer text byte mark.Open t is w to =
     at_state (state Nothing fresh (level ∷ outer)) t (text ++ byte ∷ []) to (record { front = text; begins = w; is = one_more text byte 40 is })
-on_start level outer text byte mark.Brace t is w to = absurd (not_some t to)
-on_start level outer text byte mark.Star t is w to = absurd (not_some t to)
-on_start level outer text byte mark.Slash t is w to = absurd (not_some t to)
-on_start level outer text byte mark.Bar t is w to = absurd (not_some t to)
-on_start level outer text byte mark.Close t is w to = absurd (not_some t to)
-on_start level outer text byte mark.Other t is w to = absurd (not_some t to)
+on_start level outer text byte mark.Brace t is w to = absurd (none-some t to)
+on_start level outer text byte mark.Star t is w to = absurd (none-some t to)
+on_start level outer text byte mark.Slash t is w to = absurd (none-some t to)
+on_start level outer text byte mark.Bar t is w to = absurd (none-some t to)
+on_start level outer text byte mark.Close t is w to = absurd (none-some t to)
+on_start level outer text byte mark.Other t is w to = absurd (none-some t to)
 
 on_byte : (last : Last) (level : Level) (outer : List Level) (text : List ℕ) (byte : ℕ) (t : State) → Stands last level outer text → read_on last level outer byte ≡ Some t
     → StandsAt t (text ++ byte ∷ [])
@@ -315,7 +316,7 @@ stands_on s t before (byte ∷ text) stands is =
     at_next : (next : Option State) → ((u : State) → read_byte s byte ≡ Some u → run u text ≡ Some t → StandsAt t (before ++ byte ∷ text)) → read_byte s byte ≡ next
         → and_on next (λ u. run u text) ≡ Some t → StandsAt t (before ++ byte ∷ text)
     at_next (Some u) go to rest = go u to rest
-    at_next None go to rest = absurd (not_some t rest)
+    at_next None go to rest = absurd (none-some t rest)
 
 -- what was read of a text stands in it
 pub stands : (t : State) (text : List ℕ) → run (state Nothing fresh []) text ≡ Some t → StandsAt t text
@@ -326,7 +327,7 @@ pub has_text : (t : State) (text : List ℕ) (p : Shape) → StandsAt t text →
 has_text t text p stands is = at_outer t.outer stands is
   where
     at_step : (o : Option Shape) → step_of t.last ≡ o → Stands t.last t.level [] text → option_map (whole_shape t.level) o ≡ Some p → IsText alt p text
-    at_step None none s so = absurd (not_some p so)
+    at_step None none s so = absurd (none-some p so)
     at_step (Some step) at s so =
         let w = whole_end t.level [] step text (step_end t.last t.level [] text step s at) in
         let own : w.own ≡ text = ap (λ x. x ++ w.own) (sym w.begins) ∙ sym w.is in
@@ -334,7 +335,7 @@ has_text t text p stands is = at_outer t.outer stands is
 
     at_outer : (outer : List Level) → Stands t.last t.level outer text → pattern_of (state t.last t.level outer) ≡ Some p → IsText alt p text
     at_outer [] s so = at_step (step_of t.last) refl s so
-    at_outer (level ∷ outer) s so = absurd (not_some p so)
+    at_outer (level ∷ outer) s so = absurd (none-some p so)
 
 front_of : (text more : List ℕ) → IsBeginning (text ++ more) → IsBeginning text
 front_of text more b = record { rest = more ++ b.rest; is = subst IsPattern (append_assoc text more b.rest) b.is }

@@ -7,6 +7,7 @@ use Rattle.std.proofs.lemmas.List.Elements.{Contains-push, Contains-push_cases}
 use Rattle.std.proofs.lemmas.Option.{slice_get-get_or}
 use Rattle.pass_entry.specs.declared.objects.Node.{Node}
 use Rattle.pass_entry.specs.declared.record.Record.{Record}
+use Rattle.pass_entry.proofs.Places.{Contains-place, Contains-at, contains_none}
 use Rattle.pass_plain.specs.Versions.{same_node}
 use Rattle.pass_plain.specs.Graphs.{IsEdge}
 use Rattle.pass_plain.proofs.Lists.{any_at, some_is, true_left, true_right, same_numbers}
@@ -15,7 +16,6 @@ use Rattle.pass_graph.proofs.Noding.{same_node_is}
 use Rattle.pass_waldo.specs.Orders.{node_cmp}
 use Rattle.pass_waldo.specs.Lookups.{AreAll}
 use Rattle.indexmap.specs.IndexSet.{insert_key}
-use Rattle.pass_query.proofs.Elements.{Contains-place, Contains-at, nothing_there}
 use Rattle.pass_pattern.specs.declared.pattern.EdgeTest.{EdgeTest}
 use Rattle.pass_pattern.specs.declared.code.Instruction.{Instruction}
 use Rattle.pass_pattern.specs.declared.code.Instruction.TheVariants.{Along}
@@ -94,7 +94,7 @@ module _ (list : List Record) (row : List Node) (edge : EdgeTest) (name : Option
   SoFar k x = IsPassed list (take k row) edge name next from x
 
   pub none_passed : (visits : List Visit) → Adds (IsPassed list (take 0 row) edge name next from) visits visits
-  none_passed visits = adds_none (SoFar 0) visits (λ x p. nothing_there x.node p.there)
+  none_passed visits = adds_none (SoFar 0) visits (λ x p. contains_none x.node p.there)
 
   module _ (k : ℕ) (n : Node) (within : k < length row) (is : n ≡ get_or row k n) where
     more : take (k + 1) row ≡ take k row ++ n ∷ []

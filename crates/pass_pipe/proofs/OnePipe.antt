@@ -2,7 +2,7 @@
 use Rattle.std.proofs.Common.{◌≡◌, ℕ, Bool, true, false, not, ◌&&◌, List, [], ◌∷◌, ◌++◌, refl, ap, sym, ◌∙◌, cond, take, drop, append_assoc}
 use Rattle.std.specs.Prelude.{Some, None, ◌==◌}
 use Rattle.std.proofs.lemmas.Grind.{flat_map-append}
-use Rattle.std.proofs.lemmas.List.{take-append-drop}
+use Rattle.std.proofs.lemmas.List.{take-append-drop, append-nil}
 use Rattle.pass_entry.specs.declared.entry.Entry.{Entry}
 use Rattle.pass_entry.specs.declared.entry.Act.{Act}
 use Rattle.pass_entry.specs.declared.entry.Act.TheVariants as act
@@ -15,7 +15,7 @@ use Rattle.pass_plain.specs.Legal.{MayFollow}
 use Rattle.pass_plain.specs.Replies.{reply_to}
 use Rattle.pass_plain.specs.Pipes.{Pipe, new_pipe, pipe_act, pipe_after}
 use Rattle.pass_plain.proofs.Lists.{same_numbers, same_itself, some_is}
-use Rattle.pass_plain.proofs.Replays.{append-nil, state_after-append, own_step-own, own_step-other, own_step-fault}
+use Rattle.pass_plain.proofs.Replays.{state_after-append, own_step-own, own_step-other, own_step-fault}
 use Rattle.pass_plain.proofs.Calling.{legal_induction}
 use Rattle.pass_pipe.specs.OnePipe.{StepLaw, FaultLaw, OthersLaw, OrderLaw, put_in, taken_out, written, was_read}
 

@@ -13,6 +13,7 @@ use Rattle.pass_entry.specs.declared.entry.CallName.{CallName}
 use Rattle.pass_entry.specs.declared.entry.CallName.TheVariants as call
 use Rattle.pass_entry.specs.declared.objects.Kind.{Kind}
 use Rattle.pass_entry.specs.declared.objects.Kind.TheVariants as kind
+use Rattle.pass_entry.proofs.Places.{slice_get-take}
 use Rattle.pass_plain.specs.Histories.{is_fault, pnode_of, made_kind, made_object, is_of_call, call_entries}
 use Rattle.pass_plain.specs.Sessions.{Session}
 use Rattle.pass_plain.specs.Processes.{Held, begins, has_begun}
@@ -22,7 +23,6 @@ use Rattle.pass_plain.specs.declared.request.Request.{Request}
 use Rattle.pass_plain.specs.declared.request.Request.TheVariants as requests
 use Rattle.pass_plain.specs.Legal.{IsLegal, MayFollow, before_call, is_start}
 use Rattle.pass_plain.proofs.Lists.{some_is, both_true, same_itself, same_numbers, in_filtered, in_enumerated, any_at}
-use Rattle.pass_plain.proofs.Replays.{slice_get-take}
 use Rattle.pass_plain.proofs.Rows.{Row, row_of_step}
 use Rattle.pass_plain.proofs.Calling.{legal_take, row, made_step, steps_by, step_next, step_made, acts-cases}
 use Rattle.pass_plain.proofs.Making.{made_reply, made_once}

@@ -27,8 +27,9 @@ use Rattle.pass_plain.specs.declared.request.Request.{Request}
 use Rattle.pass_plain.specs.declared.request.Request.TheVariants as requests
 use Rattle.pass_plain.specs.Legal.{IsNextStep, step_of}
 use Rattle.pass_plain.specs.NextSteps.{asks, denies, first_object, first_act, bytes_shown, size_shown, shown, shown_creat, shown_open, shown_read, shown_write, shown_seek, shown_exec, shown_rename, shown_unlink, shown_revive, shown_tag, seconds, Fits, FitsSome, AreOfCall}
-use Rattle.pass_plain.proofs.Lists.{true_left, true_right, both_true, same_numbers, same_itself, some_is, below_is, at_most}
+use Rattle.pass_plain.proofs.Lists.{true_left, true_right, both_true, same_numbers, same_itself, some_is, at_most}
 use Rattle.pass_plain.proofs.Calling.{step_next, step_made}
+use Rattle.pass_plain.proofs.Rows.{not_refused, fd_of}
 
 -- the steps that begin with those of the entries, and go on with one more
 pub front_of : (made : Made) (steps : List Step) (next : Step)
@@ -256,9 +257,6 @@ fits_own : (who : ℕ) (p : Process) (made : Made) (next : Step) (r : Request) (
 fits_own who p made next r a b short below within steps is_shown =
     (a, short, (b, below, record { request = r; is_shown = is_shown; begins = record { within = within; steps = steps } }))
 
-fd_of : (fd : ℕ) → is_fd fd ≡ true → fd < 64
-fd_of fd h = below_is fd 64 h
-
 -- .. for each call: the arguments that its first steps do not tell are open
 
 -- the steps that are shown are the same steps of another call
@@ -329,14 +327,10 @@ cut_held : (o : Option Descriptor) (size : ℕ) → option_map_or (judged_cut si
 cut_held None size e = absurd (cc)
 cut_held (Some d) size e = cut_test (not (is_file d) || same_mode d.mode mode.Read) size e
 
-no_fault : (a : Ask) (o : Option CallFault) → option_map_or (λ f. Some a) o None ≡ None → o ≡ None
-no_fault a None e = refl
-no_fault a (Some f) e = absurd (cc)
-
 cut_zero : (p : Process) (fd size : ℕ) → refused_ask p (requests.Truncate fd size) ≡ None → refused_ask p (requests.Truncate fd 0) ≡ None
 cut_zero p fd size e =
     ap (λ o. option_map_or (λ f. Some (ask.ToCut fd 0)) o None)
-    (cut_held (finite_map.get p.descriptors fd) size (no_fault (ask.ToCut fd size) (refusal p (ask.ToCut fd size)) e))
+    (cut_held (finite_map.get p.descriptors fd) size (not_refused (refusal p (ask.ToCut fd size)) (ask.ToCut fd size) e))
 
 cut_next : (who : ℕ) (p : Process) (made : Made) (next : Step) (fd size : ℕ) → is_within (requests.Truncate fd size) ≡ true
     → refused_ask p (requests.Truncate fd size) ≡ None → Follows who p made (requests.Truncate fd size) next → FitsSome who p made call.Truncate next

@@ -1,25 +1,18 @@
 -- A sorted set of numbers, seen as a finite set.
-use Rattle.std.proofs.Common.{◌≡◌, ℕ, Bool, true, false, ◌==◌, ◌||◌, ◌&&◌, not, cond, refl, sym, ◌∙◌, arith}
+use Rattle.std.proofs.Common.{◌≡◌, ℕ, true, false, ◌==◌, ◌||◌, ◌&&◌, not, sym, ◌∙◌, arith}
 use Rattle.std.proofs.lemmas.Bool.Decides.{nat_tests}
 use Rattle.std.specs.Ordering.{nat_cmp, eq_by_cmp}
 use Rattle.std.specs.Cmp.{unsigned_tied, nat_cmp_total}
 use Rattle.std.specs.BTreeSet as sorted
 use Rattle.std.specs.BTreeSet.{BTreeSet}
 use Rattle.std.specs.FinSet.{contains, insert, remove, from_list, contains-from_list, contains-insert, contains-remove, same_set, nat_cmp-IsAntisymmetric}
+use Rattle.pass_entry.proofs.Lists.{either, neither}
 
 swapped : (a b : ℕ) → eq_by_cmp nat_cmp a b ≡ eq_by_cmp nat_cmp b a
 swapped a b = unsigned_tied a b ∙ (let z : (a == b) ≡ (b == a) = grind (arith, nat_tests) in z) ∙ sym (unsigned_tied b a)
 
 pub contains-set : (s : BTreeSet ℕ) (q : ℕ) → contains (from_list {R = nat_cmp} s.keys) q ≡ sorted.contains nat_cmp s q
 contains-set s q = contains-from_list nat_cmp_total s.keys q
-
-either : (b c : Bool) → cond b true c ≡ (b || c)
-either true c = refl
-either false c = refl
-
-neither : (b c : Bool) → cond b false c ≡ (not b && c)
-neither true c = refl
-neither false c = refl
 
 pub set-insert : (s n : BTreeSet ℕ) (k : ℕ) → sorted.Updates nat_cmp s n k true → from_list {R = nat_cmp} n.keys ≡ insert (from_list s.keys) k
 set-insert s n k updates = same_set nat_cmp_total nat_cmp-IsAntisymmetric _ _ (λ q.

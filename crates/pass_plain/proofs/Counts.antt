@@ -2,7 +2,7 @@
 use Rattle.std.proofs.Common.{◌≡◌, ◌≤◌, ◌+◌, ◌-◌, ℕ, List, [], ◌∷◌, ◌++◌, length, take, map, refl, ap, sym, ◌∙◌, subst, arith, Bool, true, false, ◌||◌, ◌&&◌, not, ◌==◌, cond, length-append}
 use Rattle.std.specs.Prelude.{Option, Some, None, slice_get, drop, filter, filter_map, nat_lt, nat_le, if◌then◌else◌}
 use Rattle.std.specs.Option.{option_map_or}
-use Rattle.std.specs.List.{range_with_len, cons_option}
+use Rattle.std.specs.List.{range_with_len}
 use Rattle.std.specs.FinMap as finite_map
 use Rattle.std.proofs.lemmas.List.{length-take, length-drop, length-map}
 use Rattle.std.proofs.lemmas.Bool.Decides.{nat_tests}
@@ -21,6 +21,7 @@ use Rattle.pass_entry.specs.declared.objects.Kind.TheVariants as kind
 use Rattle.pass_entry.specs.declared.objects.End.TheVariants as end
 use Rattle.pass_entry.specs.declared.objects.Descriptor.{Descriptor}
 use Rattle.pass_entry.specs.Limits.{transfer_limit}
+use Rattle.pass_entry.proofs.Places.{mapped_fewer}
 use Rattle.pass_plain.specs.Histories.{is_fault, own_step, call_entries, bytes_of, bytes_at}
 use Rattle.pass_plain.specs.Sessions.{Session}
 use Rattle.pass_plain.specs.Registries.{Registry, registry_after, is_full, next_pnode}
@@ -184,14 +185,6 @@ filtered_fewer p (x ∷ xs) = at_test (p x) (filtered_fewer p xs)
     at_test true l = omega (arith, l)
     at_test false l = omega (arith, l)
 
-mapped_fewer : {X Y : Type 0} (g : X → Option Y) (xs : List X) → length (filter_map g xs) ≤ length xs
-mapped_fewer g [] = omega arith
-mapped_fewer {Y = Y} g (x ∷ xs) = at_head (g x) (mapped_fewer g xs)
-  where
-    at_head : (o : Option Y) → length (filter_map g xs) ≤ length xs → length (cons_option o (filter_map g xs)) ≤ length (x ∷ xs)
-    at_head (Some y) l = omega (arith, l)
-    at_head None l = omega (arith, l)
-
 pipes_few : (held : ℕ → Option Descriptor) (numbers : List ℕ) → length (filter is_pipe (filter_map held numbers)) ≤ length numbers
 pipes_few held numbers = let a = filtered_fewer is_pipe (filter_map held numbers) in let b = mapped_fewer held numbers in omega (arith, a, b)
 
@@ -255,7 +248,7 @@ start_reply session h =
 abbrev first_entry : Session → Entry
 first_entry session = record { who = 0; number = 0; call = call.Start; what = 0; act = act.Mint kind.Process; reply = answer.Made (session.start.ceiling + 1) }
 
-first_follows : (session : Session) → 1 ≤ session.objects → MayFollow session [] (first_entry session)
+pub first_follows : (session : Session) → 1 ≤ session.objects → MayFollow session [] (first_entry session)
 first_follows session h = record {
   replied = start_reply session h;
   acts = refl;

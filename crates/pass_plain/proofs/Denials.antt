@@ -2,6 +2,7 @@
 use Rattle.std.proofs.Common.{◌≡◌, ◌+◌, ℕ, [], ◌∷◌, ◌++◌, length, take, map, refl, ap, sym, ◌∙◌, subst, true, ◌&&◌}
 use Rattle.std.specs.Prelude.{Some, None}
 use Rattle.std.specs.Option.{option_map_or}
+use Rattle.std.proofs.lemmas.List.{nil_from_length}
 use Rattle.pass_entry.specs.declared.entry.Entry.{Entry}
 use Rattle.pass_entry.specs.declared.entry.Act.TheVariants as act
 use Rattle.pass_entry.specs.declared.entry.CallName.{CallName}
@@ -18,14 +19,13 @@ use Rattle.pass_plain.specs.Lawful.{DenyLaw}
 use Rattle.pass_plain.proofs.Lists.{some_is}
 use Rattle.pass_plain.proofs.Rows.{Row}
 use Rattle.pass_plain.proofs.Calling.{row, steps_by}
-use Rattle.pass_plain.proofs.Holding.{none_made}
 use Rattle.pass_plain.proofs.Playing.{before_new}
 
 pub deny_law : DenyLaw
 deny_law session history e a legal next is =
     let made = call_entries history e.who e.number in
     let r = subst (λ a. Row e.who (before_call history e.who e.number) made (steps_by session history e legal next) (length made) e.what a) is (row session history e legal next) in
-    let now : process_after history e.who ≡ before_call history e.who e.number = sym (before_new history e.who e.number (none_made made r.1)) in
+    let now : process_after history e.who ≡ before_call history e.who e.number = sym (before_new history e.who e.number (nil_from_length made r.1)) in
     let why : refusal (process_after history e.who) a ≡ Some r.2 = ap (λ (p : Process). refusal p a) now ∙ r.3 in
     let reply : Some (option_map_or (λ f. answer.Fault f) (refusal (process_after history e.what) a) answer.Done) ≡ Some e.reply =
     ap (λ a. reply_to session history e.what a) (sym is) ∙ next.replied in (

@@ -16,14 +16,11 @@ use Rattle.pass_plain.specs.declared.request.Request.{Request}
 use Rattle.pass_plain.specs.declared.request.Request.TheVariants as requests
 use Rattle.pass_plain.specs.Legal.{before_call}
 use Rattle.pass_plain.specs.Lawful.{StepEndLaw, EndLaw}
-use Rattle.pass_plain.proofs.Lists.{AllFrom, all_at, all-append, all-map}
+use Rattle.pass_plain.proofs.Lists.{AllFrom, all_at, all-append, all-map, alike}
 use Rattle.pass_plain.proofs.Calling.{step_next}
 
 apart : (a b : ℕ) → a < b → (a == b) ≡ false
 apart a b h = grind (arith, nat_tests)
-
-alike : (a b : ℕ) → a ≡ b → (a == b) ≡ true
-alike a b h = grind (arith, nat_tests)
 
 all_bounded : {X : Type 0} (Q : ℕ → X → Type 0) (most n : ℕ) (xs : List X) → n + length xs ≤ most → ((k : ℕ) (x : X) → k < most → Q k x) → AllFrom Q n xs
 all_bounded Q most n [] fits each = tt

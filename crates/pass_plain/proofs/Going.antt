@@ -7,13 +7,13 @@ use Rattle.std.specs.Option.{option_map_or}
 use Rattle.pass_entry.specs.declared.entry.Entry.{Entry}
 use Rattle.pass_entry.specs.declared.entry.Act.TheVariants as act
 use Rattle.pass_entry.specs.declared.entry.Ask.{Ask}
+use Rattle.pass_entry.proofs.Places.{slice_get-take}
 use Rattle.pass_plain.specs.Processes.{Process}
 use Rattle.pass_plain.specs.Calls.{act_on, Made, Step, call_steps, steps_of, refused_ask, pipe_descriptors, end_of, pnode_at, place_at}
 use Rattle.pass_plain.specs.declared.request.Request.{Request}
 use Rattle.pass_plain.specs.declared.request.Request.TheVariants as requests
 use Rattle.pass_plain.specs.Legal.{step_of}
 use Rattle.pass_plain.specs.CallLaws.{NextStepLaw, BegunLaw, StepNumberLaw}
-use Rattle.pass_plain.proofs.Replays.{slice_get-take}
 use Rattle.pass_plain.proofs.Candidates.{front_of}
 
 pub next_step_law : NextStepLaw

@@ -14,6 +14,7 @@ use Rattle.pass_entry.specs.declared.entry.CallName.TheVariants as call
 use Rattle.pass_entry.specs.declared.objects.Kind.TheVariants as kind
 use Rattle.pass_entry.specs.declared.entry.Reply.{Reply}
 use Rattle.pass_entry.specs.declared.entry.Reply.TheVariants as answer
+use Rattle.pass_entry.proofs.Places.{slice_get-last}
 use Rattle.pass_plain.specs.Histories.{is_fault, is_of_call, call_entries}
 use Rattle.pass_plain.specs.Sessions.{Session}
 use Rattle.pass_plain.specs.Processes.{Process, Held, new_process, process_after, process_act, begins, has_begun, has_ended}
@@ -21,8 +22,8 @@ use Rattle.pass_plain.specs.Calls.{Made, Step, is_last}
 use Rattle.pass_plain.specs.Legal.{IsLegal, MayFollow, is_start, before_call, is_over, may_be_left, last_number, ends_call, leaves_call}
 use Rattle.pass_plain.specs.Places.{begun_by, begun_in, processes_of, is_exit, need_of, exit_places, call_places, share, held_places, freed_places, keeps, exit_step}
 use Rattle.pass_plain.specs.PlaceLaws.{FirstPlacesLaw, ShareLaw, HeldLaw, LivingPlacesLaw, BirthPlacesLaw, EndPlacesLaw}
-use Rattle.pass_plain.proofs.Lists.{same_numbers, same_itself, both_true, or_false, true_left, any_at}
-use Rattle.pass_plain.proofs.Appends.{slice_get-last, legal-push, place_of}
+use Rattle.pass_plain.proofs.Lists.{same_numbers, same_itself, both_true, or_false, or_none, true_left, any_at}
+use Rattle.pass_plain.proofs.Appends.{legal-push, place_of}
 use Rattle.pass_plain.proofs.Rows.{Row}
 use Rattle.std.proofs.lemmas.List.Folds.{list_any-append}
 use Rattle.pass_plain.proofs.Beginning.{no_rebirth}
@@ -43,13 +44,9 @@ counted_one n q = let c = sum_by-cons (λ x. cond (x == q) 1 0) n [] in omega (a
 abbrev Once : List Entry → Type 0
 Once h = (q : ℕ) → count_by (λ x. x == q) (processes_of h) ≡ cond (has_begun h q) 1 0
 
-or_nothing : (b : Bool) → b ≡ (b || false)
-or_nothing true = refl
-or_nothing false = refl
-
 started : (name : CallName) (a : Act) (what : ℕ) (reply : Reply) → is_start name ≡ true
     → (q : ℕ) → count_by (λ x. x == q) (cons_option (begun_by name a what reply) []) ≡ cond (begins q name a what reply || false) 1 0
-started call.Start a what (answer.Made n) s q = counted_one n q ∙ ap (λ b. cond b 1 0) (or_nothing (n == q))
+started call.Start a what (answer.Made n) s q = counted_one n q ∙ ap (λ b. cond b 1 0) (sym (or_none (n == q)))
 started call.Start a what _ s q = refl
 started _ a what reply s q = absurd (cc)
 

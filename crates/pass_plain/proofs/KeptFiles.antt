@@ -4,12 +4,10 @@ use Rattle.std.specs.Prelude.{Option, Some, None, Result, Ok, Err, IfOk}
 use Rattle.std.specs.declared.alloc.AllocError.{AllocError}
 use Rattle.std.specs.Option.{MatchOption}
 use Rattle.std.specs.Ordering.{nat_cmp, is_eq}
-use Rattle.std.specs.declared.cmp.Ordering.{Ordering}
-use Rattle.std.specs.declared.cmp.Ordering.TheVariants.{Less, Equal, Greater}
+use Rattle.std.specs.declared.cmp.Ordering.TheVariants.{Equal}
 use Rattle.std.specs.FinMap.{nat_cmp-IsAntisymmetric}
 use Rattle.std.specs.Cmp.{nat_cmp_is}
 use Rattle.std.specs.BTreeMap.{BTreeMap, get, UpdatesBy}
-use Rattle.std.proofs.lemmas.Bool.Decides.{nat_tests}
 use Rattle.std.proofs.lemmas.List.FromFn.{length-map-range_with_len}
 use Rattle.std.proofs.lemmas.List.Folds.{list_any-append}
 use Rattle.pass_entry.specs.declared.entry.Entry.{Entry}
@@ -23,7 +21,7 @@ use Rattle.pass_plain.specs.Recording.{block_count, flags, is_change, changes, b
 use Rattle.pass_plain.specs.declared.start.Start.{Start}
 use Rattle.pass_plain.specs.declared.contents.Content.{Content}
 use Rattle.pass_plain.proofs.Replays.{state_after-append, own_step-own, own_step-other, own_step-fault}
-use Rattle.pass_plain.proofs.Lists.{same_itself}
+use Rattle.pass_plain.proofs.Lists.{same_itself, is_equal, and_none, different}
 
 pub few_blocks : block_count < 2 ^ 32
 unfolding block_count
@@ -33,12 +31,12 @@ pub length-flags : (had : ℕ → Bool) (n : ℕ) → length (flags had n) ≡ n
 length-flags had n = length-map-range_with_len had 0 n
 
 -- an act that changes no content leaves its file
-quiet_bytes : (a : Act) (content : List ℕ) → is_change a ≡ false → file_act content a ≡ content
+pub quiet_bytes : (a : Act) (content : List ℕ) → is_change a ≡ false → file_act content a ≡ content
 quiet_bytes (act.Put out at bytes) content quiet = absurd (cc)
 quiet_bytes (act.Cut out size) content quiet = absurd (cc)
 quiet_bytes _ content quiet = refl
 
-quiet_row : (a : Act) (block : ℕ) (had : Bool) → is_change a ≡ false → row_act block had a ≡ had
+pub quiet_row : (a : Act) (block : ℕ) (had : Bool) → is_change a ≡ false → row_act block had a ≡ had
 quiet_row (act.Put out at bytes) block had quiet = absurd (cc)
 quiet_row (act.Cut out size) block had quiet = absurd (cc)
 quiet_row _ block had quiet = refl
@@ -46,13 +44,6 @@ quiet_row _ block had quiet = refl
 neither : (a b : Bool) → ((a && false) && b) ≡ false
 neither true b = refl
 neither false b = refl
-
-nor : (a : Bool) → (a && false) ≡ false
-nor true = refl
-nor false = refl
-
-pub different : (a b : ℕ) → a ≢ b → (a == b) ≡ false
-different a b apart = grind (arith, nat_tests)
 
 module _ (start : Start) (history : List Entry) (e : Entry) (file : ℕ) where
   pub bytes_own : (e.what == file) ≡ true → is_fault e.reply ≡ false → bytes_after start (history ++ e ∷ []) file ≡ file_act (bytes_after start history file) e.act
@@ -96,7 +87,7 @@ module _ (start : Start) (history : List Entry) (e : Entry) (file : ℕ) where
       by_cases false fault other t = other_leaves other
       by_cases true true own t = fault_leaves t
       by_cases true false own t = record {
-        quiet = ap (λ b. (e.what == file && not (is_fault e.reply)) && b) quiet ∙ nor (e.what == file && not (is_fault e.reply));
+        quiet = ap (λ b. (e.what == file && not (is_fault e.reply)) && b) quiet ∙ and_none (e.what == file && not (is_fault e.reply));
         bytes = bytes_own own t ∙ quiet_bytes e.act (bytes_after start history file) quiet;
         rows = λ block. row_own block own t ∙ quiet_row e.act block (row_after start history file block) quiet;
       }
@@ -147,11 +138,6 @@ untouched_content start history file (Ok c) is bytes rows = record {
   rows = rows ∙ ap (λ (had : ℕ → Bool). flags had block_count) (λ i block. sym (is.rows block) i);
 }
 untouched_content start history file (Err e) is bytes rows = tt
-
-is_equal : (o : Ordering) → is_eq o ≡ true → o ≡ Equal
-is_equal Less e = absurd (cc)
-is_equal Equal e = refl
-is_equal Greater e = absurd (cc)
 
 same_key : (k : ℕ) → is_eq (nat_cmp k k) ≡ true
 same_key k = ap is_eq (sym (nat_cmp_is k k Equal refl))

@@ -5,6 +5,8 @@ use Rattle.std.specs.List.{list_any, before_first}
 use Rattle.std.proofs.lemmas.Bool.Decides.{nat_tests}
 use Rattle.std.proofs.lemmas.List.Folds.{list_any-append}
 use Rattle.std.specs.FinMap as finite_map
+use Rattle.std.proofs.lemmas.Bool.{or_right}
+use Rattle.std.proofs.lemmas.List.{append-nil}
 use Rattle.pass_entry.specs.declared.objects.Descriptor.{Descriptor}
 use Rattle.pass_plain.specs.Registries.{Registry, registry_after}
 use Rattle.pass_plain.specs.Lawful.{IsGoodDescriptor}
@@ -19,8 +21,7 @@ use Rattle.pass_plain.specs.Calls.{Made, Step}
 use Rattle.pass_plain.specs.Legal.{IsLegal, MayFollow, before_call, last_number}
 use Rattle.pass_plain.specs.States.{Call, noted, IsLastCall, IsLawful}
 use Rattle.pass_plain.proofs.Lists.{both_true, same_itself, same_numbers}
-use Rattle.pass_plain.proofs.Replays.{append-nil}
-use Rattle.pass_plain.proofs.Calling.{numbered, next_number, last_number-append, call_entries-append, row}
+use Rattle.pass_plain.proofs.Calling.{last_if, numbered, next_number, last_number-append, call_entries-append, row}
 use Rattle.pass_plain.proofs.TwoPrefixes.{first_hit, first_miss}
 use Rattle.pass_plain.proofs.Playing.{before_hit, before_new, no_calls}
 use Rattle.pass_plain.proofs.Rows.{Row}
@@ -41,22 +42,18 @@ number_by who n e = if e.who == who then e.number else n
 abbrev Called : ℕ → List Entry → ℕ → Type 0
 Called who es n = (fold (number_by who) n es ≡ n) ⊎ (list_any (is_of_call who (fold (number_by who) n es)) es ≡ true)
 
-any_later : (b c : Bool) → c ≡ true → b || c ≡ true
-any_later true c h = refl
-any_later false c h = h
-
 called_if : (who n : ℕ) (e : Entry) (es : List Entry) → ((m : ℕ) → Called who es m) → (b : Bool) → (e.who == who) ≡ b → Called who (e ∷ es) n
 called_if who n e es later false t =
     let same : number_by who n e ≡ n = ap (λ b. cond b e.number n) t in
     elim (later (number_by who n e)) [
       | inl l ↦ inl (l ∙ same)
-      | inr r ↦ inr (any_later (is_of_call who (fold (number_by who) (number_by who n e) es) e) _ r)
+      | inr r ↦ inr (or_right (is_of_call who (fold (number_by who) (number_by who n e) es) e) _ r)
     ]
 called_if who n e es later true t =
     let own : number_by who n e ≡ e.number = ap (λ b. cond b e.number n) t in
     elim (later (number_by who n e)) [
       | inl l ↦ inr (ap (λ k. is_of_call who k e || list_any (is_of_call who k) es) (l ∙ own) ∙ ap (λ b. b || list_any (is_of_call who e.number) es) (both_true (e.who == who) (e.number == e.number) t (same_itself e.number)))
-      | inr r ↦ inr (any_later (is_of_call who (fold (number_by who) (number_by who n e) es) e) _ r)
+      | inr r ↦ inr (or_right (is_of_call who (fold (number_by who) (number_by who n e) es) e) _ r)
     ]
 
 called_from : (who : ℕ) (es : List Entry) (n : ℕ) → Called who es n
@@ -76,9 +73,6 @@ before_same history e who number some last =
 entries_grown : (history : List Entry) (e : Entry) (who number : ℕ) (b : Bool) → is_of_call who number e ≡ b
     → call_entries (history ++ e ∷ []) who number ≡ call_entries history who number ++ cond b ((length history, e) ∷ []) []
 entries_grown history e who number b t = call_entries-append history e who number ∙ ap (λ b. call_entries history who number ++ cond b ((length history, e) ∷ []) []) t
-
-last_if : (history : List Entry) (e : Entry) (who : ℕ) (b : Bool) → (e.who == who) ≡ b → last_number (history ++ e ∷ []) who ≡ cond b e.number (last_number history who)
-last_if history e who b t = last_number-append history e who ∙ ap (λ b. cond b e.number (last_number history who)) t
 
 module _ (session : Session) (history : List Entry) (e : Entry) (legal : IsLegal session history) (next : MayFollow session history e) (who : ℕ) (call : Call) where
   by_other : (e.who == who) ≡ false → IsLastCall history who call → IsLastCall (history ++ e ∷ []) who call

@@ -17,15 +17,15 @@ use Rattle.pass_plain.specs.Sessions.{Session, is_opened, opening_version}
 use Rattle.pass_plain.specs.Legal.{IsLegal, MayFollow}
 use Rattle.pass_plain.specs.Versions.{same_node, version_in, is_used, source_in, same_source, nodes_of, node_at_entry, version_after, marked_after, is_repeated, is_exec, always_freezes, is_fresh, is_freeze}
 use Rattle.pass_plain.specs.Lineages.{Lineage, has, IsAlike, lineage_after, used, frozen, with_source, linked, lineage_act, is_fresh_act, is_freeze_act, LineageLaw}
-use Rattle.pass_plain.proofs.Lists.{or_false, same_itself, same_numbers, both_true, true_left, true_right, not_true, is_place}
+use Rattle.pass_plain.proofs.Lists.{or_false, same_itself, same_numbers, both_true, true_left, true_right, not_true, is_place, or_true, or_none, and_none, and_true}
 use Rattle.pass_plain.proofs.Calling.{legal_induction}
 use Rattle.pass_plain.proofs.Sources.{source_law, names_source, source_of}
-use Rattle.pass_plain.proofs.Versioned.{nodes_of-append, length-nodes_of, zip-append, zip_left, or_none, and_none, short_get, version_agrees, mark_agrees}
+use Rattle.pass_plain.proofs.Versioned.{nodes_of-append, length-nodes_of, zip-append, zip_left, short_get, version_agrees, mark_agrees}
 
-same_node-sym : (a b : Node) → same_node a b ≡ same_node b a
+pub same_node-sym : (a b : Node) → same_node a b ≡ same_node b a
 same_node-sym a b = grind (arith, nat_tests)
 
-same_node-self : (a : Node) → same_node a a ≡ true
+pub same_node-self : (a : Node) → same_node a a ≡ true
 same_node-self a = grind (arith, nat_tests)
 
 -- two nodes with other objects, or with other versions, are not the same
@@ -48,7 +48,7 @@ same_given f g (x ∷ xs) same =
     ap (λ o. cons_option o (filter_map f xs)) (same 0 x refl) ∙ ap (cons_option (g x)) (same_given f g xs (λ i y at. same (suc i) y at))
 
 -- a node stands among those that the items give exactly where an item that passes gives it
-any_given : {X : Type 0} (p : X → Bool) (f : X → Option Node) (node : Node) (xs : List X)
+pub any_given : {X : Type 0} (p : X → Bool) (f : X → Option Node) (node : Node) (xs : List X)
     → list_any (same_node node) (filter_map (λ x. if p x then f x else None) xs) ≡ list_any (λ x. p x && same_source (f x) (Some node)) xs
 any_given p f node [] = refl
 any_given {X = X} p f node (x ∷ xs) = at_test (p x) (f x) ∙ ap (λ b. (p x && same_source (f x) (Some node)) || b) (any_given p f node xs)
@@ -139,10 +139,6 @@ opening_low : (session : Session) (object : ℕ) (history : List Entry) → IsLe
 opening_low session object = legal_induction session (λ h. opening_version session.start object ≤ version_after session h object) (omega arith)
     (λ history e legal low next. let r = rises session history e object in omega (arith, low, r))
 
-and_true : (a : Bool) → a && true ≡ a
-and_true true = refl
-and_true false = refl
-
 or_turned : (a b c : Bool) → (a || b) || c ≡ (a || c) || b
 or_turned true b c = refl
 or_turned false true true = refl
@@ -181,7 +177,7 @@ only_used act.Cite used_so = (refl, refl)
 only_used _ used_so = absurd (cc)
 
 -- an act that always freezes is an exec, or takes from nothing
-exec_or_none : (a : Act) → always_freezes a ≡ true → (is_exec a ≡ true) ⊎ (out_of a ≡ None)
+pub exec_or_none : (a : Act) → always_freezes a ≡ true → (is_exec a ≡ true) ⊎ (out_of a ≡ None)
 exec_or_none act.Freeze freezes = inr refl
 exec_or_none (act.Exec out name args) freezes = inl refl
 exec_or_none _ freezes = absurd (cc)
@@ -290,10 +286,6 @@ module _ (session : Session) (history : List Entry) (e : Entry) (legal : IsLegal
             ∙ ap (λ ns. list_any (same_node node) ns || list_any (same_node node) (cons_option source []))
             (none_given (λ (s : Entry × Node). same_node s.1 (own_node (before + 1))) (λ s. source_in seen s.0) (zip history seen) none);
       }
-
-or_true : (a : Bool) → a || true ≡ true
-or_true true = refl
-or_true false = refl
 
 fresh_none : (l : Lineage) (a : Act) → out_of a ≡ None → is_fresh_act l None a ≡ false
 fresh_none l (act.Exec out name args) none = absurd (cc)

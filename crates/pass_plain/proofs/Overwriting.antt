@@ -1,9 +1,8 @@
 -- Bytes that are put into a content that was made long enough before.
 use Rattle.std.proofs.Common.{◌≡◌, ◌≤◌, ◌+◌, ◌-◌, ◌==◌, ℕ, zero, suc, List, [], ◌∷◌, ◌++◌, length, take, drop, refl, ap, sym, ◌∙◌, arith, false}
 use Rattle.std.specs.Prelude.{replicate}
-use Rattle.std.proofs.lemmas.List.{take-replicate, drop-replicate, take_all, length-drop}
+use Rattle.std.proofs.lemmas.List.{take-replicate, drop-replicate, take_all, length-drop, append-nil}
 use Rattle.pass_plain.specs.Files.{extended, written}
-use Rattle.pass_plain.proofs.Replays.{append-nil}
 
 take_same : (content : List ℕ) (at size : ℕ) → at ≤ size → take at (extended content size) ≡ take at (extended content at)
 take_same [] at size le =

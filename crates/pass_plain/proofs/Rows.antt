@@ -117,7 +117,7 @@ judged_of p fd judge (Some d) e h =
 judged : (p : Process) (fd : ℕ) (judge : Descriptor → Option CallFault) → at_held p fd judge ≡ None → Holds p fd × (judge (descriptor_at p fd) ≡ None)
 judged p fd judge h = judged_of p fd judge (finite_map.get p.descriptors fd) refl h
 
-not_refused : (o : Option CallFault) (a : Ask) → option_map_or (λ f. Some a) o None ≡ None → o ≡ None
+pub not_refused : (o : Option CallFault) (a : Ask) → option_map_or (λ f. Some a) o None ≡ None → o ≡ None
 not_refused None a h = refl
 not_refused (Some f) a h = absurd (cc)
 
@@ -191,7 +191,7 @@ from_pipes held (fd ∷ numbers) n = from_some held n fd (held fd) (filter_map h
 abbrev pub AreRows : ℕ → Process → Made → List Step → Type 0
 AreRows who p made steps = AllFrom (IsRow who p made steps) 0 steps
 
-fd_of : (fd : ℕ) → is_fd fd ≡ true → fd < 64
+pub fd_of : (fd : ℕ) → is_fd fd ≡ true → fd < 64
 fd_of fd h = below_is fd 64 h
 
 close_rows : (who : ℕ) (p : Process) (made : Made) (fd : ℕ) → fd < 64 → Holds p fd → (b : Bool) → is_pipe (descriptor_at p fd) ≡ b

@@ -1,6 +1,6 @@
 -- No file is longer than the limit.
-use Rattle.std.proofs.Common.{◌≡◌, ◌≤◌, ◌+◌, ◌-◌, ℕ, suc, List, [], ◌∷◌, ◌++◌, length, take, refl, ap, sym, ◌∙◌, subst, arith, Bool, true, false, ◌&&◌, not, ◌==◌, cond, length-append}
-use Rattle.std.specs.Prelude.{drop, replicate, find, slice_get, Option, Some}
+use Rattle.std.proofs.Common.{◌≡◌, ◌≤◌, ◌<◌, ◌+◌, ◌-◌, ◌*◌, ℕ, suc, List, [], ◌∷◌, ◌++◌, length, take, refl, ap, sym, ◌∙◌, subst, arith, Bool, true, false, ◌&&◌, not, ◌==◌, cond, length-append}
+use Rattle.std.specs.Prelude.{nat_lt, drop, replicate, find, slice_get, Option, Some}
 use Rattle.std.specs.Option.{option_map_or}
 use Rattle.pass_plain.specs.declared.start.StartFile.{StartFile}
 use Rattle.std.proofs.lemmas.List.{length-take, length-drop, length-replicate}
@@ -14,12 +14,50 @@ use Rattle.pass_plain.specs.Files.{file_after, file_act, written, resized, exten
 use Rattle.pass_plain.specs.Processes.{Process, file_limit}
 use Rattle.pass_plain.specs.Calls.{Made, Step}
 use Rattle.pass_plain.specs.Legal.{IsLegal, before_call}
+use Rattle.pass_plain.specs.Records.{is_written}
+use Rattle.pass_plain.proofs.Lists.{below_is, true_left, true_right}
 use Rattle.pass_plain.proofs.Replays.{state_after-append}
 use Rattle.pass_plain.proofs.Rows.{Row}
 use Rattle.pass_plain.proofs.Calling.{legal_induction, row}
 
-length-extended : (content : List ℕ) (size : ℕ) → length (extended content size) ≡ length content + (size - length content)
+pub length-extended : (content : List ℕ) (size : ℕ) → length (extended content size) ≡ length content + (size - length content)
 length-extended content size = length-append content (replicate (size - length content) 0) ∙ ap (λ n. length content + n) (length-replicate (size - length content) 0)
+
+pub length-resized : (content : List ℕ) (size : ℕ) → length (resized content size) ≡ size
+length-resized content size = omega (arith, length-take size (extended content size), length-extended content size)
+
+-- a write makes no file shorter
+pub no_shorter : (old : List ℕ) (at : ℕ) (bytes : List ℕ) → length old ≤ length (written old at bytes)
+no_shorter old at [] = omega arith
+no_shorter old at (x ∷ xs) =
+    omega (
+      arith,
+      length-append (take at (extended old at) ++ x ∷ xs) (drop (at + length (x ∷ xs)) old),
+      length-append (take at (extended old at)) (x ∷ xs),
+      length-take at (extended old at),
+      length-extended old at,
+      length-drop (at + length (x ∷ xs)) old,
+    )
+
+-- a block of which a byte was written begins within the file
+pub written_begins : (a : Act) (old : List ℕ) (b : ℕ) → is_written a b ≡ true → b * 4096 < length (file_act old a)
+written_begins (act.Put out at bytes) old b is =
+    let parts = true_left (nat_lt 0 (length bytes) && nat_lt (b * 4096) (at + length bytes)) (nat_lt at ((b + 1) * 4096)) is in
+    let some : 0 < length bytes = below_is 0 (length bytes) (true_left (nat_lt 0 (length bytes)) (nat_lt (b * 4096) (at + length bytes)) parts) in
+    let below : b * 4096 < at + length bytes = below_is (b * 4096) (at + length bytes) (true_right (nat_lt 0 (length bytes)) (nat_lt (b * 4096) (at + length bytes)) parts) in
+    omega (arith, below, long old at bytes some)
+  where
+    long : (old : List ℕ) (at : ℕ) (bytes : List ℕ) → 0 < length bytes → at + length bytes ≤ length (written old at bytes)
+    long old at [] some = absurd (omega (arith, some))
+    long old at (x ∷ xs) some =
+        omega (
+          arith,
+          length-append (take at (extended old at) ++ x ∷ xs) (drop (at + length (x ∷ xs)) old),
+          length-append (take at (extended old at)) (x ∷ xs),
+          length-take at (extended old at),
+          length-extended old at,
+        )
+written_begins a old b is = absurd (cc)
 
 pub written_fits : (content : List ℕ) (at : ℕ) (bytes : List ℕ) (most : ℕ) → length content ≤ most → at + length bytes ≤ most → length (written content at bytes) ≤ most
 written_fits content at [] most fits more = fits

@@ -4,6 +4,7 @@ use Rattle.std.specs.Prelude.{Option, None, if◌then◌else◌}
 use Rattle.std.specs.Option.{option_map_or, MatchOption}
 use Rattle.std.specs.Ordering.{nat_cmp, is_eq}
 use Rattle.std.specs.Map.{lookup}
+use Rattle.std.proofs.lemmas.List.{append-nil}
 use Rattle.pass_plain.specs.declared.contents.Content.{Content}
 use Rattle.pass_entry.specs.declared.entry.Entry.{Entry}
 use Rattle.pass_entry.specs.declared.entry.Act.{Act}
@@ -23,7 +24,7 @@ use Rattle.pass_plain.specs.declared.nodes.VersionStep.{VersionStep}
 use Rattle.pass_plain.specs.declared.records.Recording.{Recording}
 use Rattle.pass_plain.specs.States.{registry_of, registry_step}
 use Rattle.pass_plain.proofs.RecordedBy.{records_of-append}
-use Rattle.pass_plain.proofs.Replays.{append-nil, state_after-append}
+use Rattle.pass_plain.proofs.Replays.{state_after-append}
 
 -- the size and the digests are those of the definition, which has the number of blocks in figures
 pub content_is : (start : Start) (history : List Entry) (e : Entry)

@@ -1,13 +1,11 @@
 -- A child just born.
-use Rattle.std.proofs.Common.{◌≡◌, ℕ, suc, ◌+◌, ◌≤◌, ◌^◌, List, [], ◌∷◌, ◌++◌, length, refl, ap, sym, ◌∙◌, subst, arith, Bool, true, false, ◌&&◌, ◌||◌, not, ◌==◌, inl, inr}
-use Rattle.std.specs.Prelude.{Option, Some, None, slice_get, fold, is_some, if◌then◌else◌}
-use Rattle.std.specs.Option.{option_map_or}
+use Rattle.std.proofs.Common.{◌≡◌, ℕ, ◌+◌, ◌≤◌, ◌^◌, List, [], ◌∷◌, ◌++◌, length, refl, ap, sym, ◌∙◌, subst, arith, Bool, true, false, ◌&&◌, not, ◌==◌, inl, inr}
+use Rattle.std.specs.Prelude.{Some, slice_get, if◌then◌else◌}
 use Rattle.std.specs.Ordering.{nat_cmp}
 use Rattle.std.specs.FinSet.{len-empty}
 use Rattle.pass_entry.specs.declared.entry.Entry.{Entry}
 use Rattle.pass_entry.specs.declared.objects.Node.{Node}
 use Rattle.pass_entry.specs.declared.record.Record.TheVariants as log
-use Rattle.pass_plain.specs.declared.start.StartFile.{StartFile}
 use Rattle.pass_plain.specs.Legal.{IsLegal, last_number}
 use Rattle.pass_plain.specs.Lineages.{Lineage, IsAlike, with_source}
 use Rattle.pass_plain.specs.Processes.{Held, new_process, process_act, process_after, has_begun, has_ended}
@@ -17,12 +15,14 @@ use Rattle.pass_plain.specs.Versions.{nodes_of, source_in}
 use Rattle.pass_plain.proofs.Appends.{legal-push, place_of}
 use Rattle.pass_plain.proofs.Beginning.{no_rebirth}
 use Rattle.pass_plain.proofs.HeldPlaces.{child_begun}
-use Rattle.pass_plain.proofs.Lists.{same_itself, same_numbers, true_left, true_right}
+use Rattle.pass_plain.proofs.Lists.{same_itself, true_left, true_right}
 use Rattle.pass_plain.proofs.Playing.{who_begun, zero_not}
 use Rattle.pass_plain.proofs.Replays.{own_step-own}
+use Rattle.pass_plain.proofs.OtherCalls.{last_none}
+use Rattle.pass_plain.proofs.LastNodes.{begins_at}
 use Rattle.pass_version.specs.States.{VersionState, IsStateAfter}
 use Rattle.pass_version.specs.declared.versions.Taken.TheVariants as taken
-use Rattle.pass_version.proofs.OneObject.{opening_law}
+use Rattle.pass_version.proofs.OneObject.{opening_law, alike_state}
 use Rattle.pass_hold.specs.Callers.{CallerState}
 use Rattle.pass_hold.specs.Callings.{IsEntered, IsIdle}
 use Rattle.pass_hold.proofs.Objects.{object_after, takes}
@@ -30,30 +30,6 @@ use Rattle.pass_proc.specs.Acts.{taken_records}
 use Rattle.pass_proc.specs.Births.{birth_entry, first_lineage}
 use Rattle.pass_proc.specs.Procs.{IsCallerOf}
 use Rattle.pass_proc.specs.Views.{IsProcess, process_of}
-use Rattle.pass_proc.proofs.Takings.{alike_state}
-
--- an object that is not of the opening begins with version 1
-begins_at : (f : Option StartFile) (n : Option Node) → is_some f || is_some n ≡ false → option_map_or (λ (f : StartFile). f.node.version) f (option_map_or (λ (n : Node). n.version) n 1) ≡ 1
-begins_at (Some f) n none = absurd (cc)
-begins_at None (Some n) none = absurd (cc)
-begins_at None None none = refl
-
--- who has made no entry has no number
-no_number : (h : List Entry) (who : ℕ) → ((i : ℕ) (f : Entry) → slice_get h i ≡ Some f → f.who ≡ who → ⊥) → last_number h who ≡ 0
-no_number h who none = from h 0 none
-  where
-    unlike : (a b : ℕ) → (a ≡ b → ⊥) → (a == b) ≡ false
-    unlike a b apart = by_test (a == b) refl
-      where
-        by_test : (t : Bool) → (a == b) ≡ t → (a == b) ≡ false
-        by_test true is = absurd (apart (same_numbers a b is))
-        by_test false is = is
-
-    from : (h : List Entry) (n : ℕ) → ((i : ℕ) (f : Entry) → slice_get h i ≡ Some f → f.who ≡ who → ⊥) → fold (λ (n : ℕ) (e : Entry). if e.who == who then e.number else n) n h ≡ n
-    from [] n none = refl
-    from (e ∷ h) n none =
-        ap (λ b. fold (λ (n : ℕ) (e : Entry). if e.who == who then e.number else n) (if b then e.number else n) h) (unlike e.who who (none 0 e refl))
-        ∙ from h n (λ i f at. none (suc i) f at)
 
 pub opened_is : (session : Session) (child : ℕ) → is_opened session.start child ≡ false → IsStateAfter session [] (first_lineage child)
 opened_is session child new =
@@ -130,7 +106,7 @@ module _ (session : Session) (line after : List Entry) (who number child out : �
     begun = child_now;
     lives = refl;
     state = state_born;
-    last = ap (λ h. last_number h child) entered.whole ∙ no_number (h ++ e ∷ []) child no_child;
+    last = ap (λ h. last_number h child) entered.whole ∙ last_none (h ++ e ∷ []) child no_child;
     ready = inl refl;
   }
 

@@ -12,7 +12,7 @@ use Rattle.pass_plain.specs.declared.request.Request.{Request}
 use Rattle.pass_plain.specs.declared.request.Request.TheVariants as requests
 use Rattle.pass_plain.specs.Calls.{Made, Step, name_of, ask_of, is_within, call_steps, steps_of, refused_ask}
 use Rattle.pass_plain.specs.Legal.{CallerAllows, is_start}
-use Rattle.pass_plain.specs.Places.{is_exit, need_of, keeps}
+use Rattle.pass_plain.specs.Places.{is_exit, keeps}
 use Rattle.pass_plain.specs.Processes.{Process, new_process, process_act, process_after, refusal}
 use Rattle.pass_plain.specs.Sessions.{Session}
 use Rattle.pass_plain.proofs.Replays.{own_step-fault}
@@ -43,11 +43,6 @@ denied session line after number call p is a f entered few =
 ordinary : (r : Request) (a : Ask) → ask_of r ≡ Some a → is_start (name_of r) ≡ false
 ordinary requests.Start a asked = absurd (cc)
 ordinary _ a asked = refl
-
-pub need_asked : (r : Request) (a : Ask) → ask_of r ≡ Some a → 3 ≡ need_of (name_of r)
-need_asked requests.Exit a asked = absurd (cc)
-need_asked requests.Fork a asked = absurd (cc)
-need_asked _ a asked = refl
 
 pub no_exit : (r : Request) (a : Ask) → ask_of r ≡ Some a → is_exit (name_of r) ≡ false
 no_exit requests.Exit a asked = absurd (cc)

@@ -2,7 +2,6 @@
 use Rattle.std.proofs.Common.{◌≡◌, ℕ, ◌+◌, List, [], ◌∷◌, ◌++◌, length, refl, ap, sym, ◌∙◌, arith, Bool, true, false, cond, ◌&&◌, not, ◌==◌, length-append}
 use Rattle.std.specs.Prelude.{Some, None, slice_get, if◌then◌else◌}
 use mathlib.Core.List.{IsPrefix}
-use Rattle.pass_entry.specs.declared.entry.Act.{Act}
 use Rattle.pass_entry.specs.declared.entry.Act.TheVariants as act
 use Rattle.pass_entry.specs.declared.entry.CallName.TheVariants as calls
 use Rattle.pass_entry.specs.declared.entry.Entry.{Entry}
@@ -16,6 +15,7 @@ use Rattle.pass_plain.specs.Versions.{nodes_of}
 use Rattle.pass_plain.proofs.Appends.{replay-++}
 use Rattle.pass_plain.proofs.Lists.{same_itself}
 use Rattle.pass_plain.proofs.Replays.{own_step-own}
+use Rattle.pass_plain.proofs.OtherCalls.{ended_act}
 use Rattle.pass_hold.specs.Callings.{IsEntered}
 use Rattle.pass_hold.proofs.Objects.{object_after, marks, stays, node_there}
 use Rattle.pass_proc.specs.Acts.{own_entry}
@@ -25,16 +25,12 @@ use Rattle.pass_proc.proofs.Steps.{unchanged}
 
 -- a process that has ended lives no more
 
-act_ended : (past : List Entry) (p : Process) (a : Act) → p.ended ≡ true → (process_act past p a).ended ≡ true
-act_ended past p act.Finish is = refl
-act_ended past p _ is = is
-
 replay_ended : (o : ℕ) (past es : List Entry) (p : Process) → p.ended ≡ true → (replay (own_step (λ past (p : Process) (e : Entry). process_act past p e.act) o) past p es).ended ≡ true
 replay_ended o past [] p is = is
 replay_ended o past (e ∷ es) p is = replay_ended o (past ++ e ∷ []) es _ (by_test (e.what == o && not (is_fault e.reply)))
   where
     by_test : (b : Bool) → (cond b (process_act past p e.act) p).ended ≡ true
-    by_test true = act_ended past p e.act is
+    by_test true = ended_act past p e.act is
     by_test false = is
 
 ended_more : (h later : List Entry) (o : ℕ) → has_ended h o ≡ true → has_ended (h ++ later) o ≡ true

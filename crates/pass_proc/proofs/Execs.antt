@@ -19,14 +19,13 @@ use Rattle.pass_plain.proofs.TwoPrefixes.{none_later}
 use Rattle.pass_plain.proofs.Versioned.{version_law}
 use Rattle.pass_version.specs.States.{IsStateAfter}
 use Rattle.pass_version.specs.declared.versions.Taken.TheVariants as taken
-use Rattle.pass_version.proofs.OneObject.{step_law}
+use Rattle.pass_version.proofs.OneObject.{step_law, alike_state}
 use Rattle.pass_hold.specs.Callings.{IsEntered}
 use Rattle.pass_hold.proofs.Objects.{lineage_stays}
 use Rattle.pass_proc.specs.Acts.{own_entry, taken_records}
 use Rattle.pass_proc.specs.Execs.{program_records}
 use Rattle.pass_proc.specs.Views.{ProcessView, IsProcess}
 use Rattle.pass_proc.proofs.Own.{state_now}
-use Rattle.pass_proc.proofs.Takings.{alike_state}
 
 -- an exec freezes once, and takes from its program
 execs : (session : Session) (line desk after : List Entry) (e : Entry) → IsEntered session line desk after e → (l : Lineage) (source : Node) → l.node.pnode ≡ e.what → IsStateAfter session desk l

@@ -22,9 +22,10 @@ use Rattle.pass_plain.specs.Versions.{nodes_of, is_exec, always_freezes, marked_
 use Rattle.pass_plain.proofs.Lists.{same_itself}
 use Rattle.pass_plain.proofs.LastCalls.{offsets_fit}
 use Rattle.pass_plain.proofs.Replays.{own_step-own}
+use Rattle.pass_plain.proofs.LastNodes.{versions_low}
 use Rattle.pass_version.specs.States.{IsStateAfter}
 use Rattle.pass_hold.specs.Callings.{IsEntered}
-use Rattle.pass_hold.proofs.Objects.{object_after, stays, marks, node_there, versions_low}
+use Rattle.pass_hold.proofs.Objects.{object_after, stays, marks, node_there}
 use Rattle.pass_proc.specs.Acts.{is_quiet, is_use, room_needed}
 use Rattle.pass_proc.specs.Views.{ProcessView, IsProcess}
 

@@ -12,17 +12,17 @@ use Rattle.pass_entry.specs.declared.entry.Act.TheVariants as act
 use Rattle.pass_entry.specs.declared.entry.Reply.TheVariants as answer
 use Rattle.pass_entry.specs.declared.objects.Node.{Node}
 use Rattle.pass_entry.specs.declared.record.Record.TheVariants as log
+use Rattle.pass_entry.proofs.Lists.{some_is}
 use Rattle.pass_plain.specs.Histories.{is_fault, out_of, bytes_at, bytes_of}
-use Rattle.pass_plain.specs.Lineages.{Lineage, IsAlike, has, linked, frozen, with_source, lineage_after}
+use Rattle.pass_plain.specs.Lineages.{Lineage, IsAlike, has, linked, frozen, with_source}
 use Rattle.pass_plain.specs.Processes.{Process, process_act, changed_at, risen}
-use Rattle.pass_plain.specs.Recorded.{entry_records_by, act_records_by, version_records_by, is_fresh_by, is_freeze_by, node_by, repeats}
+use Rattle.pass_plain.specs.Recorded.{entry_records_by, act_records_by, is_fresh_by, is_freeze_by, node_by, repeats, version_records_by}
 use Rattle.pass_plain.specs.Sessions.{Session}
 use Rattle.pass_plain.specs.Versions.{nodes_of, source_in, is_exec, always_freezes, version_after, marked_after}
 use Rattle.pass_plain.proofs.Versioned.{length-nodes_of, short_get}
-use Rattle.pass_version.specs.States.{IsStateAfter}
 use Rattle.pass_version.specs.declared.versions.Taken.{Taken}
 use Rattle.pass_version.specs.declared.versions.Taken.TheVariants as taken
-use Rattle.pass_version.proofs.OneObject.{alike_then}
+use Rattle.pass_version.proofs.OneObject.{alike_state}
 use Rattle.pass_hold.specs.Callings.{IsEntered}
 use Rattle.pass_hold.proofs.Objects.{takes, repeats_has}
 use Rattle.pass_proc.specs.Acts.{is_taking, room_needed, taken_records}
@@ -40,9 +40,6 @@ pub record IsTake (a : Act) : Type 1 where
   pub children : (past : List Entry) (p : Process) → (process_act past p a).children ≡ (process_act [] p a).children
   pub later : (past seen : List Entry) (p : Process) (out : ℕ) → out_of a ≡ Some out → bytes_at past out ≡ bytes_at seen out → process_act past p a ≡ process_act seen p a
 
-same_some : (m n : ℕ) → ◌≡◌ {A = Option ℕ} (Some m) (Some n) → m ≡ n
-same_some m n e = cc e
-
 abbrev with_bytes : Process → ℕ → List ℕ → Process
 with_bytes p fd bytes = record p { descriptors = changed_at p.descriptors fd (risen (length bytes)); last_read = bytes }
 
@@ -57,7 +54,7 @@ take_of (act.Gain out fd) is = record {
   roomless = refl;
   lists = λ s d o e n. refl;
   children = λ h p. refl;
-  later = λ past seen p k at same. gained past seen p out fd (subst (λ k. bytes_at past k ≡ bytes_at seen k) (sym (same_some out k at)) same);
+  later = λ past seen p k at same. gained past seen p out fd (subst (λ k. bytes_at past k ≡ bytes_at seen k) (sym (some_is out k at)) same);
 }
 take_of (act.Gather out child) is = record {
   from = refl;
@@ -96,10 +93,6 @@ by_taken : (h m : Bool) (n s : Node)
 by_taken true m n s = refl
 by_taken false true n s = refl
 by_taken false false n s = refl
-
-pub alike_state : (session : Session) (h : List Entry) (m n : Lineage) → IsAlike m n → IsStateAfter session h n → IsStateAfter session h m
-alike_state session h m n a is =
-    subst (λ o. IsAlike m (lineage_after session h o)) (sym (ap (λ (n : Node). n.pnode) a.node)) (alike_then m n (lineage_after session h n.node.pnode) a is)
 
 at_place : (nodes : List Node) (o : Option ℕ) (source : Node) → option_map_or (λ out. slice_get nodes out) o None ≡ Some source → (k : ℕ) × (o ≡ Some k) × (slice_get nodes k ≡ Some source)
 at_place nodes None source is = absurd (cc)

@@ -7,6 +7,7 @@ use Rattle.pass_entry.specs.declared.entry.Act.TheVariants as act
 use Rattle.pass_entry.specs.declared.entry.CallFault.{CallFault}
 use Rattle.pass_entry.specs.declared.entry.Entry.{Entry}
 use Rattle.pass_entry.specs.declared.entry.Reply.TheVariants as answer
+use Rattle.pass_entry.proofs.Places.{slice_get-last}
 use Rattle.pass_plain.specs.declared.request.Request.TheVariants as requests
 use Rattle.pass_plain.specs.CallLaws.{IsBegun}
 use Rattle.pass_plain.specs.Calls.{Made, call_steps, is_last_act}
@@ -16,12 +17,12 @@ use Rattle.pass_plain.specs.Processes.{Held, Process}
 use Rattle.pass_plain.specs.Replies.{reply_to}
 use Rattle.pass_plain.specs.Runs.{next_number}
 use Rattle.pass_plain.specs.Sessions.{Session}
-use Rattle.pass_plain.proofs.Appends.{slice_get-last}
 use Rattle.pass_plain.proofs.Calling.{call_entries-append, numbered}
 use Rattle.pass_plain.proofs.Going.{step_number_law}
 use Rattle.pass_plain.proofs.Lists.{both_true, same_itself, some_is}
 use Rattle.pass_plain.proofs.Replays.{take-next}
 use Rattle.pass_plain.proofs.Rows.{Row, row_of_step}
+use Rattle.pass_plain.proofs.OtherCalls.{ends_last}
 use Rattle.pass_hold.specs.Goings.{HasNotAnswered, IsStepAt}
 use Rattle.pass_hold.proofs.Callings.{no_zero}
 use Rattle.pass_proc.specs.CallEnds.{last_reply}
@@ -29,7 +30,6 @@ use Rattle.pass_proc.specs.Procs.{ProcView}
 use Rattle.pass_calls.specs.declared.answer.CallEnd.TheVariants as ends
 use Rattle.pass_progress.specs.Progress.{HasGoneOn, ChildlessLaw, NumberLaw}
 use Rattle.pass_progress.proofs.Answering.{progress_law}
-use Rattle.pass_progress.proofs.Exits.{last_ends}
 use Rattle.pass_progress.proofs.Positions.{calls_begin, next_of_over}
 use Rattle.pass_progress.proofs.Rests.{beginning}
 use Rattle.pass_progress.proofs.Since.{last_below}
@@ -112,7 +112,7 @@ module _ (session : Session) (old new : ProcView) (on : HasGoneOn session old ne
   over : is_over new.seen who number ≡ true
   over =
       let p = before_call new.seen who number in
-      ap (ends_call p) only ∙ last_ends p front place ∙ (λ i. is_fault (done i) || is_last_act p (step.named i) (born i))
+      ap (ends_call p) only ∙ ends_last p front place ∙ (λ i. is_fault (done i) || is_last_act p (step.named i) (born i))
 
   -- so the call is over
   pub not_under_way : HasNotAnswered who requests.Fork old.seen new.seen → ⊥

@@ -1,7 +1,6 @@
 -- How a process ends.
-use Rattle.std.proofs.Common.{◌≡◌, ◌-◌, ℕ, zero, suc, List, [], ◌∷◌, ◌++◌, length, map, take, refl, ap, sym, ◌∙◌, subst, arith, ◌⊎◌, inl, inr, true, false, ◌||◌, ◌&&◌, not, ◌==◌, cond, length-append}
+use Rattle.std.proofs.Common.{◌≡◌, ◌-◌, ℕ, zero, suc, List, [], ◌∷◌, ◌++◌, length, map, take, refl, ap, sym, ◌∙◌, subst, arith, ◌⊎◌, inl, inr, true, false, ◌||◌, ◌&&◌, not, ◌==◌, cond}
 use Rattle.std.specs.Prelude.{Some, slice_get}
-use Rattle.std.specs.Option.{option_map_or}
 use Rattle.pass_entry.specs.declared.entry.Act.{Act}
 use Rattle.pass_entry.specs.declared.entry.Act.TheVariants as act
 use Rattle.pass_entry.specs.declared.entry.Entry.{Entry}
@@ -9,6 +8,7 @@ use Rattle.pass_entry.specs.declared.entry.Reply.{Reply}
 use Rattle.pass_entry.specs.declared.entry.Reply.TheVariants as answer
 use Rattle.pass_entry.specs.declared.objects.Descriptor.{Descriptor}
 use Rattle.pass_entry.specs.declared.objects.End.{End}
+use Rattle.pass_entry.proofs.Places.{slice_get-last}
 use Rattle.pass_plain.specs.declared.request.Request.TheVariants as requests
 use Rattle.pass_plain.specs.CallLaws.{IsBegun}
 use Rattle.pass_plain.specs.Calls.{act_on, Made, Step, end_of, is_last, is_last_act, pipe_descriptors}
@@ -18,10 +18,10 @@ use Rattle.pass_plain.specs.Processes.{Process, process_act, process_after, has_
 use Rattle.pass_plain.specs.Replies.{reply_to}
 use Rattle.pass_plain.specs.Runs.{next_number}
 use Rattle.pass_plain.specs.Sessions.{Session}
-use Rattle.pass_plain.proofs.Appends.{slice_get-last}
 use Rattle.pass_plain.proofs.Calling.{of_call}
 use Rattle.pass_plain.proofs.Lists.{same_itself, some_is}
 use Rattle.pass_plain.proofs.Playing.{all_played, played}
+use Rattle.pass_plain.proofs.OtherCalls.{ends_last}
 use Rattle.pass_hold.specs.Callings.{IsCallMade}
 use Rattle.pass_proc.specs.Procs.{ProcView}
 use Rattle.pass_progress.specs.Progress.{ExitLaw, IsAtRest, IsBetween}
@@ -33,9 +33,6 @@ use Rattle.pass_progress.proofs.Since.{IsSince, goes, last_now}
 parted : (m : ℕ × Entry) (made : Made) → (front : Made) × (s : ℕ × Entry) × (m ∷ made ≡ front ++ s ∷ [])
 parted m [] = ([], m, refl)
 parted m (n ∷ made) = let (front, s, whole) = parted n made in (m ∷ front, s, ap (λ ms. m ∷ ms) whole)
-
-pub last_ends : (p : Process) (front : Made) (s : ℕ × Entry) → ends_call p (front ++ s ∷ []) ≡ is_last p s.1
-last_ends p front s = ap (λ o. option_map_or (λ (s : ℕ × Entry). is_last p s.1) o false) (ap (λ n. slice_get (front ++ s ∷ []) n) (let z : length (front ++ s ∷ []) - 1 ≡ length front = omega (arith, length-append front (s ∷ [])) in z) ∙ slice_get-last front s)
 
 -- a step of an exit is a leave, or the end
 abbrev IsExitStep : ℕ → Step → Type 0
@@ -102,7 +99,7 @@ module _ (session : Session) (old : ProcView) (new : List Entry) (made : Made) (
       let stands = (of_call new who number (length front) s place).0 in
       let replied = (call.legal s.0 s.1 stands).replied in
       let called = call.named (length front) s (ap (λ ms. slice_get ms (length front)) is ∙ slice_get-last front s) in
-      let last : is_last p s.1 ≡ true = sym (last_ends p front s) ∙ ap (ends_call p) (sym is) ∙ ends in
+      let last : is_last p s.1 ≡ true = sym (ends_last p front s) ∙ ap (ends_call p) (sym is) ∙ ends in
       let at_last : last_number new who ≡ number = last_now session who number requests.Exit old.seen old.seen new p made since m others some in
       let begun = since_begun in
       let played_is : process_after new who ≡ played new who (front ++ s ∷ []) p =

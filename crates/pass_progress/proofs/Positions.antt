@@ -1,10 +1,9 @@
 -- Where the entries of one call stand in a longer history.
-use Rattle.std.proofs.Common.{◌≡◌, ◌≢◌, ◌≤◌, ◌+◌, ℕ, suc, List, [], ◌∷◌, ◌++◌, length, map, take, refl, ap, sym, ◌∙◌, subst, arith, Bool, true, false, ◌||◌, ◌==◌, cond, append_assoc, length-append}
+use Rattle.std.proofs.Common.{◌≡◌, ◌≢◌, ◌≤◌, ◌+◌, ℕ, suc, List, [], ◌∷◌, ◌++◌, length, map, take, refl, ap, sym, ◌∙◌, subst, arith, Bool, true, false, ◌==◌, cond, append_assoc, length-append}
 use Rattle.std.specs.Prelude.{Some, slice_get, if◌then◌else◌}
-use Rattle.std.specs.List.{list_any, before_first}
-use Rattle.std.proofs.lemmas.List.{append-nil, length-map, map-append}
+use Rattle.std.specs.List.{list_any}
+use Rattle.std.proofs.lemmas.List.{append-nil, length-map, map-append, take-take}
 use Rattle.std.proofs.Math.Seq.{take-append_seam}
-use Rattle.std.proofs.lemmas.List.Folds.{list_any-append}
 use mathlib.Core.List.{IsPrefix}
 use Rattle.pass_entry.specs.declared.entry.Entry.{Entry}
 use Rattle.pass_plain.specs.declared.request.Request.{Request}
@@ -16,16 +15,9 @@ use Rattle.pass_plain.specs.Processes.{Process, process_after}
 use Rattle.pass_plain.specs.Runs.{next_number}
 use Rattle.pass_plain.proofs.Calling.{call_entries-append, last_number-append, step_next}
 use Rattle.pass_plain.proofs.Going.{steps_stay}
-use Rattle.pass_plain.proofs.LastCalls.{before_kept}
 use Rattle.pass_plain.proofs.Lists.{or_false, same_numbers}
-use Rattle.pass_plain.proofs.Replays.{take-take_le}
+use Rattle.pass_plain.proofs.OtherCalls.{before_more, other_entries}
 use Rattle.pass_book.proofs.Prefixes.{prefix_self}
-use Rattle.pass_hold.proofs.Goings.{other_entries}
-
--- an element behind others
-pub behind : {X : Type 0} (xs ys : List X) (i : ℕ) (x : X) → slice_get ys i ≡ Some x → slice_get (xs ++ ys) (length xs + i) ≡ Some x
-behind [] ys i x at = (let z : 0 + i ≡ i = omega arith in ap (λ n. slice_get ys n) z) ∙ at
-behind (y ∷ xs) ys i x at = (let z : suc (length xs) + i ≡ suc (length xs + i) = omega arith in ap (λ n. slice_get (y ∷ xs ++ ys) n) z) ∙ behind xs ys i x at
 
 -- of the entries of a call the first ones are those in a beginning of the history
 pub calls_begin : (xs ys : List Entry) (who number : ℕ) → IsPrefix (call_entries xs who number) (call_entries (xs ++ ys) who number)
@@ -45,16 +37,8 @@ calls_same xs (e ∷ ys) who number none =
     let (head, rest) = or_false (is_of_call who number e) (list_any (is_of_call who number) ys) none in
     ap (λ h. call_entries h who number) (sym (append_assoc xs (e ∷ []) ys)) ∙ calls_same (xs ++ e ∷ []) ys who number rest ∙ other_entries xs e who number head
 
--- what stands before the first element that passes is the same in a longer list
-before_longer : {X : Type 0} (p : X → Bool) (xs ys : List X) → list_any p xs ≡ true → before_first p (xs ++ ys) ≡ before_first p xs
-before_longer p xs [] any = ap (λ zs. before_first p zs) (append-nil xs)
-before_longer p xs (y ∷ ys) any =
-    ap (λ zs. before_first p zs) (sym (append_assoc xs (y ∷ []) ys))
-    ∙ before_longer p (xs ++ y ∷ []) ys (list_any-append p xs (y ∷ []) ∙ ap (λ b. b || list_any p (y ∷ [])) any)
-    ∙ before_kept p xs y any
-
 pub before_same : (xs ys : List Entry) (who number : ℕ) → list_any (is_of_call who number) xs ≡ true → before_call (xs ++ ys) who number ≡ before_call xs who number
-before_same xs ys who number any = ap (λ h. process_after h who) (before_longer (is_of_call who number) xs ys any)
+before_same xs ys who number any = ap (λ h. process_after h who) (before_more (is_of_call who number) xs ys any)
 
 -- the number of a process's last call is no more than that of its later entries
 pub last_at_most : (xs ys : List Entry) (who number : ℕ) → last_number xs who ≤ number → ((i : ℕ) (f : Entry) → slice_get ys i ≡ Some f → f.who ≡ who → f.number ≡ number)
@@ -91,7 +75,7 @@ begun_less who p made m r begun =
     sym (take-append_seam (map step_of made) (step_of m ∷ []))
     ∙ ap (λ n. take n (map step_of made ++ step_of m ∷ [])) (length-map made step_of)
     ∙ ap (take (length made)) (sym (up_to who p made m r begun))
-    ∙ take-take_le (length made) (length made + 1) steps (omega arith)
+    ∙ take-take (length made) (length made + 1) steps (omega arith)
 
 -- the first ones are first steps
 pub begun_front : (who : ℕ) (p : Process) (made more : Made) (r : Request) → IsBegun who p (made ++ more) r → IsBegun who p made r

@@ -8,6 +8,7 @@ use Rattle.std.proofs.lemmas.List.Folds.{list_any-append}
 use Rattle.std.proofs.lemmas.Option.{get_or_from_slice_get, slice_get_within}
 use mathlib.Core.List.{IsPrefix}
 use Rattle.pass_entry.specs.declared.entry.Entry.{Entry}
+use Rattle.pass_entry.proofs.Places.{slice_get-take, slice_get-right, slice_get-last}
 use Rattle.pass_plain.specs.declared.request.Request.{Request}
 use Rattle.pass_plain.specs.CallLaws.{IsBegun}
 use Rattle.pass_plain.specs.Calls.{Made, name_of}
@@ -17,15 +18,15 @@ use Rattle.pass_plain.specs.NextSteps.{AreOfCall}
 use Rattle.pass_plain.specs.Processes.{Process, begins, has_begun}
 use Rattle.pass_plain.specs.Runs.{next_number}
 use Rattle.pass_plain.specs.Sessions.{Session}
-use Rattle.pass_plain.proofs.Appends.{slice_get-append, slice_get-last}
+use Rattle.pass_plain.proofs.Appends.{slice_get-append}
 use Rattle.pass_plain.proofs.Calling.{legal_take, of_call, numbered, acts-cases, goes_on-cases, call_entries-append}
 use Rattle.pass_plain.proofs.Lists.{any_at, any_of, both_true, true_left, true_right, same_itself, same_numbers, some_is, in_filtered}
-use Rattle.pass_plain.proofs.Replays.{slice_get-take, take-next}
+use Rattle.pass_plain.proofs.Replays.{take-next}
 use Rattle.pass_plain.proofs.TwoPrefixes.{SameCaller, caller_agrees}
 use Rattle.pass_hold.specs.Callings.{made_by, entries_in}
 use Rattle.pass_hold.specs.Goings.{Goes, IsStepAt}
 use Rattle.pass_hold.proofs.Goings.{take_past, number_same}
-use Rattle.pass_progress.proofs.Positions.{behind, before_same, begun_front, begun_step, calls_begin, calls_same, last_at_most, next_of_last}
+use Rattle.pass_progress.proofs.Positions.{before_same, begun_front, begun_step, calls_begin, calls_same, last_at_most, next_of_last}
 
 -- A process has seen `before`, then `old`, then `new`. Of its entries those since `before` are those of its call of this number, which is
 -- its next one after `old`; the state before it is p.
@@ -75,7 +76,7 @@ module _ (session : Session) (who number : ℕ) (r : Request) (before old new : 
   -- each later entry of its own is of the call
   pub own_later : (i : ℕ) (f : Entry) → slice_get later i ≡ Some f → f.who ≡ who → f.number ≡ number
   own_later i f at by =
-      let (k, found) = in_filtered (λ (e : Entry). e.who == who) (between ++ later) (length between + i) f (behind between later i f at) (ap (λ w. w == who) by ∙ same_itself who) in
+      let (k, found) = in_filtered (λ (e : Entry). e.who == who) (between ++ later) (length between + i) f (slice_get-right between later i f at) (ap (λ w. w == who) by ∙ same_itself who) in
       let (s, there, same) = in_made made k f (ap (λ es. slice_get es k) (sym own_since) ∙ found) in
       let (stands, wrote, counted) = of_call new who number k s (ap (λ m. slice_get m k) is.made_is ∙ there) in
       ap (λ (e : Entry). e.number) (sym same) ∙ counted
@@ -103,7 +104,7 @@ module _ (session : Session) (who number : ℕ) (r : Request) (before old new : 
     some_own any =
         let (i, f, at, by) = any_at (λ (e : Entry). e.who == who) more any in
         let own = same_numbers f.who who by in
-        (length old + i, f, behind old more i f at, own, own_more i f at own)
+        (length old + i, f, slice_get-right old more i f at, own, own_more i f at own)
 
     others_stay : (k : ℕ) → k ≢ number → call_entries (old ++ more) who k ≡ call_entries old who k
     others_stay k apart = calls_same old more who k (none (list_any (is_of_call who k) more) refl)

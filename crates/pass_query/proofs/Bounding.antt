@@ -2,7 +2,7 @@
 use Rattle.std.proofs.Common.{ℕ, ◌≡◌, ◌≤◌, ◌<◌, ◌+◌, ◌-◌, zero, suc, Bool, true, false, not, ◌||◌, ◌⊎◌, inl, inr, refl, sym, ap, ◌∙◌, subst, List, [], ◌∷◌, length, get_or, arith}
 use Rattle.std.specs.Prelude.{Option, Some, None, map, filter, slice_get, option_map, Contains}
 use Rattle.std.specs.List.{list_any, filter_map, cons_option, IsDistinct}
-use Rattle.std.proofs.lemmas.Bool.{or_left, or_right}
+use Rattle.std.proofs.lemmas.Bool.{or_left, or_right, false_from_ne_true}
 use Rattle.std.proofs.lemmas.List.{length-map}
 use Rattle.std.proofs.lemmas.List.Filters.{length-filter_both}
 use Rattle.std.proofs.lemmas.Map.Keys.{IsDistinct-from_apart}
@@ -11,6 +11,7 @@ use Rattle.std.proofs.lemmas.Option.{slice_get-map, slice_get_within, get_or_fro
 use Rattle.pass_entry.specs.declared.objects.Node.{Node}
 use Rattle.pass_entry.specs.declared.record.Record.{Record}
 use Rattle.pass_entry.specs.declared.record.Record.TheVariants as log
+use Rattle.pass_entry.proofs.Places.{mapped_fewer, Contains-place, Contains-at}
 use Rattle.pass_plain.specs.Versions.{same_node}
 use Rattle.pass_plain.specs.Graphs.{IsEdge, HasPath}
 use Rattle.pass_plain.specs.Graphs.IsEdge.{input, version}
@@ -18,7 +19,6 @@ use Rattle.pass_plain.specs.Graphs.HasPath.{edge, step}
 use Rattle.pass_plain.proofs.Lists.{any_at, any_of, is_place, in_filtered, some_is}
 use Rattle.pass_plain.proofs.Appends.{slice_get-append}
 use Rattle.pass_graph.proofs.Noding.{same_node_is, same_node_equiv}
-use Rattle.pass_graph.proofs.Ranking.{not_any}
 use Rattle.pass_waldo.specs.Orders.{node_cmp}
 use Rattle.pass_waldo.specs.Lookups.{AreAll}
 use Rattle.pass_query.specs.declared.search.Reached.{Reached}
@@ -26,9 +26,9 @@ use Rattle.pass_query.specs.declared.walk.Way.{Way}
 use Rattle.pass_query.specs.declared.walk.Way.TheVariants.{Back, On}
 use Rattle.pass_query.specs.Searches.{Leads, Reaches, IsSearch, HasAllLed}
 use Rattle.pass_query.specs.Searches.IsSearch.{begin, look}
-use Rattle.pass_query.proofs.Looking.{reached_at}
-use Rattle.pass_query.proofs.Searching.{IsOrdered, ordered, not_itself, ascends, fresh}
-use Rattle.pass_query.proofs.Elements.{Contains-place, Contains-at, one_value}
+use Rattle.pass_query.proofs.Looking.{reached_at, fresh}
+use Rattle.pass_query.proofs.Searching.{IsOrdered, ordered, not_itself, ascends}
+use Rattle.pass_query.proofs.Elements.{one_value}
 
 -- the node to which the edge of a record leads
 abbrev lead_end : Way → Record → Option Node
@@ -53,14 +53,6 @@ in_filter_map h (y ∷ xs) (suc k) r x at is = at_option (h y) (in_filter_map h 
     at_option (Some z) later = ap (λ b. same_node x z || b) later ∙ or_true (same_node x z)
     at_option None later = later
 
-no_more : (h : Record → Option Node) (xs : List Record) → length (filter_map h xs) ≤ length xs
-no_more h [] = omega arith
-no_more h (y ∷ xs) = at_option (h y) (no_more h xs)
-  where
-    at_option : (o : Option Node) → length (filter_map h xs) ≤ length xs → length (cons_option o (filter_map h xs)) ≤ suc (length xs)
-    at_option (Some z) later = omega (arith, later)
-    at_option None later = omega (arith, later)
-
 -- each node to which an edge leads is the end of a record's edge
 led_to : (way : Way) (list : List Record) (a b : Node) → Leads way list a b → list_any (same_node b) (filter_map (lead_end way) list) ≡ true
 led_to Back list a b (input in_list) = let (k, at) = Contains-place list (log.Input a b) in_list in in_filter_map (lead_end Back) list k (log.Input a b) b at refl
@@ -73,7 +65,7 @@ led_to On list a b (version in_list object next) = let (k, at) = Contains-place 
 
 -- a list that has no node twice
 pub distinct_from : (xs : List Node) → ((i j : ℕ) (x y : Node) → slice_get xs i ≡ Some x → slice_get xs j ≡ Some y → i < j → x ≡ y → ⊥) → IsDistinct same_node xs
-distinct_from xs differ = IsDistinct-from_apart same_node xs (λ i j d low within. not_any (same_node (get_or xs i d) (get_or xs j d)) (λ same.
+distinct_from xs differ = IsDistinct-from_apart same_node xs (λ i j d low within. false_from_ne_true (same_node (get_or xs i d) (get_or xs j d)) (λ same.
     let (x, at) = is_place xs i (omega (arith, low, within)) in
     let (y, there) = is_place xs j within in
     let is : get_or xs i d ≡ x = get_or_from_slice_get xs i x d at in
@@ -95,7 +87,7 @@ module _ (way : Way) (list : List Record) (first : Node) where
   pub no_longer : {reached : List Reached} {next : ℕ} → IsOrdered way list first reached next → length reached ≤ length list + 1
   no_longer {reached = reached} o =
       let most = length-le_from_is_member same_node_equiv (nodes_of reached) (first ∷ filter_map (lead_end way) list) (distinct_from (nodes_of reached) differ) all_in in
-      let less = no_more (lead_end way) list in
+      let less = mapped_fewer (lead_end way) list in
       let same = length-map reached (λ (r : Reached). r.node) in
       omega (arith, most, less, same)
     where
@@ -148,7 +140,7 @@ module _ (way : Way) (list : List Record) (first : Node) where
 
     others_kept : (edges : List (Node × Node)) → ((j : ℕ) (p : Reached) (y : Node) → j < next → slice_get old j ≡ Some p → Leads way list p.node y → Contains edges (p.node, y))
         → (j : ℕ) (p : Reached) (y : Node) → j < next → slice_get old j ≡ Some p → Leads way list p.node y → Contains (filter other edges) (p.node, y)
-    others_kept edges all j p y low at leads = kept other edges (p.node, y) (all j p y low at leads) (ap not (not_any (same_node from.node p.node) (λ same.
+    others_kept edges all j p y low at leads = kept other edges (p.node, y) (all j p y low at leads) (ap not (false_from_ne_true (same_node from.node p.node) (λ same.
         let z : next ≡ j = o.once next j from p here at (same_node_is from.node p.node same) in omega (arith, z, low))))
 
     all_fit : (edges : List (Node × Node)) → count ≤ length (filter other edges) → length row ≤ length (filter own edges) → count + length row ≤ length edges

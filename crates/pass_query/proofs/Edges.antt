@@ -7,6 +7,7 @@ use Rattle.std.proofs.lemmas.Map.Made.{length-le_from_is_member}
 use Rattle.std.proofs.lemmas.Option.{slice_get-map, slice_get_within}
 use Rattle.pass_entry.specs.declared.objects.Node.{Node}
 use Rattle.pass_entry.specs.declared.record.Record.{Record}
+use Rattle.pass_entry.proofs.Places.{in_either, slice_get-right, Contains-place, Contains-at}
 use Rattle.pass_plain.proofs.Appends.{slice_get-append}
 use Rattle.pass_plain.proofs.Lists.{any_at, any_of}
 use Rattle.pass_graph.specs.Logged.{same_pair}
@@ -14,12 +15,12 @@ use Rattle.pass_query.specs.declared.search.Reached.{Reached}
 use Rattle.pass_query.specs.declared.walk.Way.{Way}
 use Rattle.pass_query.specs.Searches.{Leads, Reaches, IsSearch, HasOnlyLed}
 use Rattle.pass_query.specs.Searches.IsSearch.{begin, look}
-use Rattle.pass_query.proofs.Looking.{reached_at}
-use Rattle.pass_query.proofs.Searching.{ordered, in_either, in_second, below_or, fresh}
+use Rattle.pass_query.proofs.Looking.{reached_at, fresh}
+use Rattle.pass_query.proofs.Searching.{ordered, below_or}
 use Rattle.pass_query.proofs.Bounding.{all_reached}
-use Rattle.pass_query.proofs.Elements.{Contains-place, Contains-at, same_pair_equiv, distinct, one_value}
+use Rattle.pass_query.proofs.Elements.{same_pair_equiv, distinct, one_value}
 
-abbrev edge_from : Node → Node → Node × Node
+abbrev pub edge_from : Node → Node → Node × Node
 edge_from a b = (a, b)
 
 module _ (way : Way) (list : List Record) (first : Node) where
@@ -60,7 +61,7 @@ module _ (way : Way) (list : List Record) (first : Node) where
           let is : p ≡ from = one_value (old ++ fresh old next row) next p from (ap (slice_get (old ++ fresh old next row)) (sym same) ∙ at) (slice_get-append old (fresh old next row) next from here) in
           let (m, there) = Contains-place row y ((are.all y).1 (subst (λ (q : Reached). Leads way list q.node y) is leads)) in
           let pair : slice_get (map (edge_from from.node) row) m ≡ Some (from.node, y) = slice_get-map (edge_from from.node) row m ∙ ap (option_map (edge_from from.node)) there in
-          (length (led_edges before) + m, in_second (led_edges before) (map (edge_from from.node) row) m (from.node, y) pair ∙ ap (λ (q : Reached). Some (edge_from q.node y)) (sym is))
+          (length (led_edges before) + m, slice_get-right (led_edges before) (map (edge_from from.node) row) m (from.node, y) pair ∙ ap (λ (q : Reached). Some (edge_from q.node y)) (sym is))
 
   reached_or : {reached : List Reached} {count : ℕ} → IsSearch way list first reached (length reached) count → (x : Node) → (x ≡ first) ⊎ Reaches way list first x
       → (k : ℕ) × (r : Reached) × (slice_get reached k ≡ Some r) × (r.node ≡ x)

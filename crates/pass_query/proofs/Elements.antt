@@ -1,5 +1,5 @@
 -- The elements of a list and their places, and lists of nodes and of edges that have none twice.
-use Rattle.std.proofs.Common.{ℕ, ◌≡◌, ◌<◌, ◌+◌, zero, suc, true, false, refl, sym, ap, ◌∙◌, List, [], ◌∷◌, length, get_or, arith, Ordering}
+use Rattle.std.proofs.Common.{ℕ, ◌≡◌, ◌<◌, ◌+◌, true, false, refl, sym, ap, ◌∙◌, List, [], ◌∷◌, length, get_or, arith, Ordering}
 use Rattle.std.specs.Prelude.{Some, slice_get, Contains}
 use Rattle.std.specs.Cmp.{IsEquivalence, and_equiv, on_equiv}
 use Rattle.std.specs.List.{IsDistinct, AllByRecursion}
@@ -8,37 +8,22 @@ use Rattle.std.specs.Ordering.{ordering_reverse, is_lt}
 use Rattle.std.specs.declared.cmp.Ordering.TheVariants.{Less, Equal, Greater}
 use Rattle.std.proofs.lemmas.Cmp.{tied_itself}
 use Rattle.std.proofs.lemmas.Map.Keys.{IsDistinct-from_apart, IsDistinct-cons, apart_from_distinct, sorted_from_all_adjacent, sorted_head, sorted_tail}
-use Rattle.std.proofs.lemmas.Option.{slice_get_within, get_or_from_slice_get}
+use Rattle.std.proofs.lemmas.Option.{get_or_from_slice_get}
+use Rattle.std.proofs.lemmas.Bool.{false_from_ne_true}
 use Rattle.pass_entry.specs.declared.objects.Node.{Node}
 use Rattle.pass_plain.specs.Versions.{same_node}
 use Rattle.pass_plain.proofs.Lists.{is_place, some_is, true_left, true_right}
 use Rattle.pass_graph.specs.Logged.{same_pair}
 use Rattle.pass_graph.proofs.Noding.{same_node_is, same_node_equiv}
-use Rattle.pass_graph.proofs.Ranking.{not_any}
 use Rattle.pass_waldo.specs.Orders.{node_cmp}
 use Rattle.pass_waldo.proofs.Indexing.{node_cmp_total, node_exact}
 use Rattle.pass_query.specs.Searches.{HasOnce}
-
-pub Contains-place : {X : Type 0} (xs : List X) (x : X) → Contains xs x → (k : ℕ) × (slice_get xs k ≡ Some x)
-Contains-place [] x (k, within, is) = absurd (omega (arith, within))
-Contains-place (y ∷ xs) x (zero, within, is) = (0, ap (λ z. Some z) is)
-Contains-place (y ∷ xs) x (suc k, within, is) = let (j, at) = Contains-place xs x (k, omega (arith, within), is) in (suc j, at)
-
-pub Contains-at : {X : Type 0} (xs : List X) (k : ℕ) (x : X) → slice_get xs k ≡ Some x → Contains xs x
-Contains-at xs k x at = (k, slice_get_within xs k x at, get_or_from_slice_get xs k x x at)
 
 pub one_value : {X : Type 0} (xs : List X) (k : ℕ) (x y : X) → slice_get xs k ≡ Some x → slice_get xs k ≡ Some y → x ≡ y
 one_value xs k x y at also = some_is x y (sym at ∙ also)
 
 pub first_there : {X : Type 0} (x : X) (xs : List X) → Contains (x ∷ xs) x
 first_there x xs = (0, omega arith, refl)
-
-pub there_behind : {X : Type 0} (y : X) (xs : List X) (x : X) → Contains xs x → Contains (y ∷ xs) x
-there_behind y xs x (k, within, is) = (suc k, omega (arith, within), is)
-
--- no element stands in a list of none
-pub nothing_there : {X : Type 0} (x : X) → Contains [] x → ⊥
-nothing_there x (k, within, is) = omega (arith, within)
 
 -- a sorted list that has no node twice is strictly sorted
 pub strictly : (v : List Node) (d : Node) → IsSorted node_cmp v → IsDistinct same_node v → IsStrictlySortedBy node_cmp v
@@ -57,7 +42,7 @@ strictly v d up apart = sorted_from_all_adjacent node_cmp_total v d (λ k within
         absurd (cc)
 
 pub differ : (a b : Node) → node_cmp a b ≡ Less → same_node a b ≡ false
-differ a b less = not_any (same_node a b) (λ same.
+differ a b less = false_from_ne_true (same_node a b) (λ same.
     let tied : node_cmp a a ≡ Equal = tied_itself node_cmp_total a in
     let z : Less ≡ Equal = sym less ∙ ap (node_cmp a) (sym (same_node_is a b same)) ∙ tied in cc)
 
@@ -83,7 +68,7 @@ same_pair_equiv = and_equiv (on_equiv (λ (e : Node × Node). e.0) same_node_equ
 
 -- a list that has no edge twice
 pub distinct : (edges : List (Node × Node)) → HasOnce edges → IsDistinct same_pair edges
-distinct edges once = IsDistinct-from_apart same_pair edges (λ i j d low within. not_any (same_pair (get_or edges i d) (get_or edges j d)) (λ same.
+distinct edges once = IsDistinct-from_apart same_pair edges (λ i j d low within. false_from_ne_true (same_pair (get_or edges i d) (get_or edges j d)) (λ same.
     let (e, at) = is_place edges i (omega (arith, low, within)) in
     let (f, there) = is_place edges j within in
     let is : e ≡ f = sym (get_or_from_slice_get edges i e d at) ∙ same_pair_is (get_or edges i d) (get_or edges j d) same ∙ get_or_from_slice_get edges j f d there in

@@ -9,10 +9,10 @@ use Rattle.std.proofs.lemmas.List.{take_more}
 use Rattle.std.proofs.lemmas.List.Elements.{filter_map-append}
 use Rattle.pass_entry.specs.declared.objects.Node.{Node}
 use Rattle.pass_entry.specs.declared.record.Record.{Record}
+use Rattle.pass_entry.proofs.Places.{Contains-place, Contains-at}
 use Rattle.pass_plain.proofs.Lists.{some_is}
 use Rattle.pass_waldo.specs.Lookups.{AreAll, current_in}
 use Rattle.pass_waldo.specs.Orders.{node_cmp}
-use Rattle.pass_query.proofs.Elements.{Contains-place, Contains-at}
 
 -- the object at its current version
 abbrev pub node_now : List Record → ℕ → Option Node

@@ -8,6 +8,7 @@ use Rattle.std.proofs.lemmas.Map.Keys.{IsDistinct-IsPermutation}
 use Rattle.std.proofs.lemmas.Option.{slice_get-map}
 use Rattle.pass_entry.specs.declared.objects.Node.{Node}
 use Rattle.pass_entry.specs.declared.record.Record.{Record}
+use Rattle.pass_entry.proofs.Places.{Contains-place, Contains-at}
 use Rattle.pass_plain.specs.Versions.{same_node}
 use Rattle.pass_plain.specs.WellLogged.{IsWellLogged}
 use Rattle.pass_plain.proofs.Lists.{some_is}
@@ -23,7 +24,7 @@ use Rattle.pass_query.specs.Answers.{HasAllEntering, HasOnlyEntering}
 use Rattle.pass_query.proofs.Looking.{reached_at}
 use Rattle.pass_query.proofs.Searching.{IsOrdered, ordered}
 use Rattle.pass_query.proofs.Bounding.{nodes_of, reached_of, distinct_from, come_on, all_reached}
-use Rattle.pass_query.proofs.Elements.{Contains-place, Contains-at, strictly}
+use Rattle.pass_query.proofs.Elements.{strictly}
 
 -- no node reaches itself
 pub no_return : (way : Way) (list : List Record) → IsWellLogged list → (x : Node) → Reaches way list x x → ⊥

@@ -2,7 +2,7 @@ pub mod Elements
 mod Looking
 mod Searching
 mod Bounding
-mod Edges
+pub mod Edges
 mod Counting
 mod Kin
 mod Holders

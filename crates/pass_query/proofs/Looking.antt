@@ -8,18 +8,17 @@ use Rattle.std.specs.declared.hash.FoldHasher.{FoldHasher}
 use Rattle.std.specs.declared.hash.BuildHasherDefault.{BuildHasherDefault}
 use Rattle.std.specs.declared.cmp.Ordering.TheVariants.{Less, Equal}
 use Rattle.std.proofs.lemmas.Cmp.{tied_itself}
-use Rattle.std.proofs.lemmas.List.{map-append, get_or-take}
+use Rattle.std.proofs.lemmas.List.{map-append, get_or-take, append-nil}
 use Rattle.std.proofs.lemmas.List.Elements.{filter_more}
 use Rattle.std.proofs.lemmas.List.Folds.{list_any-append}
 use Rattle.std.proofs.lemmas.Map.Keys.{Less-from_sorted}
 use Rattle.std.proofs.lemmas.Option.{get_or_from_slice_get}
+use Rattle.std.proofs.lemmas.Bool.{false_from_ne_true}
 use Rattle.pass_entry.specs.declared.objects.Node.{Node}
 use Rattle.pass_plain.specs.Versions.{same_node}
-use Rattle.pass_plain.proofs.Replays.{append-nil}
-use Rattle.pass_plain.proofs.Versioned.{or_none}
-use Rattle.pass_plain.proofs.Lists.{any_at, within_take}
+use Rattle.pass_plain.proofs.Lists.{any_at, within_take, or_none}
 use Rattle.pass_graph.proofs.Noding.{same_node_is, same_node_equiv}
-use Rattle.pass_graph.proofs.Ranking.{not_any}
+use Rattle.pass_graph.proofs.Adding.{first_or}
 use Rattle.pass_waldo.specs.Orders.{node_cmp}
 use Rattle.pass_waldo.proofs.Indexing.{node_cmp_total}
 use Rattle.pass_query.specs.declared.search.Reached.{Reached}
@@ -35,8 +34,9 @@ and_no : (b : Bool) → false ≡ b && false
 and_no true = refl
 and_no false = refl
 
-abbrev fresh : List Reached → ℕ → List Node → List Reached
-fresh old place xs = map (reached_at place) (filter (is_new old) xs)
+-- the nodes that one look adds
+abbrev pub fresh : List Reached → ℕ → List Node → List Reached
+fresh old place row = map (reached_at place) (filter (is_new old) row)
 
 -- the new nodes of a row
 pub has_fresh : (old : List Reached) (place : ℕ) (row : List Node) (n : Node) → has_node (map (reached_at place) (filter (is_new old) row)) n ≡ (is_new old n && list_any (same_node n) row)
@@ -69,7 +69,7 @@ has_looked old place row n =
 
 -- a row has each node once
 pub no_repeat : (row : List Node) → IsStrictlySortedBy node_cmp row → (j : ℕ) (n : Node) → j < length row → n ≡ get_or row j n → list_any (same_node n) (take j row) ≡ false
-no_repeat row up j n within at = not_any (list_any (same_node n) (take j row)) (λ any.
+no_repeat row up j n within at = false_from_ne_true (list_any (same_node n) (take j row)) (λ any.
     let (i, x, found, same) = any_at (same_node n) (take j row) any in
     let low : i < j = within_take j i row x found in
     let less : node_cmp (get_or row i n) (get_or row j n) ≡ Less = Less-from_sorted node_cmp row i j n up low within in
@@ -103,12 +103,6 @@ module _ (old : List Reached) (place : ℕ) (row : List Node) (up : IsStrictlySo
 
   pub looked_known : has_node now n ≡ true → looked old place (take (j + 1) row) ≡ now
   looked_known had = more ∙ ap (λ b. now ++ map (reached_at place) (cond (not b) (n ∷ []) [])) (sym known ∙ had) ∙ append-nil now
-
-first_or : (b c : Bool) → cond b true c ≡ (c || (b || false))
-first_or true true = refl
-first_or true false = refl
-first_or false true = refl
-first_or false false = refl
 
 -- the set with the new node
 pub seen_new : (reached : List Reached) (seen put : Nodes) (place : ℕ) (n : Node) → AreSeen reached seen → ((q : Node) → contains same_node put q ≡ cond (same_node n q) true (contains same_node seen q)) → AreSeen (reached ++ reached_at place n ∷ []) put

@@ -1,5 +1,5 @@
 -- The routes of a search, and that each is the least path.
-use Rattle.std.proofs.Common.{ℕ, ◌≡◌, ◌≤◌, ◌<◌, ◌+◌, zero, suc, Bool, true, false, ◌⊎◌, inl, inr, refl, sym, ap, ◌∙◌, subst, List, [], ◌∷◌, ◌++◌, length, get_or, arith, cond, Ordering, append_assoc, length-append, reverse}
+use Rattle.std.proofs.Common.{ℕ, ◌≡◌, ◌≤◌, ◌<◌, ◌+◌, zero, suc, Bool, true, false, ◌⊎◌, inl, inr, refl, sym, ap, ◌∙◌, subst, List, [], ◌∷◌, ◌++◌, length, get_or, arith, cond, Ordering, append_assoc, reverse}
 use Rattle.std.specs.Prelude.{Some, None, nat_lt, slice_get}
 use Rattle.std.specs.List.{position, position_or_len}
 use Rattle.std.specs.Cmp.Lexicographic.{slice_cmp}
@@ -7,7 +7,7 @@ use Rattle.std.specs.Ordering.{ordering_then, is_gt}
 use Rattle.std.specs.declared.cmp.Ordering.TheVariants.{Less, Equal, Greater}
 use Rattle.std.proofs.lemmas.Cmp.{tied_itself, lists_total, upto}
 use Rattle.std.proofs.lemmas.Bool.Decides.{nat_tests}
-use Rattle.std.proofs.lemmas.List.{reverse-append}
+use Rattle.std.proofs.lemmas.List.{reverse-append, length_push}
 use Rattle.std.proofs.lemmas.List.Quantifiers.{position-Some}
 use Rattle.std.proofs.lemmas.List.Sums.{fails_before_first}
 use Rattle.std.proofs.lemmas.Option.{slice_get_within, get_or_from_slice_get, slice_get-get_or}
@@ -65,19 +65,16 @@ cmp_more (a ∷ v) (b ∷ w) x y same =
 IsBefore : List Node → List Node → Type 0
 IsBefore v w = (length v < length w) ⊎ ((length v ≡ length w) × (slice_cmp node_cmp v w ≡ Less))
 
-one_more : (v : List Node) (x : Node) → length (v ++ x ∷ []) ≡ length v + 1
-one_more v x = length-append v (x ∷ [])
-
 more_before : (v w : List Node) (x y : Node) → IsBefore v w → IsBefore (v ++ x ∷ []) (w ++ y ∷ [])
 unfolding IsBefore
-more_before v w x y (inl shorter) = inl (let a = one_more v x in let b = one_more w y in omega (arith, shorter, a, b))
+more_before v w x y (inl shorter) = inl (let a = length_push v x in let b = length_push w y in omega (arith, shorter, a, b))
 more_before v w x y (inr (same, less)) =
-    inr ((let a = one_more v x in let b = one_more w y in omega (arith, same, a, b)), cmp_more v w x y same ∙ ap (λ o. ordering_then o (node_cmp x y)) less)
+    inr ((let a = length_push v x in let b = length_push w y in omega (arith, same, a, b)), cmp_more v w x y same ∙ ap (λ o. ordering_then o (node_cmp x y)) less)
 
 last_before : (v : List Node) (x y : Node) → node_cmp x y ≡ Less → IsBefore (v ++ x ∷ []) (v ++ y ∷ [])
 unfolding IsBefore
 last_before v x y less =
-    inr ((let a = one_more v x in let b = one_more v y in omega (arith, a, b)), cmp_more v v x y refl ∙ ap (λ o. ordering_then o (node_cmp x y)) (tied_itself (lists_total node_cmp_total) v) ∙ less)
+    inr ((let a = length_push v x in let b = length_push v y in omega (arith, a, b)), cmp_more v v x y refl ∙ ap (λ o. ordering_then o (node_cmp x y)) (tied_itself (lists_total node_cmp_total) v) ∙ less)
 
 before_up_to : (v w : List Node) → IsBefore v w → IsUpTo v w
 unfolding IsBefore
@@ -94,10 +91,10 @@ up_to_on u v w (inr (same, a)) (inl b) = inl (omega (arith, same, b))
 up_to_on u v w (inr (same, a)) (inr (also, b)) = inr (same ∙ also, upto (lists_total node_cmp_total) u v w a b)
 
 more_up_to : (v w : List Node) (x : Node) → IsUpTo v w → IsUpTo (v ++ x ∷ []) (w ++ x ∷ [])
-more_up_to v w x (inl shorter) = inl (let a = one_more v x in let b = one_more w x in omega (arith, shorter, a, b))
+more_up_to v w x (inl shorter) = inl (let a = length_push v x in let b = length_push w x in omega (arith, shorter, a, b))
 more_up_to v w x (inr (same, no_later)) =
     inr (
-      (let a = one_more v x in let b = one_more w x in omega (arith, same, a, b)),
+      (let a = length_push v x in let b = length_push w x in omega (arith, same, a, b)),
       ap is_gt (cmp_more v w x x same ∙ ap (λ o. ordering_then (slice_cmp node_cmp v w) o) (tied_itself node_cmp_total x) ∙ then_equal (slice_cmp node_cmp v w)) ∙ no_later,
     )
 
@@ -112,7 +109,7 @@ module _ {reached : List Reached} where
 
   some_long : {k : ℕ} {v : List Node} → IsRoute reached k v → 1 ≤ length v
   some_long (start a) = omega arith
-  some_long (on {r = r} {nodes = v} a s) = let z = one_more v r.node in omega (arith, z)
+  some_long (on {r = r} {nodes = v} a s) = let z = length_push v r.node in omega (arith, z)
 
 module _ (list : List Record) (first : Node) (reached : List Reached) (o : IsOrdered Back list first reached (length reached)) where
   has_route_below : (n k : ℕ) (r : Reached) → k < n → slice_get reached k ≡ Some r → (w : List Node) × IsRoute reached k w
@@ -132,7 +129,7 @@ module _ (list : List Record) (first : Node) (reached : List Reached) (o : IsOrd
   later_below zero low less s t = absurd (omega (arith, low))
   later_below (suc n) low less (start a) (start b) = absurd (omega (arith, less))
   later_below (suc n) low less (on a s) (start b) = absurd (omega (arith, less))
-  later_below (suc n) low less (start a) (on {r = q} {nodes = w} b t) = inl (let y = some_long t in let z = one_more w q.node in omega (arith, y, z))
+  later_below (suc n) low less (start a) (on {r = q} {nodes = w} b t) = inl (let y = some_long t in let z = length_push w q.node in omega (arith, y, z))
   later_below (suc n) low less (on {k = j} {r = r} {nodes = v} a s) (on {k = k} {r = q} {nodes = w} b t) =
       case_of (λ lower. let f = o.comes k q b in later_below n (omega (arith, f.under, low)) lower s t) (o.rises j k r q a b (omega (arith, less)))
     where
@@ -175,7 +172,7 @@ module _ (list : List Record) (first : Node) (reached : List Reached) (o : IsOrd
         is = is;
         way = q.node ∷ [];
         route = start at;
-        no_worse = inl (let y = some_long route in let z = one_more v b in omega (arith, y, z, shortest no_worse));
+        no_worse = inl (let y = some_long route in let z = length_push v b in omega (arith, y, z, shortest no_worse));
       }
         where
           shortest : IsUpTo w v → length w ≤ length v

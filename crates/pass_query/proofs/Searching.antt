@@ -1,5 +1,5 @@
 -- What holds of the nodes that a search has reached.
-use Rattle.std.proofs.Common.{ℕ, ◌≡◌, ◌≤◌, ◌<◌, ◌+◌, zero, suc, Bool, true, false, not, ◌⊎◌, inl, inr, refl, sym, ap, ◌∙◌, subst, List, [], ◌∷◌, ◌++◌, length, get_or, arith, length-append}
+use Rattle.std.proofs.Common.{ℕ, ◌≡◌, ◌≤◌, ◌<◌, ◌+◌, zero, suc, Bool, true, false, not, ◌⊎◌, inl, inr, refl, sym, ap, ◌∙◌, subst, List, [], ◌∷◌, length, get_or, arith, length-append}
 use Rattle.std.specs.Prelude.{Option, Some, None, map, filter, slice_get, option_map}
 use Rattle.std.specs.List.Sorted.{IsStrictlySortedBy}
 use Rattle.std.specs.declared.cmp.Ordering.TheVariants.{Less, Equal}
@@ -9,6 +9,7 @@ use Rattle.std.proofs.lemmas.Map.Keys.{Less-from_sorted}
 use Rattle.std.proofs.lemmas.Option.{slice_get-map, slice_get_within, get_or_from_slice_get}
 use Rattle.pass_entry.specs.declared.objects.Node.{Node}
 use Rattle.pass_entry.specs.declared.record.Record.{Record}
+use Rattle.pass_entry.proofs.Places.{in_either, slice_get-right, Contains-place, Contains-at}
 use Rattle.pass_plain.specs.Versions.{same_node}
 use Rattle.pass_plain.proofs.Lists.{any_at, any_of, filtered, in_filtered, slice_get-front, some_is}
 use Rattle.pass_plain.proofs.Appends.{slice_get-append}
@@ -20,22 +21,8 @@ use Rattle.pass_query.specs.declared.search.Reached.{Reached}
 use Rattle.pass_query.specs.declared.walk.Way.{Way}
 use Rattle.pass_query.specs.Searches.{has_node, looked, Leads, IsSearch}
 use Rattle.pass_query.specs.Searches.IsSearch.{begin, look}
-use Rattle.pass_query.proofs.Looking.{reached_at, is_new}
-use Rattle.pass_query.proofs.Elements.{Contains-place, Contains-at, one_value}
-
--- an element of two lists put together is one of the first or of the second
-pub in_either : {X : Type 0} (xs ys : List X) (k : ℕ) (x : X) → slice_get (xs ++ ys) k ≡ Some x → (slice_get xs k ≡ Some x) ⊎ ((m : ℕ) × (k ≡ length xs + m) × (slice_get ys m ≡ Some x))
-in_either [] ys k x at = inr (k, (let z : k ≡ 0 + k = omega arith in z), at)
-in_either (y ∷ xs) ys zero x at = inl at
-in_either (y ∷ xs) ys (suc k) x at = case_of (in_either xs ys k x at)
-  where
-    case_of : (slice_get xs k ≡ Some x) ⊎ ((m : ℕ) × (k ≡ length xs + m) × (slice_get ys m ≡ Some x)) → (slice_get xs k ≡ Some x) ⊎ ((m : ℕ) × (suc k ≡ suc (length xs) + m) × (slice_get ys m ≡ Some x))
-    case_of (inl here) = inl here
-    case_of (inr (m, is, there)) = inr (m, (let z : suc k ≡ suc (length xs) + m = omega (arith, is) in z), there)
-
-pub in_second : {X : Type 0} (xs ys : List X) (m : ℕ) (x : X) → slice_get ys m ≡ Some x → slice_get (xs ++ ys) (length xs + m) ≡ Some x
-in_second [] ys m x at = ap (slice_get ys) (let z : 0 + m ≡ m = omega arith in z) ∙ at
-in_second (y ∷ xs) ys m x at = ap (slice_get (y ∷ xs ++ ys)) (let z : suc (length xs) + m ≡ suc (length xs + m) = omega arith in z) ∙ in_second xs ys m x at
+use Rattle.pass_query.proofs.Looking.{fresh, reached_at, is_new}
+use Rattle.pass_query.proofs.Elements.{one_value}
 
 pub below_or : (j n : ℕ) → j < n + 1 → (j < n) ⊎ (j ≡ n)
 below_or zero zero low = inr refl
@@ -46,10 +33,6 @@ below_or (suc j) (suc n) low = case_of (below_or j n (omega (arith, low)))
     case_of : (j < n) ⊎ (j ≡ n) → (suc j < suc n) ⊎ (suc j ≡ suc n)
     case_of (inl less) = inl (omega (arith, less))
     case_of (inr same) = inr (ap suc same)
-
--- the nodes that one look adds
-abbrev pub fresh : List Reached → ℕ → List Node → List Reached
-fresh old place row = map (reached_at place) (filter (is_new old) row)
 
 fresh_at : (old : List Reached) (place : ℕ) (row : List Node) (m : ℕ) (r : Reached) → slice_get (fresh old place row) m ≡ Some r
     → (x : Node) × (r ≡ reached_at place x) × (slice_get (filter (is_new old) row) m ≡ Some x)
@@ -202,7 +185,7 @@ module _ (way : Way) (list : List Record) (first : Node) where
             record { number = k; it = q; at = in_new k q there; is = sym (same_node_is y q.node same); early = comes_in k q there }
         at_row i in_row false is =
             let (m, there) = in_filtered (is_new old) row i y in_row (ap not is) in
-            record { number = length old + m; it = reached_at next y; at = in_second old (fresh old next row) m (reached_at next y) (fresh_here old next row m y there); is = refl; early = omega arith }
+            record { number = length old + m; it = reached_at next y; at = slice_get-right old (fresh old next row) m (reached_at next y) (fresh_here old next row m y there); is = refl; early = omega arith }
 
         old_at : j < length old → slice_get old j ≡ Some p
         old_at within = slice_get-front old (fresh old next row) j p within at

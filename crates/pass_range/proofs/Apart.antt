@@ -4,14 +4,15 @@ use Rattle.std.specs.Prelude.{Some}
 use Rattle.std.proofs.lemmas.List.{take_at, drop_at, take_all, take_min, take-take, drop-take, drop-drop, length-replicate, take-append-le}
 use Rattle.md5.specs.Md5.{md5}
 use Rattle.pass_entry.specs.declared.record.Record.{Record}
+use Rattle.pass_entry.proofs.Places.{take_append}
 use Rattle.pass_outside.specs.Areas.{Torn}
 use Rattle.pass_outside.specs.Areas as areas
 use Rattle.pass_outside.specs.Images.{torn_written}
-use Rattle.pass_outside.proofs.Flat.{take_append}
 use Rattle.pass_plain.specs.Files.{written, resized, extended}
 use Rattle.pass_plain.specs.Records.{range_len}
 use Rattle.pass_plain.specs.WellLogged.{size_of}
 use Rattle.pass_plain.proofs.Lists.{some_is}
+use Rattle.pass_plain.proofs.Sizes.{length-resized}
 use Rattle.pass_range.specs.Places.{place, found_there, Holds, IsApart}
 use Rattle.pass_range.specs.Rows.{range, row_of, number_of, IsUnmatched}
 
@@ -124,9 +125,6 @@ range_put b at old (x ∷ xs) none_or_apart same =
     range_held b old (written old at (x ∷ xs)) (same_length b old (written old at (x ∷ xs)) same)
     (subst (Holds (b * 4096) (range b old)) (sym (written_is old at x xs))
     (torn_apart at (length (x ∷ xs)) old (areas.written old at (x ∷ xs)) (torn_written old at (x ∷ xs)) (b * 4096) (range b old) apart (holds_range b old)))
-
-pub length-resized : (old : List ℕ) (size : ℕ) → length (resized old size) ≡ size
-length-resized old size = omega (arith, length-take size (extended old size), length-append old (replicate (size - length old) 0), length-replicate {A = ℕ} (size - length old) 0)
 
 -- a cut or an extension, after which the block's range has the same length
 pub range_cut : (b size : ℕ) (old : List ℕ) → b * 4096 < size → range_len size b ≡ range_len (length old) b → range b (resized old size) ≡ range b old

@@ -1,9 +1,9 @@
 -- What one entry more does to the content of a file, and to the rows of its blocks.
-use Rattle.std.proofs.Common.{◌≡◌, ◌∙◌, ◌⊎◌, ◌==◌, ◌&&◌, ◌||◌, ◌+◌, ◌-◌, ◌*◌, ◌<◌, ◌≤◌, ℕ, Bool, true, false, not, List, [], ◌∷◌, ◌++◌, length, take, drop, replicate, refl, sym, ap, subst, arith, inl, inr, append_assoc, length-append, length-take, length-drop}
+use Rattle.std.proofs.Common.{◌≡◌, ◌∙◌, ◌⊎◌, ◌==◌, ◌&&◌, ◌||◌, ◌+◌, ◌-◌, ◌*◌, ◌<◌, ◌≤◌, ℕ, Bool, true, false, not, List, [], ◌∷◌, ◌++◌, length, take, drop, replicate, refl, sym, ap, subst, arith, inl, inr, append_assoc, length-append, length-take}
 use Rattle.std.specs.Prelude.{None, nat_le, nat_lt, if◌then◌else◌}
 use Rattle.std.specs.List.{list_any}
 use Rattle.std.proofs.lemmas.Bool.Decides.{nat_tests}
-use Rattle.std.proofs.lemmas.List.{length-replicate}
+use Rattle.std.proofs.lemmas.List.{length-replicate, append-nil}
 use Rattle.md5.specs.Md5.{md5}
 use Rattle.pass_entry.specs.declared.entry.Entry.{Entry}
 use Rattle.pass_entry.specs.declared.entry.Act.{Act}
@@ -13,14 +13,16 @@ use Rattle.pass_plain.specs.Histories.{is_fault, own_step}
 use Rattle.pass_plain.specs.Sessions.{Session, opening_bytes, opening_rows}
 use Rattle.pass_plain.specs.Files.{file_after, file_act, written, extended}
 use Rattle.pass_plain.specs.Records.{block_size, range_len, touches, row_act, has_row, is_written, is_digested, entry_records, records_of}
-use Rattle.pass_plain.proofs.Replays.{append-nil, replay-append, state_after-append, own_step-own, own_step-other, own_step-fault}
+use Rattle.pass_plain.proofs.Replays.{replay-append, state_after-append, own_step-own, own_step-other, own_step-fault}
 use Rattle.pass_plain.proofs.Lists.{true_left, true_right, not_true, not_false, or_false, same_numbers, below_is, not_below}
+use Rattle.pass_plain.proofs.Sizes.{written_begins, length-resized}
+use Rattle.pass_plain.proofs.KeptFiles.{quiet_bytes, quiet_row}
 use Rattle.pass_range.specs.Places.{IsApart}
 use Rattle.pass_range.specs.Rows.{range, row_of}
 use Rattle.pass_range.specs.Sources.{stays, sets, goes, touch, row_after, source_after, row_source}
 use Rattle.pass_range.proofs.LastRows.{row-append}
 use Rattle.pass_range.proofs.Digested.{is_change, content_touch, entry_touch}
-use Rattle.pass_range.proofs.Apart.{range_put, range_cut, length-range, length-resized}
+use Rattle.pass_range.proofs.Apart.{range_put, range_cut, length-range}
 
 -- what each element at the end keeps holds of a list
 snoc_from : (P : List Entry → Type 0) → ((xs : List Entry) (x : Entry) → P xs → P (xs ++ x ∷ [])) → (before rest : List Entry) → P before → P (before ++ rest)
@@ -44,19 +46,6 @@ length-written old at (x ∷ xs) some =
       length-replicate {A = ℕ} (at - length old) 0,
     )
 
-pub no_shorter : (old : List ℕ) (at : ℕ) (bytes : List ℕ) → length old ≤ length (written old at bytes)
-no_shorter old at [] = omega arith
-no_shorter old at (x ∷ xs) =
-    omega (
-      arith,
-      length-append (take at (extended old at) ++ x ∷ xs) (drop (at + length (x ∷ xs)) old),
-      length-append (take at (extended old at)) (x ∷ xs),
-      length-take at (extended old at),
-      length-append old (replicate (at - length old) 0),
-      length-replicate {A = ℕ} (at - length old) 0,
-      length-drop (at + length (x ∷ xs)) old,
-    )
-
 -- a block of which no byte was written is apart from the write, or that had no bytes
 apart_of : (at len b r : ℕ) → r ≤ 4096 → touches at len b ≡ false → (len ≡ 0) ⊎ IsApart (b * 4096) r at len
 apart_of at len b r short e = by_tests (nat_lt 0 len) (nat_lt (b * 4096) (at + len)) (nat_lt at ((b + 1) * 4096)) refl refl refl e
@@ -66,15 +55,6 @@ apart_of at len b r short e = by_tests (nat_lt 0 len) (nat_lt (b * 4096) (at + l
     by_tests true false u one two three e = inr (inr (not_below (b * 4096) (at + len) two))
     by_tests true true false one two three e = inr (inl (let z : (b + 1) * 4096 ≤ at = not_below at ((b + 1) * 4096) three in omega (arith, short)))
     by_tests true true true one two three e = absurd (cc (e))
-
--- a block of which a byte was written begins within the file
-pub written_begins : (a : Act) (old : List ℕ) (b : ℕ) → is_written a b ≡ true → b * 4096 < length (file_act old a)
-written_begins (act.Put out at bytes) old b e =
-    let parts = true_left (nat_lt 0 (length bytes) && nat_lt (b * 4096) (at + length bytes)) (nat_lt at ((b + 1) * 4096)) e in
-    let some : 0 < length bytes = below_is 0 (length bytes) (true_left (nat_lt 0 (length bytes)) (nat_lt (b * 4096) (at + length bytes)) parts) in
-    let below : b * 4096 < at + length bytes = below_is (b * 4096) (at + length bytes) (true_right (nat_lt 0 (length bytes)) (nat_lt (b * 4096) (at + length bytes)) parts) in
-    omega (arith, below, length-written old at bytes some)
-written_begins a old b e = absurd (cc)
 
 -- the range of a block that isn't written, begins within the file and keeps its length stays
 unwritten_stays : (a : Act) (old : List ℕ) (b : ℕ) → is_change a ≡ true → is_written a b ≡ false → b * 4096 < length (file_act old a)
@@ -99,16 +79,6 @@ row_written (act.Put out at bytes) had b e = ap (λ (x : Bool). had || x) e ∙ 
     any true = refl
     any false = refl
 row_written a had b e = absurd (cc)
-
-unchanged_file : (a : Act) (old : List ℕ) → is_change a ≡ false → file_act old a ≡ old
-unchanged_file (act.Put out at bytes) old e = absurd (cc)
-unchanged_file (act.Cut out size) old e = absurd (cc)
-unchanged_file a old e = refl
-
-unchanged_row : (a : Act) (had : Bool) (b : ℕ) → is_change a ≡ false → row_act b had a ≡ had
-unchanged_row (act.Put out at bytes) had b e = absurd (cc)
-unchanged_row (act.Cut out size) had b e = absurd (cc)
-unchanged_row a had b e = refl
 
 -- one entry more
 module _ (session : Session) (history : List Entry) (e : Entry) where
@@ -146,7 +116,7 @@ module _ (session : Session) (history : List Entry) (e : Entry) where
       by_tests true c o one two three none = own_step-fault (λ past content e. file_act content e.act) p history (file_after session history p) e one
       by_tests false c false one two three none = own_step-other (λ past content e. file_act content e.act) p history (file_after session history p) e three
       by_tests false false true one two three none =
-          own_step-own (λ past content e. file_act content e.act) p history (file_after session history p) e three one ∙ unchanged_file e.act (file_after session history p) two
+          own_step-own (λ past content e. file_act content e.act) p history (file_after session history p) e three one ∙ quiet_bytes e.act (file_after session history p) two
       by_tests false true true one two three none = absurd (cc (none))
 
   pub has-kept : (p b : ℕ) → changes p ≡ false → has_row session (history ++ e ∷ []) p b ≡ has_row session history p b
@@ -157,7 +127,7 @@ module _ (session : Session) (history : List Entry) (e : Entry) where
       by_tests true c o one two three none = own_step-fault (λ past had e. row_act b had e.act) p history (has_row session history p b) e one
       by_tests false c false one two three none = own_step-other (λ past had e. row_act b had e.act) p history (has_row session history p b) e three
       by_tests false false true one two three none =
-          own_step-own (λ past had e. row_act b had e.act) p history (has_row session history p b) e three one ∙ unchanged_row e.act (has_row session history p b) b two
+          own_step-own (λ past had e. row_act b had e.act) p history (has_row session history p b) e three one ∙ quiet_row e.act b (has_row session history p b) two
       by_tests false true true one two three none = absurd (cc (none))
 
   -- one that does

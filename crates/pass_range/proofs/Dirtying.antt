@@ -3,6 +3,7 @@ use Rattle.std.proofs.Common.{◌≡◌, ◌∙◌, ℕ, ◌*◌, ◌<◌, ◌==
 use Rattle.std.proofs.lemmas.List.{append-nil}
 use Rattle.std.specs.Prelude.{Option, Some, None, nat_le, nat_lt, if◌then◌else◌}
 use Rattle.std.proofs.lemmas.Bool.Decides.{nat_tests}
+use Rattle.std.proofs.lemmas.Bool.{and_right}
 use Rattle.md5.specs.Md5.{md5}
 use Rattle.pass_entry.specs.declared.entry.Entry.{Entry}
 use Rattle.pass_entry.specs.declared.entry.Act.{Act}
@@ -12,7 +13,7 @@ use Rattle.pass_plain.specs.Files.{file_after, file_act}
 use Rattle.pass_plain.specs.Records.{block_size, range_len, has_row, is_written, is_digested, entry_records}
 use Rattle.pass_plain.specs.Recording.{is_change}
 use Rattle.pass_plain.specs.Sessions.{Session}
-use Rattle.pass_plain.proofs.Lists.{same_itself}
+use Rattle.pass_plain.proofs.Lists.{same_itself, some_is}
 use Rattle.pass_plain.proofs.Replays.{state_after-append}
 use Rattle.pass_range.specs.Rows.{range}
 use Rattle.pass_range.specs.Sources.{Touch, stays, sets, goes, touch, source_after, row_source}
@@ -24,16 +25,12 @@ same_change (act.Put out at bytes) = refl
 same_change (act.Cut out size) = refl
 same_change _ = refl
 
-and_false : (a b : Bool) → b ≡ false → a && b ≡ false
-and_false true b is = is
-and_false false b is = refl
-
 -- an act that changes no content gives no digest
 pub quiet_act : (had begins : Bool) (old : List ℕ) (block : ℕ) (a : Act) → is_change a ≡ false
     → (is_written a block || (had && nat_lt (block * block_size) (length (file_act old a)) && not (range_len (length old) block == range_len (length (file_act old a)) block))) ≡ false
 quiet_act had begins old block (act.Put out at bytes) is = absurd (cc)
 quiet_act had begins old block (act.Cut out size) is = absurd (cc)
-quiet_act had begins old block _ is = and_false (had && nat_lt (block * block_size) (length old)) (not (range_len (length old) block == range_len (length old) block)) (ap not (same_itself (range_len (length old) block)))
+quiet_act had begins old block _ is = and_right (had && nat_lt (block * block_size) (length old)) (not (range_len (length old) block == range_len (length old) block)) (ap not (same_itself (range_len (length old) block)))
 
 pub quiet : (session : Session) (past : List Entry) (e : Entry) (block : ℕ) → is_change e.act ≡ false → is_digested session past e block ≡ false
 quiet session past e block is = quiet_act (has_row session past e.what block) true (file_after session past e.what) block e.act is
@@ -74,9 +71,6 @@ dirtied_law session history e file block = state_after-append (λ past at e. dir
 abbrev IsBelow : List Entry → Option ℕ → Type 0
 IsBelow past o = (at : ℕ) → o ≡ Some at → at < length past
 
-some_of : (n at : ℕ) → Some n ≡ Some at → n ≡ at
-some_of n at e = cc e
-
 below_more : (past : List Entry) (e : Entry) (o : Option ℕ) → IsBelow past o → IsBelow (past ++ e ∷ []) o
 below_more past e o is at here = let low = is at here in omega (arith, low, length-append past (e ∷ []))
 
@@ -85,7 +79,7 @@ module _ (session : Session) (file block : ℕ) where
   below_step past o e is = by_tests (e.what == file && not (is_fault e.reply)) (dirties session past e block) (ends_before session past e block)
     where
       by_tests : (own dirty gone : Bool) → IsBelow (past ++ e ∷ []) (if own then (if dirty then Some (length past) else if gone then None else o) else o)
-      by_tests true true gone = λ at here. let same = some_of (length past) at here in omega (arith, same, length-append past (e ∷ []))
+      by_tests true true gone = λ at here. let same = some_is (length past) at here in omega (arith, same, length-append past (e ∷ []))
       by_tests true false true = λ at here. absurd (cc)
       by_tests true false false = below_more past e o is
       by_tests false dirty gone = below_more past e o is

@@ -6,6 +6,7 @@ use Rattle.std.specs.Option.{option_map_or}
 use Rattle.std.specs.List.{range_with_len, cons_option}
 use Rattle.std.proofs.lemmas.List.Sums.{fold-append}
 use Rattle.std.proofs.lemmas.List.Elements.{filter_map-append}
+use Rattle.std.proofs.lemmas.List.{append-nil}
 use Rattle.pass_entry.specs.declared.entry.Entry.{Entry}
 use Rattle.pass_entry.specs.declared.entry.Act.{Act}
 use Rattle.pass_entry.specs.declared.entry.Act.TheVariants as act
@@ -22,7 +23,6 @@ use Rattle.pass_plain.specs.Registries.{registry_after, same_kind}
 use Rattle.pass_plain.specs.Sound.{IsSound, IsSoundFile}
 use Rattle.pass_plain.specs.WellLogged.{size_look, size_of}
 use Rattle.pass_plain.specs.Records.{digest_of, is_digested, content_records, version_records, act_records, entry_records, args_records, lost_name, file_named, move_records, records_of}
-use Rattle.pass_plain.proofs.Replays.{append-nil}
 use Rattle.pass_range.specs.Rows.{file_made, files_of}
 use Rattle.pass_range.specs.Lawful.{Tells}
 use Rattle.pass_range.proofs.Digested.{is_change}

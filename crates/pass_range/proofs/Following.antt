@@ -1,8 +1,9 @@
 -- Rows that come from entries of a history.
 use Rattle.std.proofs.Common.{◌≡◌, ◌∙◌, ◌⊎◌, ◌&&◌, ◌+◌, ◌*◌, ◌<◌, ◌≤◌, ℕ, Bool, true, false, List, [], ◌∷◌, ◌++◌, length, take, refl, sym, ap, subst, arith, inl, inr, ⊎_elim, length-append}
-use Rattle.std.specs.Prelude.{Some, None, nat_le, nat_lt, if◌then◌else◌}
+use Rattle.std.specs.Prelude.{Some, nat_le, nat_lt, if◌then◌else◌}
 use Rattle.std.proofs.lemmas.Bool.Decides.{nat_tests}
 use Rattle.std.proofs.lemmas.List.{take-append-le, take_all, length_push, nil_from_length}
+use Rattle.std.proofs.lemmas.Option.{none-some}
 use Rattle.md5.specs.Md5.{md5}
 use Rattle.pass_entry.specs.declared.entry.Entry.{Entry}
 use Rattle.pass_entry.specs.declared.record.Record.{Record}
@@ -19,9 +20,6 @@ use Rattle.pass_range.proofs.Digested.{content_touch}
 -- a row that comes from an entry
 abbrev IsHeld : List Record → Session → List Entry → ℕ → ℕ → ℕ → Type 0
 IsHeld before session history p b k = IsSet (before ++ records_of session history) session history p b k
-
-no_source : {k : ℕ} → None ≡ Some k → ⊥
-no_source e = absurd (cc)
 
 -- a row that an entry more leaves comes from where it came from
 record IsLeft (session : Session) (history : List Entry) (e : Entry) (p b k : ℕ) : Type 0 where
@@ -61,7 +59,7 @@ module _ (session : Session) (history : List Entry) (e : Entry) (p b k : ℕ) wh
             begins = digested-begins session history e p t b (true_right (nat_lt b 1024) (digested session history e p t b) one);
             has = digested-has session history e p t b (true_right (nat_lt b 1024) (digested session history e p t b) one);
           })
-      by_touch t false true one two touched = absurd (no_source (sym (ap (λ (x : Touch). source_after x (length history) (row_source session history p b)) touched) ∙ came))
+      by_touch t false true one two touched = absurd (none-some _ (sym (ap (λ (x : Touch). source_after x (length history) (row_source session history p b)) touched) ∙ came))
       by_touch t false false one two touched =
           let from : row_source session history p b ≡ Some k = sym (ap (λ (x : Touch). source_after x (length history) (row_source session history p b)) touched) ∙ came in
           let had = before from in
@@ -92,7 +90,7 @@ module _ (session : Session) (history : List Entry) (e : Entry) (p b k : ℕ) wh
 
 -- each row that comes from an entry of a history
 held : (before : List Record) (session : Session) (p b : ℕ) (history : List Entry) → (k : ℕ) → row_source session history p b ≡ Some k → IsHeld before session history p b k
-held before session p b history = snoc_induction (λ h. (k : ℕ) → row_source session h p b ≡ Some k → IsHeld before session h p b k) (λ k is. absurd (no_source is)) more history
+held before session p b history = snoc_induction (λ h. (k : ℕ) → row_source session h p b ≡ Some k → IsHeld before session h p b k) (λ k is. absurd (none-some _ is)) more history
   where
     more : (history : List Entry) (e : Entry) → ((k : ℕ) → row_source session history p b ≡ Some k → IsHeld before session history p b k)
         → (k : ℕ) → row_source session (history ++ e ∷ []) p b ≡ Some k → IsHeld before session (history ++ e ∷ []) p b k
@@ -124,7 +122,7 @@ pub earlier_law : (session : Session) (p b k : ℕ) (history : List Entry) → r
     → (row_source session (take q history) p b ≡ Some k) × (range b (file_after session history p) ≡ range b (file_after session (take q history) p))
 earlier_law session p b k history = snoc_induction
     (λ h. row_source session h p b ≡ Some k → (q : ℕ) → k < q → q ≤ length h → (row_source session (take q h) p b ≡ Some k) × (range b (file_after session h p) ≡ range b (file_after session (take q h) p)))
-    (λ is q low high. absurd (no_source is)) more history
+    (λ is q low high. absurd (none-some _ is)) more history
   where
     le_or : (q n : ℕ) → q ≤ n + 1 → (q ≤ n) ⊎ (q ≡ n + 1)
     le_or q n h = grind (arith, h)

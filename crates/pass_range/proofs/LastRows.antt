@@ -2,13 +2,12 @@
 use Rattle.std.proofs.Common.{◌≡◌, ◌∙◌, ◌==◌, ◌&&◌, ◌+◌, ◌-◌, ◌*◌, ◌≤◌, ℕ, Bool, true, false, not, cond, List, [], ◌∷◌, ◌++◌, length, drop, refl, sym, ap, arith, append_assoc, length-append}
 use Rattle.std.specs.Prelude.{Option, Some, None, nat_le, filter_map, if◌then◌else◌}
 use Rattle.std.specs.List.{after_last, last_or, cons_option, prefix_len, suffix_len}
-use Rattle.std.proofs.lemmas.List.{reverse-append, drop_all, drop-append-le}
+use Rattle.std.proofs.lemmas.List.{reverse-append, drop_all, drop-append-le, append-nil}
 use Rattle.std.proofs.lemmas.List.Sums.{suffix_len-le-length}
 use Rattle.std.proofs.lemmas.List.Elements.{filter_map-append}
 use Rattle.pass_entry.specs.declared.record.Record.{Record}
 use Rattle.pass_entry.specs.declared.record.Record.TheVariants as log
 use Rattle.pass_plain.specs.Records.{block_size}
-use Rattle.pass_plain.proofs.Replays.{append-nil}
 use Rattle.pass_range.specs.Rows.{removes, digest_in, row_of}
 use Rattle.pass_range.specs.Sources.{Touch, stays, sets, goes, touch_of, touch, and_then, row_after}
 

@@ -4,10 +4,11 @@ use Rattle.std.specs.Prelude.{Option, Some, None, slice_get, Contains, option_ma
 use Rattle.std.specs.Option.{option_map_or}
 use Rattle.std.proofs.lemmas.List.{append-nil, map-append}
 use Rattle.std.proofs.lemmas.List.Elements.{filter-append}
-use Rattle.std.proofs.lemmas.Option.{slice_get_within, get_or_from_slice_get, slice_get_read}
 use Rattle.std.proofs.lemmas.Slice.Eq.{bytes_eq-Decides}
+use Rattle.std.proofs.lemmas.Bool.{false≢true}
 use Rattle.md5.specs.Md5.{md5}
 use Rattle.pass_entry.specs.declared.record.Record.{Record}
+use Rattle.pass_entry.proofs.Places.{Contains-place, Contains-at}
 use Rattle.pass_plain.specs.Records.{range_len}
 use Rattle.pass_plain.specs.WellLogged.{size_of}
 use Rattle.pass_plain.proofs.Replays.{take-next}
@@ -67,16 +68,6 @@ ascending_filter test rows ascending = λ i j a b less first second.
     let m = two_filtered test rows i j x.0 y.0 less x.1 y.1 in
     ascending m.0 m.1 a b m.2 (in_mapped rows m.0 x.0 m.3 ∙ ap (λ (r : Range). Some r) x.2) (in_mapped rows m.1 y.0 m.4 ∙ ap (λ (r : Range). Some r) y.2)
 
--- an element and its place
-pub contained : {X : Type 0} (xs : List X) (i : ℕ) (x : X) → slice_get xs i ≡ Some x → Contains xs x
-contained xs i x at = (i, slice_get_within xs i x at, get_or_from_slice_get xs i x x at)
-
-pub place_of : {X : Type 0} (xs : List X) (x : X) → Contains xs x → (i : ℕ) × (slice_get xs i ≡ Some x)
-place_of xs x has = (has.0, slice_get_read xs (length xs) has.0 x refl has.1 (sym has.2))
-
-false≢true : false ≡ true → ⊥
-false≢true e = absurd (cc)
-
 -- a row that isn't matched is one of a file of the table
 unmatched_file : (table : Table) (store : List ℕ) (row : Row) → is_matched table store row ≡ false
     → (file : TableFile) × (file_in table row.0.pnode ≡ Some file) × (bytes_eq (md5 (found_there (place file.number row.0.block) (range_len file.size row.0.block) store)) row.1 ≡ false)
@@ -103,7 +94,7 @@ module _ (list : List Record) (table : Table) (store : List ℕ) (is : IsTableOf
 
   listed_is : (p b : ℕ) → Contains (unmatched_in table store) (range_at p b) → IsUnmatched list store p b
   listed_is p b has =
-      let at = place_of (unmatched_in table store) (range_at p b) has in
+      let at = Contains-place (unmatched_in table store) (range_at p b) has in
       let m = mapped (filter fails rows) at.0 (range_at p b) at.1 in
       let f = filtered fails rows at.0 m.0 m.1 in
       let row : Row = (range_at p b, m.0.1) in
@@ -114,7 +105,7 @@ module _ (list : List Record) (table : Table) (store : List ℕ) (is : IsTableOf
         number = found.0.number;
         numbered = file.0;
         digest = m.0.1;
-        row = (is.rows p b m.0.1).0 (contained rows f.1 row (f.2 ∙ ap (λ (r : Row). Some r) same));
+        row = (is.rows p b m.0.1).0 (Contains-at rows f.1 row (f.2 ∙ ap (λ (r : Row). Some r) same));
         differs = λ equal. false≢true (sym found.2 ∙ (bytes_eq-Decides (md5 (found_there (place found.0.number b) (range_len found.0.size b) store)) m.0.1).1
             (ap (λ (n : ℕ). md5 (found_there (place found.0.number b) (range_len n b) store)) file.1 ∙ equal));
       }
@@ -125,14 +116,14 @@ module _ (list : List Record) (table : Table) (store : List ℕ) (is : IsTableOf
   is_listed : (p b : ℕ) → IsUnmatched list store p b → Contains (unmatched_in table store) (range_at p b)
   is_listed p b un =
       let row : Row = (range_at p b, un.digest) in
-      let at = place_of rows row ((is.rows p b un.digest).1 un.row) in
+      let at = Contains-place rows row ((is.rows p b un.digest).1 un.row) in
       let file : file_in table p ≡ Some (record { number = un.number; size = size_of list p }) =
       is.files p ∙ ap (λ (o : Option ℕ). option_map (λ n. record { number = n; size = size_of list p }) o) un.numbered in
       let test : is_matched table store row ≡ false =
       ap (λ (o : Option TableFile). option_map_or (λ (f : TableFile). bytes_eq (md5 (found_there (place f.number b) (range_len f.size b) store)) un.digest) o true) file
       ∙ differ (md5 (found_there (place un.number b) (range_len (size_of list p) b) store)) un.digest un.differs in
       let f = in_filtered fails rows at.0 row at.1 (ap not test) in
-      contained (unmatched_in table store) f.0 (range_at p b) (in_mapped (filter fails rows) f.0 row f.1)
+      Contains-at (unmatched_in table store) f.0 (range_at p b) (in_mapped (filter fails rows) f.0 row f.1)
     where
       differ : (xs ys : List ℕ) → (xs ≡ ys → ⊥) → bytes_eq xs ys ≡ false
       differ xs ys apart = by_test (bytes_eq xs ys) refl

@@ -1,21 +1,12 @@
 -- What the tests of a well logged list say of its files.
-use Rattle.std.proofs.Common.{◌≡◌, ◌∙◌, ◌+◌, ℕ, Bool, true, false, cond, List, [], ◌∷◌, ◌++◌, length, take, drop, refl, sym, ap, subst, arith, append_assoc}
-use Rattle.std.specs.Prelude.{zero, suc, Option, Some, None, slice_get}
-use Rattle.std.specs.Option.{option_map_or}
+use Rattle.std.proofs.Common.{◌≡◌, ◌∙◌, ◌+◌, ℕ, Bool, true, false, cond, List, [], ◌∷◌, ◌++◌, length, take, drop, sym, ap, subst, arith, append_assoc}
+use Rattle.std.specs.Prelude.{zero, suc, Some, None, slice_get}
 use Rattle.std.specs.List.{position_from}
-use Rattle.std.proofs.lemmas.List.{take-append-drop}
+use Rattle.std.proofs.lemmas.List.{take-append-drop, append-nil}
 use Rattle.pass_entry.specs.declared.record.Record.{Record}
-use Rattle.pass_entry.specs.declared.record.FlawReason.{FlawReason}
-use Rattle.pass_plain.specs.WellLogged.{flaw_if, flaw_of, first_flaw_after, IsWellLogged}
-use Rattle.pass_plain.proofs.Replays.{append-nil}
-
-pub unflawed : (b : Bool) (reason : FlawReason) (next : Option FlawReason) → flaw_if b reason next ≡ None → (b ≡ false) × (next ≡ None)
-unflawed true reason next h = absurd (cc)
-unflawed false reason next h = (refl, h)
-
-pub no_first : {A B : Type 0} (f : A → B) (o : Option A) (rest : Option B) → option_map_or (λ x. Some (f x)) o rest ≡ None → (o ≡ None) × (rest ≡ None)
-no_first f None rest h = (refl, h)
-no_first f (Some x) rest h = absurd (cc)
+use Rattle.pass_entry.proofs.Variants.{no_first}
+use Rattle.pass_plain.specs.WellLogged.{flaw_of, first_flaw_after, IsWellLogged}
+use Rattle.pass_plain.proofs.Flaws.{logged_before}
 
 -- each record passes the tests behind those before it
 pub unflawed_at : (before rest : List Record) → first_flaw_after before rest ≡ None → (i : ℕ) (r : Record) → slice_get rest i ≡ Some r → flaw_of (before ++ take i rest) r ≡ None
@@ -37,13 +28,6 @@ logged_from P more before (r ∷ rest) holds none =
 
 pub logged_induction : (P : List Record → Type 0) → P [] → ((list : List Record) (r : Record) → P list → flaw_of list r ≡ None → P (list ++ r ∷ [])) → (list : List Record) → IsWellLogged list → P list
 logged_induction P first more list logged = logged_from P more [] list first logged
-
--- a prefix of a well logged list is well logged
-pub logged_before : (before rest more : List Record) → first_flaw_after before (rest ++ more) ≡ None → first_flaw_after before rest ≡ None
-logged_before before [] more none = refl
-logged_before before (r ∷ rest) more none =
-    let parts = no_first (λ reason. (length before, reason)) (flaw_of before r) (first_flaw_after (before ++ r ∷ []) (rest ++ more)) none in
-    ap (λ (o : Option FlawReason). option_map_or (λ reason. Some (length before, reason)) o (first_flaw_after (before ++ r ∷ []) rest)) parts.0 ∙ logged_before (before ++ r ∷ []) rest more parts.1
 
 -- the place of a test in a longer list
 pub position_left : (test : ℕ → Bool) (n : ℕ) (xs ys : List ℕ) (i : ℕ) → position_from test n xs ≡ Some i → position_from test n (xs ++ ys) ≡ Some i

@@ -1,6 +1,6 @@
 -- One record more before those that were noted.
 use Rattle.std.proofs.Common.{◌≡◌, ◌∙◌, ◌==◌, ◌&&◌, ◌||◌, ◌<◌, ◌≤◌, subst, ℕ, Bool, true, false, cond, List, refl, sym, ap, arith}
-use Rattle.std.specs.Prelude.{Option, Some, None, is_some, nat_le, if◌then◌else◌}
+use Rattle.std.specs.Prelude.{Option, Some, None, nat_le, if◌then◌else◌}
 use Rattle.std.specs.Option.{option_map_or}
 use Rattle.std.specs.declared.cmp.Ordering.{Ordering}
 use Rattle.std.specs.declared.cmp.Ordering.TheVariants.{Less, Equal, Greater}
@@ -113,10 +113,6 @@ at_same a b p q P here same = by_tests (a == p) (b == q) refl refl same
     by_tests true false one two h = absurd (cc)
     by_tests false true one two h = absurd (cc)
     by_tests false false one two h = absurd (cc)
-
-pub none_of : {T : Type 0} (o : Option T) → is_some o ≡ false → o ≡ None
-none_of None h = refl
-none_of (Some x) h = absurd (cc)
 
 -- what the records noted leave of no row
 pub touched_row : (row : Option (List ℕ)) (cut : Bool) → row_after (touch_by row cut) None ≡ row

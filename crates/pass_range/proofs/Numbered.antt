@@ -3,7 +3,7 @@ use Rattle.std.proofs.Common.{◌≡◌, ◌∙◌, ◌==◌, ◌+◌, ℕ, zero
 use Rattle.std.specs.Prelude.{Some, find, slice_get, if◌then◌else◌}
 use Rattle.std.specs.Option.{option_map_or}
 use Rattle.std.specs.List.{list_any, position_from}
-use Rattle.std.proofs.lemmas.List.{map-append}
+use Rattle.std.proofs.lemmas.List.{map-append, append-nil}
 use Rattle.std.proofs.lemmas.List.Elements.{filter_map-append, filter-append}
 use Rattle.pass_entry.specs.declared.entry.Entry.{Entry}
 use Rattle.pass_entry.specs.declared.entry.Reply.{Reply}
@@ -21,7 +21,7 @@ use Rattle.pass_plain.specs.Legal.{IsLegal, MayFollow}
 use Rattle.pass_plain.specs.Lawful.{is_registry_act, suits}
 use Rattle.pass_plain.specs.Sound.{IsSound}
 use Rattle.pass_plain.specs.Records.{has_row, entry_records, records_of}
-use Rattle.pass_plain.proofs.Replays.{append-nil, own_step-own, own_step-other, own_step-fault}
+use Rattle.pass_plain.proofs.Replays.{own_step-own, own_step-other, own_step-fault}
 use Rattle.pass_plain.proofs.Lists.{same_numbers, same_itself, some_is, in_filtered}
 use Rattle.pass_plain.proofs.Calling.{legal_induction}
 use Rattle.pass_plain.proofs.Making.{registry-append}
@@ -134,7 +134,7 @@ file_kind (act.Cut out size) kind.File c s = refl
 file_kind (act.Cut out size) k c s = absurd (cc)
 file_kind a k c s = absurd (cc)
 
-no_registry : (a : Act) → is_change a ≡ true → is_registry_act a ≡ true → ⊥
+pub no_registry : (a : Act) → is_change a ≡ true → is_registry_act a ≡ true → ⊥
 no_registry (act.Put out at bytes) c r = cc
 no_registry (act.Cut out size) c r = cc
 no_registry a c r = cc

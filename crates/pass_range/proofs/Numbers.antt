@@ -13,13 +13,14 @@ use Rattle.pass_entry.specs.declared.record.Record.TheVariants as log
 use Rattle.pass_entry.specs.declared.record.FlawReason.TheVariants as flaw
 use Rattle.pass_plain.specs.Registries.{same_kind, is_limited}
 use Rattle.pass_plain.specs.WellLogged.{kind_look, kind_of, size_look, size_of, has_kind, is_known, is_file_of, ceiling_of, flaw_if, flaw_of, IsWellLogged}
-use Rattle.pass_plain.proofs.Replays.{append-nil}
 use Rattle.pass_plain.proofs.Lists.{not_false, same_numbers, same_itself}
+use Rattle.pass_plain.proofs.Flaws.{unflawed}
 use Rattle.std.proofs.lemmas.Bool.Decides.{nat_tests}
+use Rattle.std.proofs.lemmas.List.{append-nil}
 use Rattle.pass_range.specs.declared.table.TableFile.{TableFile}
 use Rattle.pass_range.specs.Rows.{file_made, files_of, number_of}
 use Rattle.pass_range.specs.Tables.{file_of, file_look, file_more, with_size}
-use Rattle.pass_range.proofs.Logged.{unflawed, logged_induction, position_left, position_right}
+use Rattle.pass_range.proofs.Logged.{logged_induction, position_left, position_right}
 
 -- nothing is said of an object that no record makes
 abbrev pub IsQuiet : List Record → Type 0

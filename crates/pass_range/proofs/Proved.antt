@@ -3,6 +3,7 @@ use Rattle.std.proofs.Common.{◌≡◌, ◌∙◌, ◌==◌, ℕ, List, [], ◌
 use Rattle.std.specs.Prelude.{None, is_some, find}
 use Rattle.std.specs.Option.{option_map_or}
 use Rattle.std.specs.List.{list_any}
+use Rattle.std.proofs.lemmas.List.{append-nil}
 use Rattle.pass_entry.specs.declared.entry.Entry.{Entry}
 use Rattle.pass_entry.specs.declared.record.Record.{Record}
 use Rattle.pass_entry.specs.declared.record.Record.TheVariants as log
@@ -13,7 +14,6 @@ use Rattle.pass_plain.specs.Files.{file_after}
 use Rattle.pass_plain.specs.Records.{range_len, records_of, list_of}
 use Rattle.pass_plain.specs.WellLogged.{size_of}
 use Rattle.pass_plain.proofs.Lists.{some_is}
-use Rattle.pass_plain.proofs.Replays.{append-nil}
 use Rattle.pass_range.specs.Places.{place, found_there}
 use Rattle.pass_range.specs.Rows.{range, row_of, files_of, number_of}
 use Rattle.pass_range.specs.Lawful.{Tells, FirstTellsLaw, IsSet, RowLaw, StepLaw, EarlierLaw, QuietLaw, OlderLaw, HasRowLaw, BeforeLaw, SizeLaw, FilesLaw, NumberLaw, NumbersLaw, WellLoggedRowLaw, PlacesLaw, WriteLaw, StandsLaw, HeldLaw, MatchedLaw, ZeroLaw, OpenedLaw}

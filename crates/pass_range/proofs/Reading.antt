@@ -3,9 +3,9 @@ use Rattle.std.proofs.Common.{◌≡◌, ◌∙◌, ℕ, ◌-◌, min, List, [],
 use Rattle.std.specs.Prelude.{Result, Ok, Err, IsErr}
 use Rattle.std.proofs.lemmas.List.{append-nil, take_min, take-replicate, drop_all, take_at}
 use borrow.Rule.Slice.PartMut.{put_mid}
-use Rattle.pass_outside.proofs.Flat.{take_append}
 use Rattle.pass_outside.specs.Moments.{Moment, IsDeviceCall}
 use Rattle.pass_range.specs.Places.{found_there}
+use Rattle.pass_entry.proofs.Places.{take_append}
 
 -- bytes that were read, and zeros behind them
 pub read_filled : (at len count : ℕ) (area old into zeros : List ℕ) → count ≡ min len (length area - at) → into ≡ take count (drop at area) ++ drop count old → length old ≡ len

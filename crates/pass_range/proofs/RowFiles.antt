@@ -14,9 +14,10 @@ use Rattle.pass_plain.specs.Records.{block_size}
 use Rattle.pass_plain.specs.Registries.{same_kind}
 use Rattle.pass_plain.specs.WellLogged.{kind_of, size_of, is_known, is_file_of, flaw_if, flaw_of, IsWellLogged}
 use Rattle.pass_plain.proofs.Lists.{not_false, same_numbers, some_is}
+use Rattle.pass_plain.proofs.Flaws.{unflawed}
 use Rattle.pass_range.specs.Rows.{file_made, files_of, number_of, row_of}
 use Rattle.pass_range.specs.Sources.{stays, sets, goes, row_after}
-use Rattle.pass_range.proofs.Logged.{unflawed, logged_induction, position_left}
+use Rattle.pass_range.proofs.Logged.{logged_induction, position_left}
 use Rattle.pass_range.proofs.LastRows.{row-next}
 use Rattle.pass_range.proofs.Numbers.{size-next, kind-next, number-here}
 

@@ -4,6 +4,8 @@ use Rattle.std.specs.Prelude.{Option, Some, None, find, is_some, slice_get, nat_
 use Rattle.std.specs.Option.{option_map_or}
 use Rattle.std.specs.List.{list_any}
 use Rattle.std.proofs.lemmas.Bool.Decides.{nat_tests}
+use Rattle.std.proofs.lemmas.Bool.{false_from_ne_true}
+use Rattle.std.proofs.lemmas.List.{append-nil}
 use Rattle.md5.specs.Md5.{md5}
 use Rattle.pass_entry.specs.declared.entry.Entry.{Entry}
 use Rattle.pass_entry.specs.declared.entry.Act.{Act}
@@ -15,20 +17,18 @@ use Rattle.pass_plain.specs.Files.{file_after, file_act}
 use Rattle.pass_plain.specs.Legal.{IsLegal, MayFollow}
 use Rattle.pass_plain.specs.Sound.{IsSound, IsSoundFile}
 use Rattle.pass_plain.specs.Records.{block_size, range_len, has_row, row_act, is_written, entry_records, records_of}
-use Rattle.pass_plain.proofs.Replays.{append-nil}
 use Rattle.pass_plain.proofs.Lists.{true_right, or_false, below_is, not_below, at_most, same_numbers, any_at}
 use Rattle.pass_plain.proofs.Calling.{legal_induction}
 use Rattle.pass_plain.proofs.Appends.{legal-push}
-use Rattle.pass_plain.proofs.Sizes.{files_fit}
+use Rattle.pass_plain.proofs.Sizes.{files_fit, written_begins, no_shorter, length-resized}
 use Rattle.pass_range.specs.Rows.{range, row_of}
 use Rattle.pass_range.specs.Sources.{Touch, stays, sets, goes, touch, row_after, source_after, row_source}
 use Rattle.pass_range.specs.Lawful.{Tells}
 use Rattle.pass_range.proofs.Digested.{is_change, content_touch}
-use Rattle.pass_range.proofs.Changing.{row-step, source-step, undigested-range, changes, touch-step, file-kept, has-kept, file-changed, has-changed, change-is, digested, touch-changed, digested-has, kept-has, no_shorter, written_begins}
-use Rattle.pass_range.proofs.Apart.{length-resized}
+use Rattle.pass_range.proofs.Changing.{row-step, source-step, undigested-range, changes, touch-step, file-kept, has-kept, file-changed, has-changed, change-is, digested, touch-changed, digested-has, kept-has}
 
 -- a row of the opening begins within its file
-opened_begins : (files : List StartFile) (p b : ℕ) → ((i : ℕ) (file : StartFile) → slice_get files i ≡ Some file → IsSoundFile file)
+pub opened_begins : (files : List StartFile) (p b : ℕ) → ((i : ℕ) (file : StartFile) → slice_get files i ≡ Some file → IsSoundFile file)
     → list_any (λ x. x == b) (option_map_or (λ (f : StartFile). f.rows.items) (find (λ f. f.node.pnode == p) files) []) ≡ true
     → b * 4096 < length (option_map_or (λ (f : StartFile). f.bytes.items) (find (λ f. f.node.pnode == p) files) [])
 opened_begins [] p b sound has = absurd (cc)
@@ -48,13 +48,13 @@ opened_begins (f ∷ files) p b sound has = by_test (f.node.pnode == p) (opened_
     by_test false more has = more has
 
 -- after an act a block with a row begins within the file
-row_begins : (a : Act) (old : List ℕ) (had : Bool) (b : ℕ) → is_change a ≡ true → (had ≡ true → b * 4096 < length old) → row_act b had a ≡ true → b * 4096 < length (file_act old a)
-row_begins (act.Put out at bytes) old true b change was has = let z = was refl in omega (arith, z, no_shorter old at bytes)
-row_begins (act.Put out at bytes) old false b change was has = written_begins (act.Put out at bytes) old b has
-row_begins (act.Cut out size) old had b change was has =
+pub act_begins : (a : Act) (old : List ℕ) (had : Bool) (b : ℕ) → is_change a ≡ true → (had ≡ true → b * 4096 < length old) → row_act b had a ≡ true → b * 4096 < length (file_act old a)
+act_begins (act.Put out at bytes) old true b change was has = let z = was refl in omega (arith, z, no_shorter old at bytes)
+act_begins (act.Put out at bytes) old false b change was has = written_begins (act.Put out at bytes) old b has
+act_begins (act.Cut out size) old had b change was has =
     let low : b * 4096 < size = below_is (b * 4096) size (true_right had (nat_lt (b * block_size) size) has) in
     omega (arith, low, length-resized old size)
-row_begins a old had b change was has = absurd (cc)
+act_begins a old had b change was has = absurd (cc)
 
 -- a block that had no row has one only where it was written
 row_new : (a : Act) (b : ℕ) → is_written a b ≡ false → row_act b false a ≡ false
@@ -65,10 +65,6 @@ row_new a b none = refl
 record IsRowed (before : List Record) (session : Session) (history : List Entry) (p b : ℕ) : Type 0 where
   same : is_some (row_of (before ++ records_of session history) p b) ≡ has_row session history p b
   begins : has_row session history p b ≡ true → b * 4096 < length (file_after session history p)
-
-false_of : (t : Bool) → (t ≡ true → ⊥) → t ≡ false
-false_of true never = absurd (never refl)
-false_of false never = refl
 
 rowed : (before : List Record) (session : Session) → IsSound session → Tells before session.start → (p b : ℕ) (history : List Entry) → IsLegal session history → IsRowed before session history p b
 rowed before session sound tells p b = legal_induction session (λ h. IsRowed before session h p b)
@@ -89,7 +85,7 @@ rowed before session sound tells p b = legal_induction session (λ h. IsRowed be
         by_change true changed =
             let begins : has_row session (history ++ e ∷ []) p b ≡ true → b * 4096 < length (file_after session (history ++ e ∷ []) p) = λ has.
             subst (λ (l : List ℕ). b * 4096 < length l) (sym (file-changed session history e p changed))
-            (row_begins e.act (file_after session history p) (has_row session history p b) b (change-is session history e p changed) was.begins (sym (has-changed session history e p changed b) ∙ has)) in
+            (act_begins e.act (file_after session history p) (has_row session history p b) b (change-is session history e p changed) was.begins (sym (has-changed session history e p changed b) ∙ has)) in
             record {
               same = ap is_some (row-step session history e before p b)
                   ∙ by_touch (nat_lt b 1024) (digested session history e p changed b) (nat_le (length (file_after session (history ++ e ∷ []) p)) (b * block_size)) (has_row session history p b) refl refl refl refl begins
@@ -113,7 +109,7 @@ rowed before session sound tells p b = legal_induction session (λ h. IsRowed be
                 → is_some (row_after (touch p b (entry_records session history e)) (row_of (before ++ records_of session history) p b)) ≡ has_row session (history ++ e ∷ []) p b
             gone touched short begins =
                 ap (λ (t : Touch). is_some (row_after t (row_of (before ++ records_of session history) p b))) touched
-                ∙ sym (false_of (has_row session (history ++ e ∷ []) p b) (λ has. let z = begins has in omega (arith, z, short)))
+                ∙ sym (false_from_ne_true (has_row session (history ++ e ∷ []) p b) (λ has. let z = begins has in omega (arith, z, short)))
 
             by_touch : (l d n had : Bool) → nat_lt b 1024 ≡ l → digested session history e p changed b ≡ d → nat_le (length (file_after session (history ++ e ∷ []) p)) (b * block_size) ≡ n → has_row session history p b ≡ had
                 → (has_row session (history ++ e ∷ []) p b ≡ true → b * 4096 < length (file_after session (history ++ e ∷ []) p))

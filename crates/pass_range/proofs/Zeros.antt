@@ -14,9 +14,9 @@ use Rattle.pass_plain.specs.Files.{file_after, file_act, written, resized, exten
 use Rattle.pass_plain.specs.Sound.{IsSound, IsSoundFile}
 use Rattle.pass_plain.specs.Records.{touches, has_row, row_act}
 use Rattle.pass_plain.proofs.Lists.{or_false, not_below}
+use Rattle.pass_plain.proofs.Sizes.{length-resized}
 use Rattle.pass_range.proofs.Changing.{snoc_induction, changes, file-kept, has-kept, file-changed, has-changed}
 use Rattle.pass_range.specs.Lawful.{IsZero}
-use Rattle.pass_range.proofs.Apart.{length-resized}
 
 pub zero_at : (n i : ℕ) → get_or (replicate {A = ℕ} n 0) i 0 ≡ 0
 zero_at zero i = refl

@@ -6,6 +6,7 @@ use Rattle.std.specs.List.{find}
 use Rattle.std.proofs.lemmas.List.{take_more}
 use Rattle.std.proofs.lemmas.List.Folds.{find-append}
 use Rattle.pass_entry.specs.declared.objects.Node.{Node}
+use Rattle.pass_entry.proofs.Variants.{none_of}
 use Rattle.pass_plain.specs.Versions.{same_node}
 use Rattle.pass_graph.proofs.Noding.{same_node_is, same_node_equiv}
 use Rattle.pass_recipe.specs.Programs.{first_of}
@@ -22,10 +23,6 @@ one_more : (values : List Given) (i : ℕ) (v : Given) (n : Node) → i < length
 one_more values i v n within at =
     ap (λ xs. first_of xs n) (take_more values i v within ∙ ap (λ x. take i values ++ x ∷ []) (sym at))
     ∙ ap (option_map value) (find-append (λ (x : Given). same_node n x.0) (take i values) (v ∷ []))
-
-pub none_at : {X : Type 0} (o : Option X) → is_some o ≡ false → o ≡ None
-none_at None is = refl
-none_at (Some x) is = absurd (cc)
 
 no_value : (o : Option Given) → option_map value o ≡ None → o ≡ None
 no_value None is = refl
@@ -76,6 +73,6 @@ module _ (values : List Given) (i : ℕ) (v : Given) (within : i < length values
       at_test true had_one true same = is n ∙ first_kept (ap is_some (sym (is v.0)) ∙ had_one) n
       at_test true had_one false apart = is n ∙ first_kept (ap is_some (sym (is v.0)) ∙ had_one) n
       at_test false none true same =
-          ap (λ b. cond b (Some v.1) (first_of (take i values) n)) (sym same) ∙ first_new (sym (is v.0) ∙ none_at (f v.0) none) n
+          ap (λ b. cond b (Some v.1) (first_of (take i values) n)) (sym same) ∙ first_new (sym (is v.0) ∙ none_of (f v.0) none) n
       at_test false none false apart =
-          is n ∙ ap (λ b. cond b (Some v.1) (first_of (take i values) n)) (sym apart) ∙ first_new (sym (is v.0) ∙ none_at (f v.0) none) n
+          is n ∙ ap (λ b. cond b (Some v.1) (first_of (take i values) n)) (sym apart) ∙ first_new (sym (is v.0) ∙ none_of (f v.0) none) n

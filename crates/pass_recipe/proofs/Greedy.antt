@@ -8,14 +8,14 @@ use Rattle.std.specs.declared.cmp.Ordering.TheVariants.{Less, Equal, Greater}
 use Rattle.std.proofs.lemmas.List.Elements.{Contains-append_cases, Contains-append_left, Contains-append_right, Contains-push, Contains-push_cases}
 use Rattle.std.proofs.lemmas.Map.Keys.{IsDistinct-push}
 use Rattle.std.proofs.lemmas.Map.Made.{length-le_from_is_member}
+use Rattle.std.proofs.lemmas.List.{append-nil}
 use Rattle.pass_entry.specs.declared.objects.Node.{Node}
 use Rattle.pass_entry.specs.declared.record.Record.{Record}
+use Rattle.pass_entry.proofs.Places.{contains_none}
 use Rattle.pass_plain.specs.Versions.{same_node}
-use Rattle.pass_plain.proofs.Replays.{append-nil}
 use Rattle.pass_graph.proofs.Noding.{same_node_equiv}
 use Rattle.pass_waldo.specs.Orders.{node_cmp}
 use Rattle.pass_waldo.proofs.Indexing.{node_exact}
-use Rattle.pass_query.proofs.Elements.{nothing_there}
 use Rattle.pass_recipe.specs.Orders.{HasOnlyListed, HasAllListed, ComesAfterSources, IsOrder, IsLeast, IsFree, IsGreedy}
 use Rattle.pass_recipe.specs.Orders.IsGreedy.{done, next}
 use Rattle.pass_recipe.proofs.Members.{any_there, there_any, true_false}
@@ -47,11 +47,11 @@ module _ (list : List Record) (all : List Node) where
 
   -- all that is taken is one of all
   pub taken_listed : (before xs : List Node) (n : Node) → IsGreedy list all before xs → Contains xs n → Contains all n
-  taken_listed before [] n g there = absurd (nothing_there n there)
+  taken_listed before [] n g there = absurd (contains_none n there)
   taken_listed before (x ∷ xs) n (next f l g) there = case_of (λ later. taken_listed (before ++ x ∷ []) xs n g later) (Contains-append_cases (x ∷ []) xs n there)
     where
       case_of : (Contains xs n → Contains all n) → Contains (x ∷ []) n ⊎ Contains xs n → Contains all n
-      case_of later (inl here) = elim (Contains-push_cases [] x n here) [ inl none ↦ absurd (nothing_there n none) | inr is ↦ subst (Contains all) is f.listed ]
+      case_of later (inl here) = elim (Contains-push_cases [] x n here) [ inl none ↦ absurd (contains_none n none) | inr is ↦ subst (Contains all) is f.listed ]
       case_of later (inr there) = later there
 
   -- and is taken once

@@ -1,27 +1,27 @@
 -- How many edges leave some nodes.
-use Rattle.std.proofs.Common.{ℕ, ◌≡◌, ◌≤◌, ◌+◌, ◌*◌, zero, suc, Bool, true, false, ◌&&◌, ◌||◌, ◌⊎◌, inl, inr, refl, sym, ap, ◌∙◌, subst, List, [], ◌∷◌, ◌++◌, length, arith, length-append, append_assoc}
+use Rattle.std.proofs.Common.{ℕ, ◌≡◌, ◌≤◌, ◌+◌, ◌*◌, true, false, ◌||◌, ◌⊎◌, inl, inr, refl, sym, ap, ◌∙◌, subst, List, [], ◌∷◌, ◌++◌, length, arith, length-append, append_assoc}
 use Rattle.std.specs.Prelude.{Option, Some, None, map, slice_get, option_map, Contains}
-use Rattle.std.specs.List.{list_any, IsDistinct, AllByRecursion}
+use Rattle.std.specs.List.{list_any, IsDistinct}
 use Rattle.std.specs.List.Sorted.{IsStrictlySortedBy}
 use Rattle.std.specs.declared.cmp.Ordering.TheVariants.{Less}
-use Rattle.std.proofs.lemmas.List.{length-map}
+use Rattle.std.proofs.lemmas.List.{length-map, append-nil}
 use Rattle.std.proofs.lemmas.List.Elements.{Contains-append_cases, Contains-append_left, Contains-append_right, Contains-push, Contains-push_cases}
 use Rattle.std.proofs.lemmas.List.Folds.{list_any-append}
 use Rattle.std.proofs.lemmas.Map.Keys.{IsDistinct-push, sorted_head, sorted_tail}
 use Rattle.std.proofs.lemmas.Map.Made.{length-le_from_is_member}
 use Rattle.std.proofs.lemmas.Option.{slice_get-map}
+use Rattle.std.proofs.lemmas.Bool.{false_from_ne_true, and_right, or_from}
 use Rattle.pass_entry.specs.declared.objects.Node.{Node}
 use Rattle.pass_entry.specs.declared.record.Record.{Record}
+use Rattle.pass_entry.proofs.Places.{Contains-place, each_contained, Contains-at, contains_none}
 use Rattle.pass_plain.specs.Versions.{same_node}
 use Rattle.pass_plain.specs.Graphs.{IsEdge}
-use Rattle.pass_plain.proofs.Replays.{append-nil}
 use Rattle.pass_plain.proofs.Lists.{any_at, any_of, some_is}
 use Rattle.pass_graph.specs.Logged.{same_pair}
 use Rattle.pass_graph.proofs.Noding.{same_node_equiv}
-use Rattle.pass_graph.proofs.Ranking.{not_any}
 use Rattle.pass_waldo.specs.Orders.{node_cmp}
 use Rattle.pass_waldo.specs.Lookups.{AreAll}
-use Rattle.pass_query.proofs.Elements.{Contains-place, Contains-at, nothing_there, same_pair_is, same_pair_equiv, distinct, differ, first_there}
+use Rattle.pass_query.proofs.Elements.{same_pair_is, same_pair_equiv, distinct, differ, first_there}
 use Rattle.pass_recipe.specs.Orders.{HasAllFrom, HasOnlyFrom}
 use Rattle.pass_recipe.proofs.Members.{any_there, true_false}
 
@@ -54,19 +54,6 @@ row_in n row s there =
     let (k, at) = Contains-place row s there in
     Contains-at (map (from n) row) k (n, s) (slice_get-map (from n) row k ∙ ap (option_map (from n)) at)
 
-all_in : {X : Type 0} (P : X → Type 0) (xs : List X) (x : X) → AllByRecursion P xs → Contains xs x → P x
-all_in P [] x all there = absurd (nothing_there x there)
-all_in P (y ∷ xs) x all (zero, within, is) = subst P is all.0
-all_in P (y ∷ xs) x all (suc k, within, is) = all_in P xs x all.1 (k, omega (arith, within), is)
-
-neither : (a b : Bool) → a ≡ false → b ≡ false → a || b ≡ false
-neither false b is also = also
-neither true b is also = is
-
-second_no : (a b : Bool) → b ≡ false → a && b ≡ false
-second_no true b is = is
-second_no false b is = refl
-
 row_apart : (n : Node) (edges : List (Node × Node)) (row : List Node) → IsDistinct same_pair edges → IsStrictlySortedBy node_cmp row → ((s : Node) → Contains row s → list_any (same_pair (n, s)) edges ≡ false)
     → IsDistinct same_pair (edges ++ map (from n) row)
 row_apart n edges [] apart up new = subst (IsDistinct same_pair) (sym (append-nil edges)) apart
@@ -75,8 +62,8 @@ row_apart n edges (s ∷ row) apart up new =
     (row_apart n (edges ++ (n, s) ∷ []) row (IsDistinct-push same_pair_equiv edges (n, s) apart (new s (first_there s row))) (sorted_tail node_cmp s row up)
     (λ t there.
     list_any-append (same_pair (n, t)) edges ((n, s) ∷ [])
-    ∙ neither (list_any (same_pair (n, t)) edges) (same_pair (n, t) (n, s) || false) (new t (Contains-append_right (s ∷ []) row t there))
-    (neither (same_pair (n, t) (n, s)) false (second_no (same_node n n) (same_node t s) (same_node_equiv.symm t s ∙ differ s t (all_in (λ y. node_cmp s y ≡ Less) row t (sorted_head node_cmp s row up) there))) refl)))
+    ∙ or_from (list_any (same_pair (n, t)) edges) (same_pair (n, t) (n, s) || false) (new t (Contains-append_right (s ∷ []) row t there))
+    (or_from (same_pair (n, t) (n, s)) false (and_right (same_node n n) (same_node t s) (same_node_equiv.symm t s ∙ differ s t (each_contained (λ y. node_cmp s y ≡ Less) row (sorted_head node_cmp s row up) t there))) refl)))
 
 -- so many edges leave these nodes
 pub record AreLeaving (list : List Record) (nodes : List Node) (count : ℕ) : Type 0 where
@@ -92,8 +79,8 @@ none_leave list = record {
   edges = [];
   long = refl;
   apart = tt;
-  sound = λ a b there. absurd (nothing_there (a, b) there);
-  whole = λ a b there e. absurd (nothing_there a there);
+  sound = λ a b there. absurd (contains_none (a, b) there);
+  whole = λ a b there e. absurd (contains_none a there);
 }
 
 pub more_leave : (list : List Record) (nodes : List Node) (count : ℕ) (n : Node) (row : List Node) → AreLeaving list nodes count → list_any (same_node n) nodes ≡ false
@@ -101,7 +88,7 @@ pub more_leave : (list : List Record) (nodes : List Node) (count : ℕ) (n : Nod
 more_leave list nodes count n row l new are = record {
   edges = l.edges ++ map (from n) row;
   long = (let both = length-append l.edges (map (from n) row) in let mine = length-map row (from n) in let early = l.long in omega (arith, both, mine, early));
-  apart = row_apart n l.edges row l.apart are.ascending (λ s there. not_any (list_any (same_pair (n, s)) l.edges) (λ any.
+  apart = row_apart n l.edges row l.apart are.ascending (λ s there. false_from_ne_true (list_any (same_pair (n, s)) l.edges) (λ any.
       true_false (list_any (same_node n) nodes) (any_there nodes n (l.sound n s (edge_there l.edges (n, s) any)).1) new));
   sound = λ a b there. sound_in a b (Contains-append_cases l.edges (map (from n) row) (a, b) there);
   whole = λ a b there e. whole_in a b e (Contains-push_cases nodes n a there);

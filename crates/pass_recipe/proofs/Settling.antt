@@ -1,9 +1,8 @@
 -- What a queue holds after one node has settled, and after one was taken.
-use Rattle.std.proofs.Common.{ℕ, ◌≡◌, ◌<◌, ◌+◌, Bool, true, false, ◌⊎◌, inl, inr, refl, sym, ap, ◌∙◌, subst, List, [], ◌∷◌, ◌++◌, length, arith, cond, Ordering}
+use Rattle.std.proofs.Common.{ℕ, ◌≡◌, ◌<◌, ◌+◌, Bool, true, false, ◌⊎◌, inl, inr, refl, sym, ap, ◌∙◌, subst, List, [], ◌∷◌, ◌++◌, length, arith, cond}
 use Rattle.std.specs.Prelude.{Option, Some, None, IsSome, slice_get, Contains, if◌then◌else◌}
 use Rattle.std.specs.Option.{option_map_or}
 use Rattle.std.specs.Ordering.{is_eq}
-use Rattle.std.specs.declared.cmp.Ordering.TheVariants.{Less, Equal, Greater}
 use Rattle.std.specs.declared.vec.Vec.{Vec}
 use Rattle.std.specs.declared.alloc.Global.{Global}
 use Rattle.std.specs.HashSet.{contains}
@@ -12,16 +11,16 @@ use Rattle.std.specs.BTreeMap.{is_at, get as find_ready}
 use Rattle.std.proofs.lemmas.Cmp.{tied_itself}
 use Rattle.std.proofs.lemmas.List.Elements.{Contains-append_left, Contains-push, Contains-push_cases}
 use Rattle.std.proofs.lemmas.Option.{slice_get_within}
+use Rattle.std.proofs.lemmas.Bool.{false_from_ne_true}
 use Rattle.pass_entry.specs.declared.objects.Node.{Node}
 use Rattle.pass_entry.specs.declared.record.Record.{Record}
+use Rattle.pass_entry.proofs.Places.{Contains-place, Contains-at}
 use Rattle.pass_plain.specs.Versions.{same_node}
 use Rattle.pass_plain.specs.Graphs.{IsEdge}
-use Rattle.pass_plain.proofs.Lists.{some_is, below_or}
+use Rattle.pass_plain.proofs.Lists.{some_is, below_or, is_equal}
 use Rattle.pass_graph.proofs.Noding.{same_node_is, same_node_equiv}
-use Rattle.pass_graph.proofs.Ranking.{not_any}
 use Rattle.pass_waldo.specs.Orders.{node_cmp}
 use Rattle.pass_waldo.proofs.Indexing.{node_cmp_total, node_exact}
-use Rattle.pass_query.proofs.Elements.{Contains-place, Contains-at}
 use Rattle.pass_recipe.specs.declared.waiters.Waiting.{Waiting}
 use Rattle.pass_recipe.specs.declared.waiters.Waiters.{Waiters}
 use Rattle.pass_recipe.specs.declared.queue.Queue.{Queue}
@@ -39,11 +38,6 @@ row_added old new source one row none has writes s = ap (λ o. option_map_or (λ
     at_test true same =
         has ∙ ap (λ o. option_map_or (λ v. v.items) o [] ++ one ∷ []) (sym (ap (get same_node old.rows) (sym (same_node_is source s same)) ∙ none))
     at_test false apart = refl
-
-is_equal : (o : Ordering) → is_eq o ≡ true → o ≡ Equal
-is_equal Less is = let z : false ≡ true = is in cc
-is_equal Equal is = refl
-is_equal Greater is = let z : false ≡ true = is in cc
 
 is_at_itself : (n : Node) → is_at (node_cmp n) n ≡ true
 is_at_itself n = ap is_eq (tied_itself node_cmp_total n)
@@ -186,7 +180,7 @@ module _ (q : Queue) (n : Node) (v : Vec Node Global) (made : Nodes) (ready : Re
 
     -- a node that waits isn't the one that was taken
     not_taken : (s m : Node) → contains same_node q.made s ≡ false → IsEdge list m s → same_node n m ≡ false
-    not_taken s m unmade e = not_any (same_node n m) (λ same.
+    not_taken s m unmade e = false_from_ne_true (same_node n m) (λ same.
         true_false (contains same_node q.made s) (taken.before s (subst (λ x. IsEdge list x s) (sym (same_node_is n m same)) e)) unmade)
 
     unmade_stays : (m : Node) (sources : List Node) → IsUnmade list all q.made m sources → same_node n m ≡ false → IsUnmade list all made m sources
@@ -214,7 +208,7 @@ module _ (q : Queue) (n : Node) (v : Vec Node Global) (made : Nodes) (ready : Re
         at_test m w false apart is =
             let r = k.ready m w is in
             record {
-              unmade = unmade_stays m w.items r.unmade (not_any (same_node n m) (λ same.
+              unmade = unmade_stays m w.items r.unmade (false_from_ne_true (same_node n m) (λ same.
                   true_false (is_at (node_cmp n) m) (ap (is_at (node_cmp n)) (sym (same_node_is n m same)) ∙ is_at_itself n) apart));
               before = λ s e. still s (r.before s e);
             }

@@ -10,6 +10,7 @@ use Rattle.pass_record.specs.declared.fault.RecordFault.TheVariants as fault
 use Rattle.pass_record.specs.Faults.{Extends}
 use Rattle.pass_record.specs.Fields.{◌>>=◌, number_at, bytes_at, text_at, md5_at}
 use Rattle.pass_record.specs.Spelling.{AreBytes, text_bytes}
+use Rattle.pass_entry.proofs.Variants.{guard_ok}
 
 AreBytes-drop : (n : ℕ) (bytes : List ℕ) → AreBytes bytes → AreBytes (drop n bytes)
 AreBytes-drop n bytes h i = rw get_or-drop (h (n + i))
@@ -32,11 +33,6 @@ bind_ok (Err d) f y e = absurd cc
 pub passed : {A : Type 0} (b : Bool) (d : RecordFault) (r : Result A RecordFault) (y : A) → cond b (Err d) r ≡ Ok y → (b ≡ false) × (r ≡ Ok y)
 passed true d r y e = absurd cc
 passed false d r y e = (refl, e)
-
--- a range that was met
-pub met : {A : Type 0} (b : Bool) (d : RecordFault) (x y : A) → cond b (Ok x) (Err d) ≡ Ok y → (b ≡ true) × (x ≡ y)
-met true d x y e = (refl, cc)
-met false d x y e = absurd cc
 
 abbrev done : {A : Type 0} → A → Result A RecordFault
 done x = Ok x
@@ -128,7 +124,7 @@ number_takes w limit wide is_within bytes n rest fits e =
     let k = byte_len w in
     let v = from_be_bytes w (take k bytes) in
     let g = passed (ltb (length bytes) k) fault.Short (cond (is_within v) (Ok (v, drop k bytes)) (Err fault.Value)) (n, rest) e in
-    let m = met (is_within v) fault.Value (v, drop k bytes) (n, rest) g.1 in
+    let m = guard_ok (is_within v) (v, drop k bytes) (n, rest) fault.Value g.1 in
     let long : k ≤ length bytes = ltb-false _ _ g.0 in
     let n-is : v ≡ n = ap (λ (p : ℕ × List ℕ). p.0) m.1 in
     let rest-is : drop k bytes ≡ rest = ap (λ (p : ℕ × List ℕ). p.1) m.1 in
@@ -172,7 +168,7 @@ bytes_take : (count : ℕ) (is_within : ℕ → Bool) (bytes text rest : List �
     → Takes bytes text rest × ((length text ≡ count) × (list_all is_within text ≡ true))
 bytes_take count is_within bytes text rest fits e =
     let g = passed (ltb (length bytes) count) fault.Short (cond (list_all is_within (take count bytes)) (Ok (take count bytes, drop count bytes)) (Err fault.Value)) (text, rest) e in
-    let m = met (list_all is_within (take count bytes)) fault.Value (take count bytes, drop count bytes) (text, rest) g.1 in
+    let m = guard_ok (list_all is_within (take count bytes)) (take count bytes, drop count bytes) (text, rest) fault.Value g.1 in
     let long : count ≤ length bytes = ltb-false _ _ g.0 in
     let len : length (take count bytes) ≡ count = omega (arith, length-take count bytes) in
     let front : Takes bytes (take count bytes) (drop count bytes) = record { parts = sym (take-append-drop count bytes); rest_fits = AreBytes-drop count bytes fits } in

@@ -25,6 +25,9 @@ pub record ReadsFields (tag : ℕ) (bytes : List ℕ) (one : Record) (rest : Lis
 
 -- ---- what was read
 
+abbrev pub done : Record → List ℕ → Result (Record × List ℕ) RecordFault
+done one rest = Ok (one, rest)
+
 abbrev Reading : (List ℕ → Result (Record × List ℕ) RecordFault) → ℕ → Type 0
 Reading at tag = (bytes : List ℕ) (one : Record) (rest : List ℕ) → AreBytes bytes → at bytes ≡ Ok (one, rest) → ReadsFields tag bytes one rest
 
@@ -98,9 +101,6 @@ branch tag n x y z e = way (eqb tag n) refl e
 -- the fields are those of the tag
 as_tag : (tag n : ℕ) (bytes : List ℕ) (one : Record) (rest : List ℕ) → tag ≡ n → ReadsFields n bytes one rest → ReadsFields tag bytes one rest
 as_tag tag n bytes one rest same h = record { tag_is = h.tag_is ∙ sym same; in_range = h.in_range; parts = h.parts }
-
-abbrev done : Record → List ℕ → Result (Record × List ℕ) RecordFault
-done one rest = Ok (one, rest)
 
 pub fields_take : (tag : ℕ) (bytes : List ℕ) (one : Record) (rest : List ℕ) → AreBytes bytes → fields_at tag bytes ≡ Ok (one, rest) → ReadsFields tag bytes one rest
 fields_take tag bytes one rest fits e =

@@ -12,7 +12,7 @@ use Rattle.pass_record.specs.Faults.{Extends, Fails}
 use Rattle.pass_record.specs.Reading.{record_at}
 use Rattle.pass_record.specs.Spelling.{AreBytes, StandsAtFront, spelling, line_bytes}
 use Rattle.pass_record.proofs.Parts.{ok_is}
-use Rattle.pass_record.proofs.Records.{record_takes, record_again, record_stays}
+use Rattle.pass_record.proofs.Records.{done, record_takes, record_again, record_stays}
 
 pub spelling-length : (one : Record) → IsInRange one → length (spelling one) ≡ record_length one
 unfolding spelling
@@ -27,9 +27,6 @@ spelling-length (record_of.Digest pnode block md5) fits =
     let len : length md5 ≡ 16 = eqb-true _ _ parts.1 in
     omega arith
 spelling-length (record_of.Ceiling pnode) fits = refl
-
-abbrev done : Record → List ℕ → Result (Record × List ℕ) RecordFault
-done one rest = Ok (one, rest)
 
 same_read : (one other : Record) (x y : List ℕ) → done one x ≡ done other y → (one ≡ other) × (x ≡ y)
 same_read one other x y e =

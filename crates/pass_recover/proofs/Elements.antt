@@ -1,22 +1,8 @@
--- Places in lists that are joined, mapped, filtered, cut short and written.
-use Rattle.std.proofs.Common.{◌≡◌, ◌∙◌, ◌⊎◌, ◌+◌, ℕ, cond, Bool, List, [], ◌∷◌, ◌++◌, length, map, filter, take, refl, sym, ap, arith, inl, inr}
+-- Places in lists that are mapped, filtered and written.
+use Rattle.std.proofs.Common.{◌≡◌, ◌∙◌, ◌⊎◌, ℕ, List, [], ◌∷◌, map, refl, sym, ap, arith, inl, inr}
 use Rattle.std.specs.Prelude.{zero, suc, Option, Some, None, slice_get, slice_set, filter_map}
 use Rattle.std.specs.List.{cons_option}
 use Rattle.pass_plain.proofs.Lists.{some_is}
-
--- places in two lists, one behind the other
-pub split_at : {X : Type 0} (xs ys : List X) (i : ℕ) (x : X) → slice_get (xs ++ ys) i ≡ Some x → (slice_get xs i ≡ Some x) ⊎ ((j : ℕ) × (i ≡ length xs + j) × (slice_get ys j ≡ Some x))
-split_at [] ys i x at = inr (i, (let z : i ≡ 0 + i = omega arith in z), at)
-split_at (y ∷ xs) ys zero x at = inl at
-split_at (y ∷ xs) ys (suc i) x at = elim (split_at xs ys i x at) [
-  | inl l ↦ inl l
-  | inr r ↦ inr (r.0, (let e = r.1 in let z : suc i ≡ length (y ∷ xs) + r.0 = omega (arith, e) in z), r.2)
-]
-
-pub mapped : {X Y : Type 0} (f : X → Y) (xs : List X) (i : ℕ) (y : Y) → slice_get (map f xs) i ≡ Some y → (x : X) × (slice_get xs i ≡ Some x) × (f x ≡ y)
-mapped f [] i y at = absurd (cc)
-mapped f (x ∷ xs) zero y at = (x, refl, some_is (f x) y at)
-mapped f (x ∷ xs) (suc i) y at = mapped f xs i y at
 
 -- what a partial map keeps
 
@@ -28,17 +14,6 @@ in_filter_mapped {X} {Y} f (z ∷ xs) (suc i) x y at is = by_first (f z) (in_fil
     by_first : (o : Option Y) → (j : ℕ) × (slice_get (filter_map f xs) j ≡ Some y) → (j : ℕ) × (slice_get (cons_option o (filter_map f xs)) j ≡ Some y)
     by_first None there = there
     by_first (Some w) there = (suc there.0, there.1)
-
-pub filter_mapped : {X Y : Type 0} (f : X → Option Y) (xs : List X) (j : ℕ) (y : Y) → slice_get (filter_map f xs) j ≡ Some y → (i : ℕ) × (x : X) × (slice_get xs i ≡ Some x) × (f x ≡ Some y)
-filter_mapped f [] j y at = absurd (cc)
-filter_mapped {X} {Y} f (z ∷ xs) j y at = by_first (f z) refl j at (filter_mapped f xs)
-  where
-    by_first : (o : Option Y) → f z ≡ o → (j : ℕ) → slice_get (cons_option o (filter_map f xs)) j ≡ Some y
-        → ((j : ℕ) (y : Y) → slice_get (filter_map f xs) j ≡ Some y → (i : ℕ) × (x : X) × (slice_get xs i ≡ Some x) × (f x ≡ Some y))
-        → (i : ℕ) × (x : X) × (slice_get (z ∷ xs) i ≡ Some x) × (f x ≡ Some y)
-    by_first None is j at more = let m = more j y at in (suc m.0, m.1, m.2, m.3)
-    by_first (Some w) is zero at more = (zero, z, refl, is ∙ ap (λ v. Some v) (some_is w y at))
-    by_first (Some w) is (suc j) at more = let m = more j y at in (suc m.0, m.1, m.2, m.3)
 
 -- an element is replaced
 
@@ -73,15 +48,3 @@ pub in_mapped : {X Y : Type 0} (f : X → Y) (xs : List X) (i : ℕ) (x : X) →
 in_mapped f [] i x at = absurd (cc)
 in_mapped f (y ∷ xs) zero x at = ap (λ v. Some (f v)) (some_is y x at)
 in_mapped f (y ∷ xs) (suc i) x at = in_mapped f xs i x at
-
-pub from_take : {X : Type 0} (n : ℕ) (xs : List X) (i : ℕ) (x : X) → slice_get (take n xs) i ≡ Some x → slice_get xs i ≡ Some x
-from_take zero xs i x at = absurd (cc)
-from_take (suc n) [] i x at = absurd (cc)
-from_take (suc n) (y ∷ xs) zero x at = at
-from_take (suc n) (y ∷ xs) (suc i) x at = from_take n xs i x at
-
--- two tests that agree on each element keep the same
-pub filter_agrees : {X : Type 0} (f g : X → Bool) (xs : List X) → ((i : ℕ) (x : X) → slice_get xs i ≡ Some x → f x ≡ g x) → filter f xs ≡ filter g xs
-filter_agrees f g [] agree = refl
-filter_agrees f g (x ∷ xs) agree =
-    ap (λ (b : Bool). cond b (x ∷ filter f xs) (filter f xs)) (agree 0 x refl) ∙ ap (λ l. cond (g x) (x ∷ l) l) (filter_agrees f g xs (λ i y at. agree (suc i) y at))

@@ -4,13 +4,13 @@ use Rattle.std.specs.Prelude.{None, nat_le, nat_lt, if◌then◌else◌}
 use Rattle.std.specs.List.{All}
 use Rattle.std.proofs.lemmas.List.Sums.{fold-append}
 use Rattle.std.proofs.lemmas.List.Elements.{All-head, All-tail}
+use Rattle.std.proofs.lemmas.List.{append-nil}
 use Rattle.pass_entry.specs.declared.record.Record.{Record}
 use Rattle.pass_entry.specs.declared.record.Record.TheVariants as log
 use Rattle.pass_entry.specs.Ranges.{IsInRange, is_number, is_name_or_none}
+use Rattle.pass_entry.proofs.Variants.{no_first}
 use Rattle.pass_plain.specs.WellLogged.{kind_look, kind_of, version_look, current_of, size_look, size_of, name_look, last_name_of, ceiling_look, ceiling_of, flaw_of, first_flaw_after, IsWellLogged}
-use Rattle.pass_plain.proofs.Replays.{append-nil}
 use Rattle.pass_plain.proofs.Lists.{true_left, true_right, below_is, at_most}
-use Rattle.pass_range.proofs.Logged.{no_first}
 
 -- what each next record within its ranges keeps holds of a well logged list of such records
 kept_from : (P : List Record → Type 0) → ((list : List Record) (r : Record) → P list → flaw_of list r ≡ None → IsInRange r → P (list ++ r ∷ []))

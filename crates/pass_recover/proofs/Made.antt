@@ -1,23 +1,26 @@
 -- The objects of one kind that a well logged list makes.
 use Rattle.std.proofs.Common.{◌≡◌, ◌∙◌, ◌==◌, ◌||◌, ◌&&◌, ◌+◌, ◌^◌, ◌<◌, ◌≤◌, ℕ, Bool, true, false, cond, List, [], ◌∷◌, ◌++◌, length, refl, sym, ap, arith, length-append, ⊎_elim}
-use Rattle.std.specs.Prelude.{Option, Some, None, is_some, nat_le, nat_lt, slice_get, count_by, filter_map, if◌then◌else◌}
+use Rattle.std.specs.Prelude.{Option, Some, None, nat_le, nat_lt, slice_get, count_by, filter_map, if◌then◌else◌}
 use Rattle.std.specs.List.{All, cons_option}
 use Rattle.std.proofs.lemmas.List.Sums.{fold-append}
 use Rattle.std.proofs.lemmas.List.Elements.{filter_map-append}
 use Rattle.std.proofs.lemmas.Bool.Decides.{nat_tests}
+use Rattle.std.proofs.lemmas.Option.{none-some}
+use Rattle.std.proofs.lemmas.List.{append-nil}
 use Rattle.pass_entry.specs.declared.objects.Kind.{Kind}
 use Rattle.pass_entry.specs.declared.objects.Kind.TheVariants as kind
 use Rattle.pass_entry.specs.declared.record.Record.{Record}
 use Rattle.pass_entry.specs.declared.record.Record.TheVariants as log
 use Rattle.pass_entry.specs.declared.record.FlawReason.TheVariants as flaw
 use Rattle.pass_entry.specs.Ranges.{IsInRange}
+use Rattle.pass_entry.proofs.Variants.{none_of}
+use Rattle.pass_entry.proofs.Places.{slice_get-last}
 use Rattle.pass_plain.specs.Registries.{same_kind, is_limited}
 use Rattle.pass_plain.specs.WellLogged.{kind_of, ceiling_of, has_kind, is_known, flaw_if, flaw_of, IsWellLogged}
-use Rattle.pass_plain.proofs.Replays.{append-nil}
-use Rattle.pass_plain.proofs.Appends.{place_of, slice_get-last, slice_get-append}
+use Rattle.pass_plain.proofs.Appends.{place_of, slice_get-append}
 use Rattle.pass_plain.proofs.Lists.{true_left, or_false, not_below, same_numbers, same_itself, some_is, at_most}
+use Rattle.pass_plain.proofs.Flaws.{unflawed}
 use Rattle.pass_range.specs.Rows.{files_of}
-use Rattle.pass_range.proofs.Logged.{unflawed}
 use Rattle.pass_recover.specs.Starts.{apps_of}
 use Rattle.pass_recover.proofs.Listed.{kept_induction, ceiling-next, kind-next}
 
@@ -80,13 +83,6 @@ module _ (k : Kind) (list : List Record) (r : Record) where
         few = λ limit. let z = was.few limit in let y = ap length same in omega (arith, z, y);
       }
 
-unknown_kind : (o : Option Kind) → is_some o ≡ false → o ≡ None
-unknown_kind None h = refl
-unknown_kind (Some k) h = absurd (cc)
-
-none_some : {k : Kind} → None ≡ Some k → ⊥
-none_some e = absurd (cc)
-
 -- a new object
 made_next : (k : Kind) (list : List Record) (q : ℕ) (kd : Kind) → AreMade k list → flaw_of list (log.Object q kd) ≡ None → IsInRange (log.Object q kd) → AreMade k (list ++ log.Object q kd ∷ [])
 made_next k list q kd was passes fits = by_kind (same_kind kd k) refl
@@ -95,7 +91,7 @@ made_next k list q kd was passes fits = by_kind (same_kind kd k) refl
     tests = unflawed (is_known list q) flaw.Known (flaw_if (nat_lt (ceiling_of list) q) flaw.Ceiling (flaw_if (is_limited kd && nat_le 1024 (count_by (has_kind kd) list)) flaw.Many None)) passes
 
     fresh : kind_of list q ≡ None
-    fresh = unknown_kind (kind_of list q) (unflawed (is_known list q) flaw.Known (flaw_if (nat_lt (ceiling_of list) q) flaw.Ceiling (flaw_if (is_limited kd && nat_le 1024 (count_by (has_kind kd) list)) flaw.Many None)) passes).0
+    fresh = none_of (kind_of list q) (unflawed (is_known list q) flaw.Known (flaw_if (nat_lt (ceiling_of list) q) flaw.Ceiling (flaw_if (is_limited kd && nat_le 1024 (count_by (has_kind kd) list)) flaw.Many None)) passes).0
 
     more : (nat_lt (ceiling_of list) q ≡ false) × (flaw_if (is_limited kd && nat_le 1024 (count_by (has_kind kd) list)) flaw.Many None ≡ None)
     more = unflawed (nat_lt (ceiling_of list) q) flaw.Ceiling (flaw_if (is_limited kd && nat_le 1024 (count_by (has_kind kd) list)) flaw.Many None)
@@ -109,7 +105,7 @@ made_next k list q kd was passes fits = by_kind (same_kind kd k) refl
     apart p kp is = by_test (q == p) refl
       where
         by_test : (t : Bool) → (q == p) ≡ t → t ≡ false
-        by_test true same = absurd (none_some (sym fresh ∙ ap (kind_of list) (same_numbers q p same) ∙ is))
+        by_test true same = absurd (none-some _ (sym fresh ∙ ap (kind_of list) (same_numbers q p same) ∙ is))
         by_test false other = refl
 
     kinds : (p : ℕ) → kind_of (list ++ log.Object q kd ∷ []) p ≡ (if q == p then Some kd else kind_of list p)
@@ -178,7 +174,7 @@ made_next k list q kd was passes fits = by_kind (same_kind kd k) refl
         }
       where
         not_old : (p i : ℕ) → slice_get (objects_in k list) i ≡ Some p → q ≡ p → ⊥
-        not_old p i at here = none_some (sym fresh ∙ ap (kind_of list) here ∙ (was.each i p at).0)
+        not_old p i at here = none-some _ (sym fresh ∙ ap (kind_of list) here ∙ (was.each i p at).0)
 
         below_limit : (n : ℕ) → nat_le 1024 n ≡ false → n < 1024
         below_limit n h = grind (arith, nat_tests, h)
@@ -213,7 +209,7 @@ pub are_made : (k : Kind) (list : List Record) → IsWellLogged list → All IsI
 are_made k list logged ranges = kept_induction (AreMade k)
     (record {
       each = λ i p at. absurd (cc);
-      there = λ p is. absurd (none_some is);
+      there = λ p is. absurd (none-some _ is);
       single = λ i j p one two. absurd (cc);
       count = refl;
       few = λ limit. omega arith;

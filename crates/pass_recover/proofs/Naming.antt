@@ -11,11 +11,12 @@ use Rattle.pass_entry.specs.declared.record.Record.{Record}
 use Rattle.pass_entry.specs.declared.record.Record.TheVariants as log
 use Rattle.pass_entry.specs.declared.record.FlawReason.TheVariants as flaw
 use Rattle.pass_entry.specs.Ranges.{IsInRange}
+use Rattle.pass_entry.proofs.Places.{slice_get-last}
 use Rattle.pass_plain.specs.Registries.{same_kind, is_limited}
 use Rattle.pass_plain.specs.WellLogged.{kind_of, last_name_of, names_other, has_kind, ceiling_of, is_known, is_file_of, flaw_if, flaw_of, IsWellLogged}
-use Rattle.pass_plain.proofs.Appends.{slice_get-last, slice_get-append}
+use Rattle.pass_plain.proofs.Appends.{slice_get-append}
 use Rattle.pass_plain.proofs.Lists.{not_false, same_numbers, same_itself, any_of, both_true}
-use Rattle.pass_range.proofs.Logged.{unflawed}
+use Rattle.pass_plain.proofs.Flaws.{unflawed}
 use Rattle.pass_recover.proofs.Listed.{kept_induction, kind-next, name-next}
 use Rattle.pass_recover.proofs.Made.{same_kind_is}
 

@@ -3,8 +3,11 @@ use Rattle.std.proofs.Common.{◌≡◌, ◌∙◌, ◌==◌, ◌||◌, ◌&&◌
 use Rattle.std.specs.Prelude.{Option, Some, None, is_some, slice_get, bytes_eq}
 use Rattle.std.specs.Option.{option_map_or}
 use Rattle.std.specs.List.{list_any}
+use Rattle.std.proofs.lemmas.Bool.{true≢false}
 use Rattle.md5.specs.Md5.{md5}
 use Rattle.pass_entry.specs.declared.record.Record.{Record}
+use Rattle.pass_entry.proofs.Variants.{some_of}
+use Rattle.pass_entry.proofs.Places.{mapped, Contains-place, filter_agrees, Contains-at}
 use Rattle.pass_plain.specs.declared.start.Start.{Start}
 use Rattle.pass_plain.specs.declared.start.StartFile.{StartFile}
 use Rattle.pass_plain.specs.Records.{range_len}
@@ -16,14 +19,11 @@ use Rattle.pass_range.specs.declared.table.TableFile.{TableFile}
 use Rattle.pass_range.specs.Places.{place, found_there}
 use Rattle.pass_range.specs.Rows.{range, row_of, number_of}
 use Rattle.pass_range.specs.Tables.{Row, IsTableOf, AreUnmatched, file_in, is_matched}
-use Rattle.pass_range.proofs.Listed.{numbered, contained, place_of, ascending_filter, listed_exactly}
+use Rattle.pass_range.proofs.Listed.{numbered, ascending_filter, listed_exactly}
 use Rattle.pass_recover.specs.Starts.{apps_of, current_node, IsFileOf, IsStartOf, HasBytes}
 use Rattle.pass_recover.specs.Fills.{has_block, blocks_in, AreFilled, AreRead, bytes_in, is_same, other_ranges}
-use Rattle.pass_recover.proofs.Elements.{mapped, in_mapped, filter_agrees}
+use Rattle.pass_recover.proofs.Elements.{in_mapped}
 use Rattle.pass_recover.proofs.RowRead.{number-at}
-
-clash : true ≡ false → ⊥
-clash e = absurd (cc)
 
 abbrev is_row : ℕ → ℕ → Row → Bool
 is_row p block row = row.0.pnode == p && row.0.block == block
@@ -42,12 +42,8 @@ among (row ∷ rows) p block = by_file (row.0.pnode == p) (among rows p block)
 -- two tests of a row are the same where one passes exactly where the other does
 both_ways : (a b : Bool) → (a ≡ true → b ≡ true) → (b ≡ true → a ≡ true) → a ≡ b
 both_ways true b to from = sym (to refl)
-both_ways false true to from = absurd (clash (sym (from refl)))
+both_ways false true to from = absurd (true≢false (sym (from refl)))
 both_ways false false to from = refl
-
-some_at : {X : Type 0} (o : Option X) → is_some o ≡ true → (x : X) × (o ≡ Some x)
-some_at None some = absurd (clash (sym some))
-some_at (Some x) some = (x, refl)
 
 module _ (list : List Record) (table : Table) (is : IsTableOf list table) where
   abbrev rows : List Row
@@ -59,13 +55,13 @@ module _ (list : List Record) (table : Table) (is : IsTableOf list table) where
       let row = m.1 in
       let pnode = same_numbers row.0.pnode p (true_left (row.0.pnode == p) (row.0.block == block) m.3) in
       let number = same_numbers row.0.block block (true_right (row.0.pnode == p) (row.0.block == block) m.3) in
-      let there : row_of list row.0.pnode row.0.block ≡ Some row.1 = (is.rows row.0.pnode row.0.block row.1).0 (contained rows m.0 row m.2) in
+      let there : row_of list row.0.pnode row.0.block ≡ Some row.1 = (is.rows row.0.pnode row.0.block row.1).0 (Contains-at rows m.0 row m.2) in
       ap (λ (q : ℕ). is_some (row_of list q block)) (sym pnode) ∙ ap (λ (b : ℕ). is_some (row_of list row.0.pnode b)) (sym number) ∙ ap is_some there
 
   has_at : (p block : ℕ) → is_some (row_of list p block) ≡ true → has_block rows p block ≡ true
   has_at p block some =
-      let digest = some_at (row_of list p block) some in
-      let there = place_of rows (record { pnode = p; block = block }, digest.0) ((is.rows p block digest.0).1 digest.1) in
+      let digest = some_of (row_of list p block) some in
+      let there = Contains-place rows (record { pnode = p; block = block }, digest.0) ((is.rows p block digest.0).1 digest.1) in
       any_of (is_row p block) rows there.0 (record { pnode = p; block = block }, digest.0) there.1 (both_true (p == p) (block == block) (same_itself p) (same_itself block))
 
   pub has_is : (p block : ℕ) → has_block rows p block ≡ is_some (row_of list p block)

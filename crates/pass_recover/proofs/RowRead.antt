@@ -1,21 +1,23 @@
 -- One row more is read into the files of a list.
 use Rattle.std.proofs.Common.{◌≡◌, ◌∙◌, ◌⊎◌, ◌==◌, ◌||◌, ◌&&◌, ◌+◌, ◌-◌, ◌*◌, ◌<◌, ◌≤◌, ℕ, Bool, true, false, not, cond, List, [], ◌∷◌, ◌++◌, length, map, filter, take, drop, get_or, refl, sym, ap, subst, arith, inl, inr, ⊎_elim}
-use Rattle.std.specs.Prelude.{suc, Option, Some, None, is_some, option_map, slice_get, slice_set, bytes_eq, if◌then◌else◌}
+use Rattle.std.specs.Prelude.{Option, Some, None, is_some, option_map, slice_get, slice_set, bytes_eq, if◌then◌else◌}
 use Rattle.std.specs.Option.{option_map_or}
-use Rattle.std.specs.List.{All, position_from}
+use Rattle.std.specs.List.{All}
 use Rattle.std.proofs.lemmas.Option.{get_or_from_slice_get}
-use Rattle.std.proofs.lemmas.List.{map-append, get_or-take, get_or-drop, length-map}
+use Rattle.std.proofs.lemmas.List.{map-append, get_or-take, get_or-drop, length-map, append-nil}
 use Rattle.std.proofs.lemmas.List.Elements.{filter-append}
 use Rattle.std.proofs.lemmas.List.Folds.{list_any-append}
+use Rattle.std.proofs.lemmas.Bool.{cases_Bool, true≢false}
 use Rattle.md5.specs.Md5.{md5}
 use Rattle.pass_entry.specs.declared.objects.Kind.TheVariants as kind
 use Rattle.pass_entry.specs.declared.objects.Node.{Node}
 use Rattle.pass_entry.specs.declared.record.Record.{Record}
 use Rattle.pass_entry.specs.Ranges.{IsInRange}
+use Rattle.pass_entry.proofs.Places.{position_at, slice_get-take, filter_agrees, Contains-at}
 use Rattle.pass_plain.specs.declared.start.StartFile.{StartFile}
 use Rattle.pass_plain.specs.Records.{range_len}
 use Rattle.pass_plain.specs.WellLogged.{current_of, last_name_of, size_of, IsWellLogged}
-use Rattle.pass_plain.proofs.Replays.{take-next, append-nil}
+use Rattle.pass_plain.proofs.Replays.{take-next}
 use Rattle.pass_plain.proofs.Lists.{or_false, both_true, same_numbers, same_itself, some_is, within_take}
 use Rattle.pass_range.specs.declared.table.Table.{Table}
 use Rattle.pass_range.specs.declared.table.TableFile.{TableFile}
@@ -23,31 +25,15 @@ use Rattle.pass_range.specs.Places.{place, found_there}
 use Rattle.pass_range.specs.Rows.{range, row_of, files_of, number_of}
 use Rattle.pass_range.specs.Tables.{Row, IsBelow, IsTableOf, file_in}
 use Rattle.pass_range.specs.Lawful.{IsZero}
-use Rattle.pass_range.proofs.Listed.{contained, numbered}
+use Rattle.pass_range.proofs.Listed.{numbered}
 use Rattle.pass_range.proofs.RowFiles.{row_files, number-below, number-one}
 use Rattle.pass_graph.specs.Logged.{name_in}
 use Rattle.pass_recover.specs.Fills.{has_block, blocks_in, IsFilled, AreFilled, AreRead, bytes_in, is_same, other_ranges}
-use Rattle.pass_recover.proofs.Elements.{set_at, set_here, set_other, set_mapped, in_mapped, from_take, filter_agrees}
+use Rattle.pass_recover.proofs.Elements.{set_at, set_here, set_other, set_mapped, in_mapped}
 use Rattle.pass_recover.proofs.Made.{are_made, objects_in, files_in}
-
-clash : true ≡ false → ⊥
-clash e = absurd (cc)
 
 some_none : {X : Type 0} (x : X) → Some x ≡ None → ⊥
 some_none x e = absurd (cc)
-
-test_or : (b : Bool) → (b ≡ true) ⊎ (b ≡ false)
-test_or true = inl refl
-test_or false = inr refl
-
-position_at : (n : ℕ) (xs : List ℕ) (p m : ℕ) → position_from (λ file. file == p) n xs ≡ Some m → (j : ℕ) × (m ≡ n + j) × (slice_get xs j ≡ Some p)
-position_at n [] p m is = absurd (cc)
-position_at n (x ∷ xs) p m is = by_test (x == p) refl (position_at (n + 1) xs p m) is
-  where
-    by_test : (t : Bool) → (x == p) ≡ t → (position_from (λ file. file == p) (n + 1) xs ≡ Some m → (j : ℕ) × (m ≡ n + 1 + j) × (slice_get xs j ≡ Some p))
-        → cond t (Some n) (position_from (λ file. file == p) (n + 1) xs) ≡ Some m → (j : ℕ) × (m ≡ n + j) × (slice_get (x ∷ xs) j ≡ Some p)
-    by_test true same more is = (0, (let z = some_is n m is in omega (arith, z)), ap (λ (q : ℕ). Some q) (same_numbers x p same))
-    by_test false apart more is = let r = more is in (suc r.0, (let z = r.1 in omega (arith, z)), r.2)
 
 pub number-at : (list : List Record) (p m : ℕ) → number_of list p ≡ Some m → slice_get (files_of list) m ≡ Some p
 number-at list p m is = let r = position_at 0 (files_of list) p m is in ap (slice_get (files_of list)) (let z = r.1 in let y : m ≡ r.0 = omega (arith, z) in y) ∙ r.2
@@ -86,14 +72,14 @@ module _ (list : List Record) (table : Table) (is : IsTableOf list table) (logge
   row_file k row at = by_number (number_of list row.0.pnode) refl filed.0
     where
       has : row_of list row.0.pnode row.0.block ≡ Some row.1
-      has = (is.rows row.0.pnode row.0.block row.1).0 (contained rows k row at)
+      has = (is.rows row.0.pnode row.0.block row.1).0 (Contains-at rows k row at)
 
       filed : (is_some (number_of list row.0.pnode) ≡ true) × (row.0.block * 4096 < size_of list row.0.pnode)
       filed = row_files list logged row.0.pnode row.0.block (ap is_some has)
 
       by_number : (o : Option ℕ) → number_of list row.0.pnode ≡ o → is_some o ≡ true
           → (m : ℕ) × (number_of list row.0.pnode ≡ Some m) × (file_in table row.0.pnode ≡ Some (record { number = m; size = size_of list row.0.pnode })) × (row.0.block * 4096 < size_of list row.0.pnode)
-      by_number None number some = absurd (clash (sym some))
+      by_number None number some = absurd (true≢false (sym some))
       by_number (Some m) number some =
           (m, number, is.files row.0.pnode ∙ ap (option_map (λ (n : ℕ). record { number = n; size = size_of list row.0.pnode })) number, filed.1)
 
@@ -140,7 +126,7 @@ module _ (list : List Record) (table : Table) (is : IsTableOf list table) (logge
         zero_new block none =
             let split = or_false (has_block (take k rows) new.node.pnode block) ((row.0.pnode == new.node.pnode && row.0.block == block) || false) (sym (has_more (take k rows) row new.node.pnode block) ∙ none) in
             zero_range block old.bytes.items new.bytes.items
-            (others block (λ same. clash (sym (both_true (row.0.pnode == new.node.pnode) (row.0.block == block) (ap (λ (q : ℕ). row.0.pnode == q) new_pnode ∙ same_itself row.0.pnode) (ap (λ (b : ℕ). row.0.block == b) same ∙ same_itself row.0.block))
+            (others block (λ same. true≢false (sym (both_true (row.0.pnode == new.node.pnode) (row.0.block == block) (ap (λ (q : ℕ). row.0.pnode == q) new_pnode ∙ same_itself row.0.pnode) (ap (λ (b : ℕ). row.0.block == b) same ∙ same_itself row.0.block))
             ∙ (or_false (row.0.pnode == new.node.pnode && row.0.block == block) false split.1).0)))
             (old_filled.zero block (ap (λ (q : ℕ). has_block (take k rows) q block) (sym same_pnode) ∙ split.0))
 
@@ -157,7 +143,7 @@ module _ (list : List Record) (table : Table) (is : IsTableOf list table) (logge
 
         -- another file stays
         apart_file : (i : ℕ) (f : StartFile) → slice_get files i ≡ Some f → (i ≡ there.number → ⊥) → (row.0.pnode == f.node.pnode) ≡ false
-        apart_file i f has other = elim (test_or (row.0.pnode == f.node.pnode)) [
+        apart_file i f has other = elim (cases_Bool (row.0.pnode == f.node.pnode)) [
           | inl same ↦ absurd (other ((are_made kind.File list logged ranges).single i there.number row.0.pnode
               (place_in i ∙ ap (λ (q : ℕ). Some q) (sym (same_numbers row.0.pnode f.node.pnode same)))
               (ap (λ (l : List ℕ). slice_get l there.number) (files_in list) ∙ number-at list row.0.pnode there.number number_is)))
@@ -202,7 +188,7 @@ module _ (list : List Record) (table : Table) (is : IsTableOf list table) (logge
           where
             earlier : (a p b : Bool) → p ≡ false → (a || ((p && b) || false)) ≡ true → a ≡ true
             earlier true p b apart some = refl
-            earlier false true b apart some = absurd (clash apart)
+            earlier false true b apart some = absurd (true≢false apart)
             earlier false false b apart some = some
 
             in_new : (block : ℕ) → (has_block (take k rows) new.node.pnode block || ((row.0.pnode == new.node.pnode && row.0.block == block) || false)) ≡ true → (i : ℕ) → i ≡ there.number
@@ -219,14 +205,14 @@ module _ (list : List Record) (table : Table) (is : IsTableOf list table) (logge
                     ∙ ap (λ (n : ℕ). found_there (place there.number block) (range_len n block) store) size
                     ∙ ap (λ (n : ℕ). found_there (place n block) (range_len (size_of list new.node.pnode) block) store) (sym number)
                 by_block false other =
-                    others block (λ same. clash (sym (ap (λ (b : ℕ). row.0.block == b) same ∙ same_itself row.0.block) ∙ other))
+                    others block (λ same. true≢false (sym (ap (λ (b : ℕ). row.0.block == b) same ∙ same_itself row.0.block) ∙ other))
                     ∙ read there.number old here block (ap (λ (q : ℕ). has_block (take k rows) q block) (sym same_pnode) ∙ before (has_block (take k rows) new.node.pnode block) (row.0.pnode == new.node.pnode) (row.0.block == block) other some)
                     ∙ ap (λ (q : ℕ). found_there (place there.number block) (range_len (size_of list q) block) store) (sym same_pnode)
                     ∙ ap (λ (n : ℕ). found_there (place n block) (range_len (size_of list new.node.pnode) block) store) (sym number)
                   where
                     before : (a p b : Bool) → b ≡ false → (a || ((p && b) || false)) ≡ true → a ≡ true
                     before true p b apart some = refl
-                    before false p true apart some = absurd (clash apart)
+                    before false p true apart some = absurd (true≢false apart)
                     before false true false apart some = some
                     before false false false apart some = some
 
@@ -235,7 +221,7 @@ module _ (list : List Record) (table : Table) (is : IsTableOf list table) (logge
         same_row i r has = ap not (by_file (file_in table r.0.pnode) refl)
           where
             in_rows : slice_get rows i ≡ Some r
-            in_rows = from_take k rows i r has
+            in_rows = slice_get-take k i rows r has
 
             below : IsBelow r.0 row.0
             below = is.ascending i k r.0 row.0 (within_take k i rows r has) (in_mapped (λ (x : Row). x.0) rows i r in_rows) (in_mapped (λ (x : Row). x.0) rows k row at)
@@ -257,7 +243,7 @@ module _ (list : List Record) (table : Table) (is : IsTableOf list table) (logge
                     ∙ sym (ap (λ (n : ℕ). range r.0.block (bytes_in files n)) number ∙ ap (λ (o : Option StartFile). range r.0.block (option_map_or (λ (f : StartFile). f.bytes.items) o [])) here)
                 by_number false other =
                     ap (λ (o : Option StartFile). range r.0.block (option_map_or (λ (f : StartFile). f.bytes.items) o []))
-                    (set_other files there.number new file.number (λ same. clash (sym (ap (λ (n : ℕ). n == there.number) same ∙ same_itself there.number) ∙ other)))
+                    (set_other files there.number new file.number (λ same. true≢false (sym (ap (λ (n : ℕ). n == there.number) same ∙ same_itself there.number) ∙ other)))
 
         new_row : is_same table after row ≡ bytes_eq (md5 (range row.0.block new.bytes.items)) row.1
         new_row =

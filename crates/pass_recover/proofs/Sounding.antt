@@ -15,6 +15,7 @@ use Rattle.pass_entry.specs.declared.record.Record.{Record}
 use Rattle.pass_entry.specs.declared.record.Record.TheVariants as log
 use Rattle.pass_entry.specs.Ranges.{IsInRange, is_number, is_node, is_name_or_none}
 use Rattle.pass_entry.specs.Texts.{is_name}
+use Rattle.pass_entry.proofs.Places.{filter_mapped, in_either, mapped}
 use Rattle.pass_plain.specs.declared.start.Start.{Start}
 use Rattle.pass_plain.specs.declared.start.StartFile.{StartFile}
 use Rattle.pass_plain.specs.Sessions.{is_opened, opening_version}
@@ -30,7 +31,7 @@ use Rattle.pass_range.proofs.RowFiles.{row_files}
 use Rattle.pass_graph.specs.Logged.{name_in}
 use Rattle.pass_recover.specs.Starts.{IsStartOf, current_node}
 use Rattle.pass_recover.proofs.Counting.{count_first, count_second, entry_found}
-use Rattle.pass_recover.proofs.Elements.{split_at, mapped, in_mapped, in_filter_mapped, filter_mapped}
+use Rattle.pass_recover.proofs.Elements.{in_mapped, in_filter_mapped}
 use Rattle.pass_recover.proofs.Listed.{limited}
 use Rattle.pass_recover.proofs.Made.{AreMade, objects_in, files_in, apps_in, are_made, same_kind_is}
 use Rattle.pass_recover.proofs.Naming.{are_named}
@@ -106,7 +107,7 @@ module _ (list : List Record) (start : Start) (is : IsStartOf list start) (logge
   object_at i o at =
       let files : List (ℕ × Kind) = map (λ (f : StartFile). (f.node.pnode, kind.File)) start.files.items in
       let apps : List (ℕ × Kind) = map (λ (n : Node). (n.pnode, kind.App)) start.apps.items in
-      elim (split_at files apps i o at) [
+      elim (in_either files apps i o at) [
         | inl l ↦ let m = mapped (λ (f : StartFile). (f.node.pnode, kind.File)) start.files.items i o l in inl (m.0, m.1, sym m.2)
         | inr r ↦ let m = mapped (λ (n : Node). (n.pnode, kind.App)) start.apps.items r.0 o r.2 in
             inr (r.0, m.0, (let e = r.1 in let long = length-map {B = ℕ × Kind} start.files.items (λ (f : StartFile). (f.node.pnode, kind.File)) in let z : i ≡ length start.files.items + r.0 = omega (arith, e, long) in z), m.1, sym m.2)

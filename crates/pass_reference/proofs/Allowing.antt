@@ -1,6 +1,6 @@
 -- Whether a caller may make an entry, from what is kept of it.
 use Rattle.std.proofs.Common.{◌≡◌, ◌<◌, ◌+◌, ℕ, zero, suc, List, [], refl, ap, sym, ◌∙◌, subst, arith, inl, inr, Bool, true, false, ◌&&◌, ◌||◌, not, ◌==◌, cond, ◌↔◌, IsTrue}
-use Rattle.std.specs.Prelude.{Option, Some, None}
+use Rattle.std.specs.Prelude.{Option, Some}
 use Rattle.std.proofs.lemmas.Bool.Decides.{nat_tests}
 use Rattle.pass_entry.specs.declared.entry.Entry.{Entry}
 use Rattle.pass_entry.specs.declared.entry.Act.{Act}
@@ -107,11 +107,3 @@ pub judged : (session : Session) (history : List Entry) (e : Entry) (o : Option 
     → (r : Reply) → (o ≡ Some r) ↔ MayFollow session history (record e { reply = r })
 judged session history e o allows same r =
     (λ is. record { replied = sym same ∙ is; acts = allows.acts; step = allows.step }, λ may. same ∙ may.replied)
-
-none_not : (r : Reply) → ◌≡◌ {A = Option Reply} None (Some r) → ⊥
-none_not r e = cc
-
-pub not_judged : (session : Session) (history : List Entry) (e : Entry) → (CallerAllows history e → ⊥)
-    → (r : Reply) → ◌≡◌ {A = Option Reply} None (Some r) ↔ MayFollow session history (record e { reply = r })
-not_judged session history e never r =
-    (λ is. absurd (none_not r is), λ may. absurd (never (record { acts = may.acts; step = may.step })))

@@ -28,14 +28,14 @@ use Rattle.pass_plain.specs.declared.registry.RegistryState.{RegistryState}
 use Rattle.pass_reference.specs.declared.pipe.PipeState.{PipeState}
 use Rattle.pass_reference.specs.declared.callers.Caller.{Caller}
 use Rattle.pass_reference.specs.declared.cache.Cached.{Cached}
-use Rattle.pass_plain.proofs.Lists.{same_numbers, same_itself, some_is}
+use Rattle.pass_plain.proofs.Lists.{same_numbers, same_itself, some_is, different}
 use Rattle.pass_plain.proofs.Replays.{state_after-append, own_step-other}
 use Rattle.pass_plain.proofs.Calling.{last_number-append}
 use Rattle.pass_plain.proofs.Beginning.{begins-cases}
 use Rattle.pass_plain.proofs.Appends.{legal-last}
 use Rattle.pass_plain.proofs.LastCalls.{begun_next}
 use Rattle.pass_plain.proofs.TwoPrefixes.{process-append}
-use Rattle.pass_plain.proofs.KeptFiles.{Leaves, other_leaves, different}
+use Rattle.pass_plain.proofs.KeptFiles.{Leaves, other_leaves}
 use Rattle.pass_reference.proofs.States.{registry_next, caller_next}
 
 pub changes_then : {X : Type 0} (object : ℕ) (a b c : Cached X) → ChangesAt object a b → ChangesAt object b c → ChangesAt object a c

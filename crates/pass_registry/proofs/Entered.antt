@@ -1,15 +1,15 @@
 -- The registry after one more entry on it.
-use Rattle.std.proofs.Common.{◌≡◌, ℕ, ◌+◌, ◌<◌, Bool, true, false, not, cond, List, [], ◌∷◌, ◌++◌, length, get_or, refl, ap, sym, ◌∙◌, arith}
+use Rattle.std.proofs.Common.{◌≡◌, ℕ, ◌+◌, Bool, true, false, not, cond, List, [], ◌∷◌, ◌++◌, length, get_or, refl, ap, sym, ◌∙◌, arith}
 use Rattle.std.specs.Prelude.{Option, Some, None, Result, Ok, Err, OnOk, OnErr, IfOk, IfSome, is_some, slice_get, nat_le, ◌==◌, if◌then◌else◌, bytes_eq}
 use Rattle.std.specs.Option.{ok_or, option_map_or}
 use Rattle.std.specs.List.{list_any}
 use Rattle.std.specs.Cmp.Lexicographic.{nat_list_cmp_total, nat_list_eq_equiv}
 use Rattle.std.specs.FinMap as finite_map
 use Rattle.std.specs.FinMap.{get-remove}
-use Rattle.std.proofs.lemmas.Bool.Decides.{nat_tests}
 use Rattle.std.proofs.lemmas.List.Quantifiers.{position-Some}
 use Rattle.std.proofs.lemmas.Option.{slice_get-get_or}
 use Rattle.std.proofs.lemmas.Map.Text.{is_eq-slice_cmp}
+use Rattle.std.proofs.lemmas.Bool.{leb-false}
 use mathlib.Core.List.{IsPrefix}
 use Rattle.pass_entry.specs.declared.entry.Act.{Act}
 use Rattle.pass_entry.specs.declared.entry.Act.TheVariants as act
@@ -23,6 +23,7 @@ use Rattle.pass_entry.specs.declared.objects.Kind.{Kind}
 use Rattle.pass_entry.specs.declared.objects.Kind.TheVariants as kind
 use Rattle.pass_entry.specs.declared.record.Record.{Record}
 use Rattle.pass_entry.specs.declared.record.Record.TheVariants as log
+use Rattle.pass_entry.proofs.Places.{slice_get-last}
 use Rattle.pass_plain.specs.Histories.{is_fault}
 use Rattle.pass_plain.specs.Sessions.{Session}
 use Rattle.pass_plain.specs.Records.{move_records as plain_records, lost_name, file_named}
@@ -30,13 +31,13 @@ use Rattle.pass_plain.specs.Registries.{Registry, Names, registry_act, registry_
 use Rattle.pass_plain.specs.States.{registry_step}
 use Rattle.pass_plain.specs.Lawful.{AgreeOn}
 use Rattle.pass_plain.proofs.Lists.{same_numbers, or_false}
-use Rattle.pass_plain.proofs.Appends.{slice_get-last, state_after-agrees}
+use Rattle.pass_plain.proofs.Appends.{state_after-agrees}
 use Rattle.pass_plain.proofs.TwoPrefixes.{none_later}
 use Rattle.pass_hold.specs.Callings.{IsEntered}
 use Rattle.pass_hold.proofs.Objects.{object_after}
 use Rattle.pass_registry.specs.Desks.{on_registry, IsMade}
 use Rattle.pass_registry.specs.Files.{files_of, number_of}
-use Rattle.pass_registry.specs.Listed.{lost_by, move_records, unbind_records}
+use Rattle.pass_registry.specs.Listed.{lost_by, move_records}
 use Rattle.pass_registry.specs.Outcomes.{displaced, minted, reply_done, reply_made}
 use Rattle.pass_registry.specs.States.{RegistryState, IsOf, is_full, next_pnode, with_act}
 
@@ -97,9 +98,6 @@ given false p n f e = (refl, ap (λ (r : Result ℕ CallFault). number_in r) e)
     number_in (Ok p) = p
     number_in (Err f) = 0
 
-fewer : (n m : ℕ) → nat_le n m ≡ false → m < n
-fewer n m e = grind (arith, nat_tests)
-
 module _ (session : Session) (seen after : List Entry) (old new : RegistryState) (of : IsOf session old) (was : registry_after session seen ≡ old.registry)
     (is : registry_after session after ≡ new.registry) (k : Kind) where
   pub is_made : (r : Result ℕ CallFault) → r ≡ minted old k → IfOk r (λ p. list_any (λ o. o.0 == p) old.registry.objects ≡ false)
@@ -107,7 +105,7 @@ module _ (session : Session) (seen after : List Entry) (old new : RegistryState)
   is_made (Err f) minted single grown = tt
   is_made (Ok p) minted single grown =
       let (room, number) = given (is_full old k) p (next_pnode old) fault.TooMany minted in
-      let low = fewer old.limit old.registry.made (or_false (nat_le old.limit old.registry.made) _ room).0 in
+      let low = leb-false old.limit old.registry.made (or_false (nat_le old.limit old.registry.made) _ room).0 in
       record {
         next = number ∙ (λ i. (sym of.0) i + (sym was i).made + 1);
         within = (let n : p ≡ old.ceiling + old.registry.made + 1 = number in let c = of.0 in let o = of.1 in omega (arith, n, c, o, low));
@@ -171,17 +169,6 @@ module _ (names : Names) (from to : List ℕ) where
           let is : file ≡ Err fault.NoEntry = found ∙ ap (λ (o : Option ℕ). ok_or o fault.NoEntry) none in
           let done : r ≡ Err fault.NoEntry = answer ∙ ap (λ (o : Option ℕ). if is_some o then Ok (displaced names from to) else Err fault.NoEntry) none in
           (λ i. move_records (is i) (lost_by r) from to) ∙ sym (ap (λ (r : Result (Option ℕ) CallFault). if is_fault (reply_done r) then [] else plain_records names from to) done)
-
--- and those of a name that goes
-pub unbound_records : (names : Names) (name : List ℕ) (r : Result ℕ CallFault) → r ≡ ok_or (finite_map.get names name) fault.NoEntry
-    → unbind_records r ≡ (if is_fault (reply_done r) then [] else log.Name (file_named names name) [] ∷ [])
-unbound_records names name r answer =
-    ap (λ (r : Result ℕ CallFault). unbind_records r) answer ∙ by_name (finite_map.get names name)
-    ∙ sym (ap (λ (r : Result ℕ CallFault). if is_fault (reply_done r) then [] else log.Name (file_named names name) [] ∷ []) answer)
-  where
-    by_name : (o : Option ℕ) → unbind_records (ok_or o fault.NoEntry) ≡ (if is_fault (reply_done (ok_or o fault.NoEntry)) then [] else log.Name (option_map_or (λ (f : ℕ). f) o 0) [] ∷ [])
-    by_name (Some f) = refl
-    by_name None = refl
 
 -- The number of a file
 

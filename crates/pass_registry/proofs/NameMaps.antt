@@ -1,5 +1,5 @@
 -- Ascending entries and the map that they stand for.
-use Rattle.std.proofs.Common.{◌≡◌, ℕ, ◌+◌, ◌≤◌, Bool, true, false, not, cond, List, length, refl, ap, sym, ◌∙◌, subst, arith}
+use Rattle.std.proofs.Common.{◌≡◌, ℕ, ◌+◌, ◌≤◌, Bool, true, false, not, cond, List, length, refl, ap, sym, ◌∙◌, arith}
 use Rattle.std.specs.Prelude.{Option, Some, None, is_some, T}
 use Rattle.std.specs.Option.{option_map_or}
 use Rattle.std.specs.Ordering.{nat_cmp, eq_by_cmp, is_eq}
@@ -7,6 +7,7 @@ use Rattle.std.specs.Cmp.{tied_itself}
 use Rattle.std.specs.Cmp.Lexicographic.{slice_cmp, nat_list_cmp_total}
 use Rattle.std.specs.FinMap.{get, find, put, remove, insert, get-from_entries, get-insert, get-remove, same_map, slice_cmp-IsAntisymmetric, nat_cmp-IsAntisymmetric}
 use Rattle.std.specs.FinMap.Entries.{is_sorted-put, is_sorted-where_key, find-put, length-put, length_without}
+use Rattle.std.proofs.lemmas.Float.{T_from_true}
 use Rattle.pass_plain.specs.Registries.{Names, renamed}
 use Rattle.pass_plain.proofs.NameMaps.{map_without, insert_removed, same_texts}
 use Rattle.pass_registry.specs.Outcomes.{displaced}
@@ -16,18 +17,15 @@ is_true : (b : Bool) → T b → b ≡ true
 is_true true t = refl
 is_true false t = absurd t
 
-shown : (b : Bool) → b ≡ true → T b
-shown b e = subst T (sym e) tt
-
 -- what is found among entries is what their map has
 pub found_is : (name : List ℕ) (es : Entries) → find (slice_cmp nat_cmp) name es ≡ get (map_of es) name
 found_is name es = sym (get-from_entries nat_list_cmp_total es name)
 
 pub ascending_put : (name : List ℕ) (file : ℕ) (es : Entries) → IsAscending es → IsAscending (put (slice_cmp nat_cmp) name file es)
-ascending_put name file es ascending = is_true _ (is_sorted-put (slice_cmp nat_cmp) nat_list_cmp_total name file es (shown _ ascending))
+ascending_put name file es ascending = is_true _ (is_sorted-put (slice_cmp nat_cmp) nat_list_cmp_total name file es (T_from_true _ ascending))
 
 pub ascending_without : (name : List ℕ) (es : Entries) → IsAscending es → IsAscending (without name es)
-ascending_without name es ascending = is_true _ (is_sorted-where_key (slice_cmp nat_cmp) (λ x. not (eq_by_cmp (slice_cmp nat_cmp) name x)) es (shown _ ascending))
+ascending_without name es ascending = is_true _ (is_sorted-where_key (slice_cmp nat_cmp) (λ x. not (eq_by_cmp (slice_cmp nat_cmp) name x)) es (T_from_true _ ascending))
 
 pub map_put : (name : List ℕ) (file : ℕ) (es : Entries) → map_of (put (slice_cmp nat_cmp) name file es) ≡ insert (map_of es) name file
 map_put name file es =
@@ -49,7 +47,7 @@ counted false a n e f = sym e
 -- a new name makes the entries one longer
 pub longer : (name : List ℕ) (file : ℕ) (es : Entries) → IsAscending es → find (slice_cmp nat_cmp) name es ≡ None → length (put (slice_cmp nat_cmp) name file es) ≡ length es + 1
 longer name file es ascending free =
-    counted _ _ _ (sym (length-put (slice_cmp nat_cmp) nat_list_cmp_total name file es (shown _ ascending))) (ap is_some free)
+    counted _ _ _ (sym (length-put (slice_cmp nat_cmp) nat_list_cmp_total name file es (T_from_true _ ascending))) (ap is_some free)
 
 fewer_or_same : (b : Bool) (a n : ℕ) → cond b 1 0 + a ≡ n → a ≤ n
 fewer_or_same true a n e = omega arith
@@ -60,11 +58,11 @@ one_fewer true a n e t = omega arith
 one_fewer false a n e t = absurd (cc)
 
 pub no_longer : (name : List ℕ) (es : Entries) → IsAscending es → length (without name es) ≤ length es
-no_longer name es ascending = fewer_or_same _ _ _ (length_without (slice_cmp nat_cmp) nat_list_cmp_total name es (shown _ ascending))
+no_longer name es ascending = fewer_or_same _ _ _ (length_without (slice_cmp nat_cmp) nat_list_cmp_total name es (T_from_true _ ascending))
 
 -- a name that goes makes them one shorter
 pub shorter : (name : List ℕ) (file : ℕ) (es : Entries) → IsAscending es → find (slice_cmp nat_cmp) name es ≡ Some file → length (without name es) + 1 ≡ length es
-shorter name file es ascending found = one_fewer _ _ _ (length_without (slice_cmp nat_cmp) nat_list_cmp_total name es (shown _ ascending)) (ap is_some found)
+shorter name file es ascending found = one_fewer _ _ _ (length_without (slice_cmp nat_cmp) nat_list_cmp_total name es (T_from_true _ ascending)) (ap is_some found)
 
 -- the name goes, then the other one, and then that one gets the file
 pub map_renamed : (from to : List ℕ) (file : ℕ) (es : Entries) → get (map_of es) from ≡ Some file

@@ -10,11 +10,11 @@ use Rattle.std.proofs.Math.Seq.{take-append-add}
 use Rattle.pass_entry.specs.declared.objects.Kind.{Kind}
 use Rattle.pass_entry.specs.declared.objects.Kind.TheVariants as kind
 use Rattle.pass_entry.specs.Limits.{kind_limit}
+use Rattle.pass_entry.proofs.Places.{slice_get-take}
 use Rattle.pass_plain.specs.declared.start.StartFile.{StartFile}
 use Rattle.pass_plain.specs.Registries.{same_kind}
 use Rattle.pass_plain.proofs.Appends.{slice_get-append}
 use Rattle.pass_plain.proofs.Lists.{any_at, same_numbers, some_is, within_take}
-use Rattle.pass_plain.proofs.Replays.{slice_get-take}
 use Rattle.pass_registry.specs.Openings.{IsSingle, file_object}
 use Rattle.pass_registry.specs.Tables.{count_in}
 

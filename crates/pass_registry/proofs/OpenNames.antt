@@ -12,8 +12,9 @@ use Rattle.pass_plain.specs.declared.start.StartFile.{StartFile}
 use Rattle.pass_plain.specs.Registries.{named_file}
 use Rattle.pass_plain.proofs.Lists.{within_take}
 use Rattle.pass_plain.proofs.NameMaps.{same_texts}
-use Rattle.pass_plain.proofs.Replays.{take-next, slice_get-take}
+use Rattle.pass_plain.proofs.Replays.{take-next}
 use Rattle.pass_registry.specs.Places.{Entries, IsNamedOnce}
+use Rattle.pass_entry.proofs.Places.{slice_get-take}
 
 -- some file of the list has the name
 abbrev pub HasName : List ℕ → List StartFile → Type 0

@@ -10,7 +10,7 @@ use Rattle.std.proofs.lemmas.List.Sums.{sum_by-append}
 use Rattle.pass_entry.specs.declared.objects.Kind.{Kind}
 use Rattle.pass_entry.specs.declared.objects.Kind.TheVariants as kind
 use Rattle.pass_plain.specs.Registries.{same_kind}
-use Rattle.pass_plain.proofs.Lists.{same_numbers, same_itself, some_is, or_false}
+use Rattle.pass_plain.proofs.Lists.{same_numbers, same_itself, some_is, or_false, turned}
 use Rattle.pass_registry.specs.declared.objects.Object.{Object}
 use Rattle.pass_registry.specs.declared.objects.Object.TheVariants as object
 use Rattle.pass_registry.specs.Files.{files_of, number_of}
@@ -18,9 +18,6 @@ use Rattle.pass_registry.specs.Tables.{kind_of, object_of, IsTable, is_app_in, n
 
 abbrev pub Table : Type 0
 Table = List (ℕ × Object)
-
-eq_turned : (a b : ℕ) → (a == b) ≡ (b == a)
-eq_turned a b = grind (arith, nat_tests)
 
 -- a key that is no key of the others isn't found among them
 not_found : (k : ℕ) (t : Table) → AllByRecursion (λ y. nat_eq k y ≡ false) (keys_of t) → lookup (nat_eq k) t ≡ None
@@ -41,7 +38,7 @@ is_found k x objects = is_some (find (λ o. o.0 == k && same_kind o.1 x) objects
 -- the first object of a list is passed over where its number is another one
 found_next : (k : ℕ) (x : Kind) (o : ℕ × Kind) (objects : List (ℕ × Kind)) (b : Bool) → nat_eq k o.0 ≡ b
     → is_found k x (o ∷ objects) ≡ is_some (cond (b && same_kind o.1 x) (Some o) (find (λ o. o.0 == k && same_kind o.1 x) objects))
-found_next k x o objects b e = ap (λ b. is_some (cond (b && same_kind o.1 x) (Some o) (find (λ o. o.0 == k && same_kind o.1 x) objects))) (eq_turned o.0 k ∙ e)
+found_next k x o objects b e = ap (λ b. is_some (cond (b && same_kind o.1 x) (Some o) (find (λ o. o.0 == k && same_kind o.1 x) objects))) (turned o.0 k ∙ e)
 
 -- a key that isn't in the table is no object's number
 none_found : (k : ℕ) (x : Kind) (t : Table) → lookup (nat_eq k) t ≡ None → is_found k x (kinds_of t) ≡ false
@@ -106,7 +103,7 @@ none_tail false o r e = (refl, e)
 pub number-cons : (k q : ℕ) (objects : List (ℕ × Kind)) (b : Bool) → nat_eq k q ≡ b
     → number_of ((q, kind.File) ∷ objects) k ≡ cond b (Some 0) (option_map suc (number_of objects k))
 number-cons k q objects b e =
-    position-cons (λ p. p == k) q (files_of objects) ∙ ap (λ b. cond b (Some 0) (option_map suc (number_of objects k))) (eq_turned q k ∙ e)
+    position-cons (λ p. p == k) q (files_of objects) ∙ ap (λ b. cond b (Some 0) (option_map suc (number_of objects k))) (turned q k ∙ e)
 
 -- a key that isn't in the table is no file's number
 no_file : (k : ℕ) (t : Table) → lookup (nat_eq k) t ≡ None → number_of (kinds_of t) k ≡ None
@@ -212,7 +209,7 @@ pub absent : (p : ℕ) (t : Table) → list_any (λ (o : ℕ × Kind). o.0 == p)
 absent p [] none = refl
 absent p (e ∷ t) none =
     let (other, rest) = or_false (e.0 == p) (list_any (λ (o : ℕ × Kind). o.0 == p) (kinds_of t)) none in
-    ap (λ b. cond b (Some e.1) (lookup (nat_eq p) t)) (eq_turned p e.0 ∙ other) ∙ absent p t rest
+    ap (λ b. cond b (Some e.1) (lookup (nat_eq p) t)) (turned p e.0 ∙ other) ∙ absent p t rest
 
 some_suc : (o : Option ℕ) → IsSome (option_map suc o) → IsSome o
 some_suc None some = some

@@ -5,18 +5,18 @@ use Rattle.std.specs.Option.{option_map_or}
 use Rattle.std.specs.List.{list_any}
 use Rattle.std.proofs.lemmas.List.Folds.{list_any-append}
 use Rattle.std.proofs.lemmas.Option.{slice_get_within}
+use Rattle.std.proofs.lemmas.List.{append-nil}
 use Rattle.pass_entry.specs.declared.entry.Entry.{Entry}
+use Rattle.pass_entry.proofs.Places.{Contains-place}
 use Rattle.pass_plain.specs.Sessions.{Session}
 use Rattle.pass_plain.specs.Legal.{is_over}
 use Rattle.pass_plain.specs.Traces.{Line, LineCall, given, write_last, fork_as, wait_for, lines_of, calls_of}
 use Rattle.pass_plain.specs.Runs.{pnode_of_process, is_open, first, forked_by}
 use Rattle.pass_plain.proofs.Lists.{same_numbers, any_of, same_itself}
-use Rattle.pass_plain.proofs.Replays.{append-nil}
 use Rattle.pass_replay.specs.Ends.{NoneOpen}
 use Rattle.pass_replay.specs.Lines.{is_fork_of, is_there, AreLinesBehind}
 use Rattle.pass_replay.specs.Making.{IsRunSoFar}
 use Rattle.pass_replay.proofs.Positions.{line_of_parts}
-use Rattle.pass_replay.proofs.Parts.{at_contains}
 use Rattle.pass_replay.proofs.Begun.{child_has_begun, first_has_begun}
 use Rattle.pass_replay.proofs.NextCalls.{over_within, calls_length}
 
@@ -87,7 +87,7 @@ module _ (session : Session) (trace : List Line) (behind : AreLinesBehind [] tra
   none_open process of_trace = elim of_trace as (λ process t. is_open session trace history process ≡ false) [
     | first ↦ closed 1 _ (first_has_begun session trace history so_far.some)
     | forked_by l child is forks ↦
-        let (k, at) = at_contains trace l is in
+        let (k, at) = Contains-place trace l is in
         let (w, there) = all_begun [] trace refl behind first_only child (there_of k child l at forks) in
         closed child w there
   ]

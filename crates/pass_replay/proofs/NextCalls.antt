@@ -1,13 +1,13 @@
 -- The next call of a process of a run.
-use Rattle.std.proofs.Common.{◌≡◌, ◌<◌, ◌≤◌, ◌+◌, ◌-◌, ℕ, suc, List, [], ◌∷◌, ◌++◌, length, take, map, refl, ap, sym, ◌∙◌, subst, arith, ◌⊎◌, inl, inr, Bool, true, false, ◌||◌, ◌==◌, cond, append_assoc}
+use Rattle.std.proofs.Common.{◌≡◌, ◌<◌, ◌≤◌, ◌+◌, ◌-◌, ℕ, suc, List, [], ◌∷◌, ◌++◌, length, take, map, refl, ap, sym, ◌∙◌, subst, arith, ◌⊎◌, inl, inr, Bool, true, false, ◌==◌, cond, append_assoc}
 use Rattle.std.specs.Prelude.{Option, Some, None, option_map, slice_get, nat_le}
 use Rattle.std.specs.Option.{option_map_or}
 use Rattle.std.specs.List.{position_or_len}
-use Rattle.std.proofs.lemmas.List.{length-append, length-map, length-take}
+use Rattle.std.proofs.lemmas.List.{length-append, length-map, length-take, append-nil}
 use Rattle.std.proofs.lemmas.Option.{slice_get-map, slice_get_within}
-use Rattle.std.proofs.lemmas.Bool.{cases_lt}
-use Rattle.std.proofs.lemmas.Bool.Decides.{nat_tests}
+use Rattle.std.proofs.lemmas.Bool.{cases_lt, or_right, le-leb}
 use Rattle.pass_entry.specs.declared.entry.Entry.{Entry}
+use Rattle.pass_entry.proofs.Places.{slice_get-take}
 use Rattle.pass_plain.specs.declared.request.Request.{Request}
 use Rattle.pass_plain.specs.declared.request.Request.TheVariants as requests
 use Rattle.pass_plain.specs.Histories.{call_entries, is_fault, is_of_call}
@@ -17,10 +17,9 @@ use Rattle.pass_plain.specs.Calls.{Made, Step, name_of, is_within, is_fd, call_s
 use Rattle.pass_plain.specs.Legal.{IsLegal, before_call, is_over, ends_call, last_number, is_start, step_of}
 use Rattle.pass_plain.specs.Traces.{Line, LineCall, given, write_last, fork_as, wait_for, name_of_call, lines_of, calls_of, request_of}
 use Rattle.pass_plain.specs.Runs.{pnode_of_process, next_number, request_at}
-use Rattle.pass_plain.proofs.Lists.{some_is, same_numbers, both_true, is_place}
+use Rattle.pass_plain.proofs.Lists.{some_is, same_numbers, both_true, is_place, alike}
 use Rattle.pass_plain.specs.CallLaws.{IsBegun}
 use Rattle.pass_plain.specs.NextSteps.{AreOfCall}
-use Rattle.pass_plain.proofs.Replays.{append-nil, slice_get-take}
 use Rattle.pass_plain.proofs.Appends.{place_of}
 use Rattle.pass_plain.proofs.Calling.{legal_take, numbered}
 use Rattle.pass_plain.proofs.Counts.{read_law}
@@ -28,7 +27,7 @@ use Rattle.pass_plain.proofs.Ending.{step_end_law}
 use Rattle.pass_plain.proofs.Playing.{no_calls}
 use Rattle.pass_replay.specs.Lines.{is_given, IsLineCall, IsLineBehind, AreLinesBehind}
 use Rattle.pass_replay.specs.Making.{IsRunSoFar}
-use Rattle.pass_replay.proofs.Positions.{equal, StandsAt, stands_at}
+use Rattle.pass_replay.proofs.Positions.{StandsAt, stands_at}
 use Rattle.pass_replay.proofs.StepKinds.{some_step}
 
 -- the number of the next call
@@ -125,13 +124,10 @@ named_call pnode last (write_last fd) = refl
 named_call pnode last (fork_as child) = refl
 named_call pnode last (wait_for child) = refl
 
-at_most_is : (a b : ℕ) → a ≤ b → nat_le a b ≡ true
-at_most_is a b h = grind (arith, nat_tests)
-
 pub within_call : (pnode : ℕ → ℕ) (last : List ℕ) (call : LineCall) → IsAnyCall call → length last ≤ 4096 → is_within (request_of pnode last call) ≡ true
 within_call pnode last (given r) (inl line) short = line.1
 within_call pnode last (given r) (inr exit) short = let z : r ≡ requests.Exit = cc in ap (λ r. is_within r) z
-within_call pnode last (write_last fd) (inl line) short = both_true (is_fd fd) (nat_le (length last) 4096) line (at_most_is (length last) 4096 short)
+within_call pnode last (write_last fd) (inl line) short = both_true (is_fd fd) (nat_le (length last) 4096) line (le-leb (length last) 4096 short)
 within_call pnode last (write_last fd) (inr exit) short = absurd (cc)
 within_call pnode last (fork_as child) any short = refl
 within_call pnode last (wait_for child) any short = refl
@@ -141,12 +137,8 @@ pub last_read_short : (session : Session) (history : List Entry) (who number : �
 last_read_short session history who number legal =
     (read_law session (take (position_or_len (is_of_call who number) history) history) (legal_take session history (position_or_len (is_of_call who number) history) legal)).1 who
 
-or_right : (a b : Bool) → b ≡ true → a || b ≡ true
-or_right true b h = refl
-or_right false b h = h
-
 -- where a call has made all its steps it is over
-all_made_over : (who : ℕ) (p : Process) (made : Made) (r : Request) → AreOfCall made (name_of r) → IsBegun who p made r → length (call_steps who p made r) ≤ length made → ends_call p made ≡ true
+pub all_made_over : (who : ℕ) (p : Process) (made : Made) (r : Request) → AreOfCall made (name_of r) → IsBegun who p made r → length (call_steps who p made r) ≤ length made → ends_call p made ≡ true
 all_made_over who p made r called begun all =
     let steps = call_steps who p made r in
     let size : length made ≡ length (take (length made) steps) = sym (length-map made step_of) ∙ ap length begun in
@@ -158,7 +150,7 @@ all_made_over who p made r called begun all =
     (ap (λ (xs : List Step). slice_get xs (length made - 1)) (sym begun) ∙ slice_get-map step_of made (length made - 1) ∙ ap (λ o. option_map step_of o) at) in
     let last : is_last_act p (name_of r) m.1.act ≡ (suc (length made - 1) == length steps) = step_end_law who p made r (length made - 1) (step_of m) step in
     let end : is_last_act p m.1.call m.1.act ≡ true =
-    ap (λ name. is_last_act p name m.1.act) (called (length made - 1) m at) ∙ last ∙ equal (suc (length made - 1)) (length steps) (omega (arith, some, whole)) in
+    ap (λ name. is_last_act p name m.1.act) (called (length made - 1) m at) ∙ last ∙ alike (suc (length made - 1)) (length steps) (omega (arith, some, whole)) in
     ap (λ o. option_map_or (λ (s : ℕ × Entry). is_last p s.1) o false) at ∙ or_right (is_fault m.1.reply) (is_last_act p m.1.call m.1.act) end
 
 -- a process of a run, which has a call left

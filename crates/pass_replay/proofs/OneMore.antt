@@ -3,6 +3,7 @@ use Rattle.std.proofs.Common.{◌≡◌, ◌≢◌, ◌<◌, ◌≤◌, ◌+◌,
 use Rattle.std.specs.Prelude.{Some, slice_get}
 use Rattle.std.specs.Option.{option_map_or}
 use Rattle.std.proofs.lemmas.Option.{slice_get_within}
+use Rattle.std.proofs.lemmas.Bool.{or_right}
 use Rattle.pass_entry.specs.declared.entry.Entry.{Entry}
 use Rattle.pass_entry.specs.declared.entry.Act.TheVariants as act
 use Rattle.pass_entry.specs.declared.entry.CallName.TheVariants as call_name
@@ -15,21 +16,22 @@ use Rattle.pass_plain.specs.Calls.{Made, name_of, call_steps, is_last, is_last_a
 use Rattle.pass_plain.specs.Legal.{MayFollow, before_call, is_over, last_number, step_of, is_start}
 use Rattle.pass_plain.specs.Traces.{Line, LineCall, given, write_last, fork_as, wait_for, name_of_call, lines_of, calls_of}
 use Rattle.pass_plain.specs.Runs.{pnode_of_process, next_number, request_at, steps_at, IsRun}
-use Rattle.pass_plain.proofs.Lists.{some_is, same_numbers}
+use Rattle.pass_plain.proofs.Lists.{some_is, same_numbers, alike, different}
 use Rattle.pass_plain.proofs.Appends.{place_of, slice_get-append}
 use Rattle.pass_plain.proofs.Beginning.{begins-cases}
 use Rattle.pass_plain.proofs.Calling.{numbered, of_call, last_number-append}
 use Rattle.pass_plain.proofs.Going.{begun_law}
 use Rattle.pass_plain.proofs.LastCalls.{begun_next}
 use Rattle.pass_plain.proofs.Playing.{zero_not}
+use Rattle.pass_plain.proofs.OtherCalls.{last_none, other_entries}
 use Rattle.pass_replay.specs.Lines.{AreLinesBehind}
 use Rattle.pass_replay.specs.Making.{IsRunSoFar, IsNextEntry}
-use Rattle.pass_replay.proofs.Positions.{unequal, equal, lines-append}
+use Rattle.pass_replay.proofs.Positions.{lines-append}
 use Rattle.pass_replay.proofs.Begun.{child_has_begun}
 use Rattle.pass_replay.proofs.StepKinds.{is_born}
 use Rattle.pass_replay.proofs.NextCalls.{call_cases, line_behind, is_begun, named, is_ordinary, earlier_over}
-use Rattle.pass_replay.proofs.Entries.{own_is, own_entries, own_state, other_entries, other_state, made_or_not, nothing_by, last_none}
-use Rattle.pass_replay.proofs.Births.{fork_call, own, longer_legal, over_stays, last_act, kind_is, any, New, child_is, silent, no_entries, mono, back, child_now, or_right}
+use Rattle.pass_replay.proofs.Entries.{own_is, own_entries, own_state, other_state, made_or_not, nothing_by}
+use Rattle.pass_replay.proofs.Births.{fork_call, own, longer_legal, over_stays, last_act, kind_is, any, New, child_is, silent, no_entries, mono, back, child_now}
 
 module _ (session : Session) (trace : List Line) (behind : AreLinesBehind [] trace) (history : List Entry) (so_far : IsRunSoFar session trace history)
     (process who done : ℕ) (call : LineCall) (begun : pnode_of_process session trace history process ≡ Some who)
@@ -73,10 +75,10 @@ module _ (session : Session) (trace : List Line) (behind : AreLinesBehind [] tra
   earlier = earlier_over session trace behind history so_far process who done call begun stands next
 
   pub last_after : last_number longer who ≡ done + 1
-  last_after = last_number-append history e who ∙ ap (λ b. cond b e.number (last_number history who)) (equal e.who who is.by) ∙ is.counted
+  last_after = last_number-append history e who ∙ ap (λ b. cond b e.number (last_number history who)) (alike e.who who is.by) ∙ is.counted
 
   pub last_other : (w : ℕ) → w ≢ who → last_number longer w ≡ last_number history w
-  last_other w apart = last_number-append history e w ∙ ap (λ b. cond b e.number (last_number history w)) (unequal e.who w (λ same. apart (sym same ∙ is.by)))
+  last_other w apart = last_number-append history e w ∙ ap (λ b. cond b e.number (last_number history w)) (different e.who w (λ same. apart (sym same ∙ is.by)))
 
   -- a child that is waited for keeps its pnode
   waited : (p w n q : ℕ) → pnode_of_process session trace history p ≡ Some w → slice_get (calls_of trace p) n ≡ Some (wait_for q) → ((k : ℕ) → 1 ≤ k → k ≤ n → is_over history w k ≡ true)
@@ -219,7 +221,7 @@ module _ (session : Session) (trace : List Line) (behind : AreLinesBehind [] tra
           let same = same_numbers w who t in
           let last = ap (λ w. last_number longer w) same ∙ last_after in
           ap (λ w. is_over longer w n) same ∙ still_over who n (earlier n low (omega (arith, last, below)))
-      at_test false t = begun_or (λ same. let z : true ≡ false = sym (equal w who same) ∙ t in cc) (has_begun history w) refl
+      at_test false t = begun_or (λ same. let z : true ≡ false = sym (alike w who same) ∙ t in cc) (has_begun history w) refl
 
   few_after : (p w : ℕ) → pnode_of_process session trace longer p ≡ Some w → last_number longer w ≤ length (calls_of trace p)
   few_after p w at = elim (goes_to p w at) [
@@ -236,7 +238,7 @@ module _ (session : Session) (trace : List Line) (behind : AreLinesBehind [] tra
           let size = ap (λ p. length (calls_of trace p)) one in
           omega (arith, within, last, size)
       at_test old false t =
-          let other = last_other w (λ same. let z : true ≡ false = sym (equal w who same) ∙ t in cc) in
+          let other = last_other w (λ same. let z : true ≡ false = sym (alike w who same) ∙ t in cc) in
           let most = so_far.run.last p w old in
           omega (arith, other, most)
 

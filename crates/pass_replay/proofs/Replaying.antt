@@ -5,6 +5,7 @@ use Rattle.std.specs.Option.{option_map_or}
 use Rattle.std.proofs.lemmas.List.{take_all, take-append-le}
 use Rattle.pass_entry.specs.declared.entry.Entry.{Entry}
 use Rattle.pass_entry.specs.declared.entry.CallName.TheVariants as call_name
+use Rattle.pass_entry.proofs.Places.{within_front, take_one_more}
 use Rattle.pass_plain.specs.declared.request.Request.TheVariants as requests
 use Rattle.pass_plain.specs.Histories.{call_entries, is_fault}
 use Rattle.pass_plain.specs.Sessions.{Session}
@@ -23,7 +24,6 @@ use Rattle.pass_replay.specs.Making.{IsNextEntry, IsRunSoFar, first_entry, entri
 use Rattle.pass_replay.specs.Members.{KnowsChildren, IsLineStep, Member, HasMember}
 use Rattle.pass_replay.specs.Needs.{need_of_line, places_of}
 use Rattle.pass_replay.specs.Replays.{HasRun, RunLaw}
-use Rattle.pass_replay.proofs.Parts.{take_next, own_within}
 use Rattle.pass_replay.proofs.Sums.{count-le_sum}
 use Rattle.pass_replay.proofs.Begun.{child_has_begun}
 use Rattle.pass_replay.proofs.NextCalls.{IsAnyCall, call_cases, any_call, earlier_over, named}
@@ -60,7 +60,7 @@ module _ (session : Session) (trace : List Line) (members : List Member) (histor
   next : (n : ℕ) → n < length history → 1 ≤ n → IsAt n → IsAt (suc n)
   next n short some at =
       let (e, stands) = is_place history n short in
-      let longer : take (suc n) history ≡ take n history ++ e ∷ [] = take_next history n e stands in
+      let longer : take (suc n) history ≡ take n history ++ e ∷ [] = take_one_more history n e stands in
       let follows : MayFollow session (take n history) e = ran.told.legal n e stands in
       elim (acts-cases (take n history) e follows.acts) [
         | inl start ↦
@@ -79,7 +79,7 @@ module _ (session : Session) (trace : List Line) (members : List Member) (histor
           let m = has.member in
           let parts = (ran.told.begins m has.among).1 in
           let mine : (e.who == m.who) ≡ true = ap (λ w. w == m.who) (sym has.is) ∙ same_itself m.who in
-          let (less, there) = own_within (λ (f : Entry). f.who == m.who) m.seen (ran.told.begins m has.among).0 history n e parts
+          let (less, there) = within_front (λ (f : Entry). f.who == m.who) m.seen (ran.told.begins m has.among).0 history n e parts
           (none_later (λ (e : Entry). e.who == m.who) m.seen (ran.told.begins m has.among).0 history parts (ran.told.agrees m has.among)) stands mine in
           let front : take n m.seen ≡ take n history = sym (take-append-le n m.seen (ran.told.begins m has.among).0 (omega (arith, less))) ∙ ap (λ h. take n h) parts in
           let own = (ran.made.make m has.among).steps n e there (sym has.is) in

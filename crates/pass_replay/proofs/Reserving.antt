@@ -5,6 +5,7 @@ use Rattle.std.specs.Option.{option_map_or}
 use Rattle.std.specs.List.{cons_option}
 use Rattle.std.proofs.lemmas.Option.{slice_get_within}
 use Rattle.std.proofs.lemmas.List.Sums.{sum_by-cons, sum_by_push}
+use Rattle.std.proofs.lemmas.Bool.{or_right, and_right}
 use Rattle.pass_entry.specs.declared.entry.Entry.{Entry}
 use Rattle.pass_entry.specs.declared.entry.Act.{Act}
 use Rattle.pass_entry.specs.declared.entry.Act.TheVariants as act
@@ -22,18 +23,18 @@ use Rattle.pass_plain.specs.Lawful.{most_steps}
 use Rattle.pass_plain.specs.Legal.{MayFollow, before_call, is_over, is_start}
 use Rattle.pass_plain.specs.Traces.{Line, LineCall, given, write_last, fork_as, wait_for, name_of_call, lines_of, calls_of}
 use Rattle.pass_plain.specs.Runs.{pnode_of_process, next_number, request_at}
-use Rattle.pass_plain.proofs.Lists.{some_is, same_numbers, is_place, true_left}
+use Rattle.pass_plain.proofs.Lists.{some_is, same_numbers, is_place, true_left, alike, different}
 use Rattle.pass_plain.proofs.Counts.{step_count_law}
 use Rattle.pass_plain.proofs.HeldPlaces.{share_law, call_next, child_exit, child_call, first_places_law}
 use Rattle.pass_plain.proofs.Playing.{no_calls}
+use Rattle.pass_plain.proofs.OtherCalls.{other_entries}
 use Rattle.pass_replay.specs.Lines.{is_given, IsLineCall, AreLinesBehind}
 use Rattle.pass_replay.specs.Making.{IsRunSoFar, IsNextEntry, first_entry, entries_made, sum_lines}
 use Rattle.pass_replay.specs.Needs.{need_of_line, places_of}
-use Rattle.pass_replay.proofs.Positions.{equal, unequal}
 use Rattle.pass_replay.proofs.Sums.{NoneMore, sum-le, sum-less}
 use Rattle.pass_replay.proofs.NextCalls.{call_cases, calls_length, is_left, is_ordinary, lives, named, none_above, numbered_as, line_behind}
-use Rattle.pass_replay.proofs.Entries.{own_entries, other_entries, made_or_not}
-use Rattle.pass_replay.proofs.Births.{own, any, back, born_entry, fork_call, kind_is, no_entries, or_right, silent}
+use Rattle.pass_replay.proofs.Entries.{own_entries, made_or_not}
+use Rattle.pass_replay.proofs.Births.{own, any, back, born_entry, fork_call, kind_is, no_entries, silent}
 use Rattle.pass_replay.proofs.Lives.{apart_if}
 use Rattle.pass_replay.proofs.StepKinds.{is_born}
 use Rattle.pass_replay.proofs.Rooms.{entries_more, entries_before, entries_after, few}
@@ -56,10 +57,6 @@ begun_or : (c : CallName) (a : Act) (what : ℕ) (y : Reply) → is_start c ≡ 
 begun_or call_name.Start a what y ordinary = absurd (cc)
 begun_or _ (act.Born out descriptors) what y ordinary = inr (out, descriptors, refl, refl)
 begun_or _ _ what y ordinary = inl refl
-
-and_false : (a b : Bool) → b ≡ false → a && b ≡ false
-and_false true b h = h
-and_false false b h = refl
 
 -- a line's call has another name than exit
 given_not_exit : (r : Request) → is_given r ≡ true → is_exit (name_of r) ≡ false
@@ -162,7 +159,7 @@ module _ (session : Session) (trace : List Line) (behind : AreLinesBehind [] tra
       at true t =
           let more = entries_more session trace behind history so_far process who done call begun stands next e follows is p n in
           let none : entries_made session trace history p n ≡ 0 = (let z = same_numbers (entries_made session trace longer p n) 0 t in omega (arith, more, z)) in
-          (let z = ap (λ b. cond b (need_of_line c) 0) (equal (entries_made session trace history p n) 0 none) in omega (arith, z))
+          (let z = ap (λ b. cond b (need_of_line c) 0) (alike (entries_made session trace history p n) 0 none) in omega (arith, z))
 
   unmade_less : unmade session trace longer ≤ unmade session trace history
   unmade_less = sum-le _ _ [] trace none_more
@@ -173,8 +170,8 @@ module _ (session : Session) (trace : List Line) (behind : AreLinesBehind [] tra
       (let before = entries_before session trace behind history so_far process who done call begun stands next e follows is in
       let after = entries_after session trace behind history so_far process who done call begun stands next e follows is in
       let size = ap length none in
-      let a = ap (λ b. cond b (need_of_line l.call) 0) (unequal (entries_made session trace longer process (done + 1)) 0 (λ z. omega (arith, after, z))) in
-      let b = ap (λ b. cond b (need_of_line l.call) 0) (equal (entries_made session trace history process (done + 1)) 0 (before ∙ size)) in
+      let a = ap (λ b. cond b (need_of_line l.call) 0) (different (entries_made session trace longer process (done + 1)) 0 (λ z. omega (arith, after, z))) in
+      let b = ap (λ b. cond b (need_of_line l.call) 0) (alike (entries_made session trace history process (done + 1)) 0 (before ∙ size)) in
       let c = ap need_of_line same in
       omega (arith, a, b, c))
 
@@ -184,7 +181,7 @@ module _ (session : Session) (trace : List Line) (behind : AreLinesBehind [] tra
   Pays more = 1 + more + (exit_places longer who + call_places longer who) + unmade session trace longer ≤ exit_places history who + call_places history who + unmade session trace history
 
   exit_same : is_exit e.call ≡ false → exit_places longer who ≡ exit_places history who
-  exit_same other = ap (λ n. 65 - n) (exits-none who history e (and_false (e.who == who) (is_exit e.call) other))
+  exit_same other = ap (λ n. 65 - n) (exits-none who history e (and_right (e.who == who) (is_exit e.call) other))
 
   few_made : is_exit e.call ≡ false → length made < need
   few_made other =
@@ -210,7 +207,7 @@ module _ (session : Session) (trace : List Line) (behind : AreLinesBehind [] tra
       let name : e.call ≡ call_name.Exit = name_is ∙ ap name_of_call exit in
       let number : length (calls_of trace process) ≡ done + 1 = (let z = calls_length trace process in omega (arith, z, last)) in
       let counted : count_by (λ (e : Entry). e.who == who && is_exit e.call) history ≡ length made = fit.exits process who begun ∙ ap (λ n. length (call_entries history who n)) number in
-      let mine : ◌≡◌ {A = ℕ} (cond (e.who == who && is_exit e.call) 1 0) 1 = ap (λ b. cond (b && is_exit e.call) 1 0) (equal e.who who is.by) ∙ ap (λ c. cond (is_exit c) 1 0) name in
+      let mine : ◌≡◌ {A = ℕ} (cond (e.who == who && is_exit e.call) 1 0) 1 = ap (λ b. cond (b && is_exit e.call) 1 0) (alike e.who who is.by) ∙ ap (λ c. cond (is_exit c) 1 0) name in
       let push = exits-push who history e in
       let one : count_by (λ (e : Entry). e.who == who && is_exit e.call) longer ≡ length made + 1 = omega (arith, push, counted, mine) in
       let left = is_left session trace behind history so_far process who done call begun stands next in
@@ -312,7 +309,7 @@ module _ (session : Session) (trace : List Line) (behind : AreLinesBehind [] tra
       mine exit last =
           let number : length (calls_of trace process) ≡ done + 1 = (let z = calls_length trace process in omega (arith, z, last)) in
           let push = exits-push who history e in
-          let here : ◌≡◌ {A = ℕ} (cond (e.who == who && is_exit e.call) 1 0) 1 = ap (λ b. cond (b && is_exit e.call) 1 0) (equal e.who who is.by) ∙ ap (λ c. cond (is_exit c) 1 0) (name_is ∙ ap name_of_call exit) in
+          let here : ◌≡◌ {A = ℕ} (cond (e.who == who && is_exit e.call) 1 0) 1 = ap (λ b. cond (b && is_exit e.call) 1 0) (alike e.who who is.by) ∙ ap (λ c. cond (is_exit c) 1 0) (name_is ∙ ap name_of_call exit) in
           let before = fit.exits process who begun ∙ ap (λ n. length (call_entries history who n)) number in
           let after = ap (λ n. length (call_entries longer who n)) number ∙ ap length (own_entries history e who (done + 1) (own session trace behind history so_far process who done call begun stands next e follows is)) ∙ length-append made ((length history, e) ∷ []) in
           omega (arith, push, here, before, after)
@@ -323,7 +320,7 @@ module _ (session : Session) (trace : List Line) (behind : AreLinesBehind [] tra
           let other : is_exit e.call ≡ false = ap is_exit name_is ∙ line_no_exit call (subst (λ c. IsLineCall c) same (line_behind trace process done l behind there).1.within) in
           let within = slice_get_within (lines_of trace process) done l there in
           let size = calls_length trace process in
-          exits-none who history e (and_false (e.who == who) (is_exit e.call) other) ∙ fit.exits process who begun
+          exits-none who history e (and_right (e.who == who) (is_exit e.call) other) ∙ fit.exits process who begun
           ∙ ap length (sym (other_entries history e who (length (calls_of trace process)) (apart_if session trace behind history so_far process who done call begun stands next e follows is who (length (calls_of trace process)) (inr (λ z. omega (arith, z, within, size))))))
 
       at_test : pnode_of_process session trace history p ≡ Some w → (b : Bool) → (w == who) ≡ b
@@ -334,8 +331,8 @@ module _ (session : Session) (trace : List Line) (behind : AreLinesBehind [] tra
           subst (λ (x : ℕ × ℕ). count_by (λ (e : Entry). e.who == x.1 && is_exit e.call) longer ≡ length (call_entries longer x.1 (length (calls_of trace x.0)))) (λ i. (sym one i, sym same i))
           (elim (call_cases trace process done call stands) [ inl l ↦ line l.0 l.1 l.2 | inr exit ↦ mine exit.0 exit.1 ])
       at_test old false t =
-          let other : w ≢ who = λ same. let z : true ≡ false = sym (equal w who same) ∙ t in cc in
-          exits-none w history e (ap (λ b. b && is_exit e.call) (unequal e.who w (λ same. other (sym same ∙ is.by)))) ∙ fit.exits p w old
+          let other : w ≢ who = λ same. let z : true ≡ false = sym (alike w who same) ∙ t in cc in
+          exits-none w history e (ap (λ b. b && is_exit e.call) (different e.who w (λ same. other (sym same ∙ is.by)))) ∙ fit.exits p w old
           ∙ ap length (sym (other_entries history e w (length (calls_of trace p)) (apart_if session trace behind history so_far process who done call begun stands next e follows is w (length (calls_of trace p)) (inl other))))
 
   -- it fits with one more entry
@@ -370,4 +367,4 @@ fits_first session trace = record {
         no_calls (first_entry session ∷ []) w (length (calls_of trace p)) (λ i f there by its. let z = only_zero i f there in omega (arith, z, by, first))
 
     quiet : (w : ℕ) → count_by (λ (e : Entry). e.who == w && is_exit e.call) (first_entry session ∷ []) ≡ 0
-    quiet w = sum_by-cons (λ (e : Entry). cond (e.who == w && is_exit e.call) 1 0) (first_entry session) [] ∙ ap (λ b. cond b 1 0 + 0) (and_false (0 == w) false refl)
+    quiet w = sum_by-cons (λ (e : Entry). cond (e.who == w && is_exit e.call) 1 0) (first_entry session) [] ∙ ap (λ b. cond b 1 0 + 0) (and_right (0 == w) false refl)

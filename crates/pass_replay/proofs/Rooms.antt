@@ -5,7 +5,6 @@ use Rattle.std.specs.Option.{option_map_or}
 use Rattle.pass_entry.specs.declared.entry.Entry.{Entry}
 use Rattle.pass_entry.specs.declared.entry.Act.{Act}
 use Rattle.pass_entry.specs.declared.entry.Act.TheVariants as act
-use Rattle.pass_entry.specs.declared.entry.CallName.{CallName}
 use Rattle.pass_entry.specs.declared.entry.CallName.TheVariants as call_name
 use Rattle.pass_entry.specs.declared.entry.Reply.{Reply}
 use Rattle.pass_plain.specs.declared.request.Request.{Request}
@@ -14,25 +13,19 @@ use Rattle.pass_plain.specs.Sessions.{Session}
 use Rattle.pass_plain.specs.Registries.{Registry, registry_after, registry_act}
 use Rattle.pass_plain.specs.Processes.{Process}
 use Rattle.pass_plain.specs.Calls.{Made, name_of}
-use Rattle.pass_plain.specs.Lawful.{most_steps}
 use Rattle.pass_plain.specs.Legal.{MayFollow, before_call}
 use Rattle.pass_plain.specs.Traces.{Line, LineCall, calls_of}
 use Rattle.pass_plain.specs.Runs.{pnode_of_process, next_number, request_at}
-use Rattle.pass_plain.proofs.Lists.{same_numbers}
+use Rattle.pass_plain.proofs.Lists.{same_numbers, alike, different, of_both}
 use Rattle.pass_plain.proofs.Counts.{step_count_law}
 use Rattle.pass_plain.proofs.Making.{registry-append}
+use Rattle.pass_plain.proofs.OtherCalls.{most_is, other_entries}
 use Rattle.pass_replay.specs.Lines.{AreLinesBehind}
 use Rattle.pass_replay.specs.Making.{IsRunSoFar, IsNextEntry, entries_made, creates_call, creating_left}
-use Rattle.pass_replay.proofs.Positions.{equal, unequal}
 use Rattle.pass_replay.proofs.Sums.{sum-le, sum-less}
 use Rattle.pass_replay.proofs.NextCalls.{call_cases, is_left}
-use Rattle.pass_replay.proofs.Entries.{own_entries, other_entries}
+use Rattle.pass_replay.proofs.Entries.{own_entries}
 use Rattle.pass_replay.proofs.Births.{creating_call, own, kind_is, any, mono}
-
-most_is : (name : CallName) → most_steps name ≤ 67
-most_is call_name.Fork = omega arith
-most_is call_name.Exit = omega arith
-most_is _ = omega arith
 
 -- how an act counts the objects made
 
@@ -46,21 +39,13 @@ counts_more r (act.Bind name) y = omega arith
 counts_more r (act.Mint k) y = omega arith
 counts_more r _ y = omega arith
 
--- a registry that may have changed
-either : (P : Registry → Type 0) (b : Bool) (r s : Registry) → P r → P s → P (cond b s r)
-either P true r s at_r at_s = at_s
-either P false r s at_r at_s = at_r
-
-zero_of : (n : ℕ) → (n == 0) ≡ true → n ≡ 0
-zero_of n h = same_numbers n 0 h
-
 -- what a line counts while its call has no entry, where it creates
 abbrev counted : Bool → ℕ → ℕ
 counted creating entries = cond (creating && entries == 0) 1 0
 
 counted_le : (creating : Bool) (entries more : ℕ) → entries ≤ more → (b : Bool) → (more == 0) ≡ b → counted creating more ≤ counted creating entries
-counted_le true entries more le true t = let z : entries ≡ 0 = (let y = zero_of more t in omega (arith, y, le)) in
-    let a : counted true entries ≡ 1 = ap (λ b. cond b 1 0) (equal entries 0 z) in
+counted_le true entries more le true t = let z : entries ≡ 0 = (let y = same_numbers more 0 t in omega (arith, y, le)) in
+    let a : counted true entries ≡ 1 = ap (λ b. cond b 1 0) (alike entries 0 z) in
     let b : counted true more ≡ 1 = ap (λ b. cond b 1 0) t in
     omega (arith, a, b)
 counted_le true entries more le false t = let b : counted true more ≡ 0 = ap (λ b. cond b 1 0) t in omega (arith, b)
@@ -137,10 +122,10 @@ module _ (session : Session) (trace : List Line) (behind : AreLinesBehind [] tra
         | inl l ↦
             let a : counted (creates_call l.0.call) (entries_made session trace history process (done + 1)) ≡ 1 =
             ap (λ c. counted (creates_call c) (entries_made session trace history process (done + 1))) l.2 ∙ ap (λ b. counted b (entries_made session trace history process (done + 1))) creates
-            ∙ ap (λ b. cond b 1 0) (equal (entries_made session trace history process (done + 1)) 0 (entries_before ∙ first)) in
+            ∙ ap (λ b. cond b 1 0) (alike (entries_made session trace history process (done + 1)) 0 (entries_before ∙ first)) in
             let b : counted (creates_call l.0.call) (entries_made session trace longer process (done + 1)) ≡ 0 =
             ap (λ c. counted (creates_call c) (entries_made session trace longer process (done + 1))) l.2 ∙ ap (λ b. counted b (entries_made session trace longer process (done + 1))) creates
-            ∙ ap (λ b. cond b 1 0) (unequal (entries_made session trace longer process (done + 1)) 0 (λ z. omega (arith, entries_after, z))) in
+            ∙ ap (λ b. cond b 1 0) (different (entries_made session trace longer process (done + 1)) 0 (λ z. omega (arith, entries_after, z))) in
             let lines = sum-less (λ p n c. counted (creates_call c) (entries_made session trace longer p n)) (λ p n c. counted (creates_call c) (entries_made session trace history p n)) 1 trace process done l.0 l.1
             none_more (omega (arith, a, b)) in
             omega (arith, lines)
@@ -158,11 +143,11 @@ module _ (session : Session) (trace : List Line) (behind : AreLinesBehind [] tra
           let less = left_less makes in
           let room = so_far.room in
           let more = counts_more r e.act e.reply in
-          either (λ s. s.made + creating_left session trace longer ≤ session.objects) (e.what == 0 && not (is_fault e.reply)) r (registry_act r e.act e.reply)
-          (omega (arith, less, room)) (omega (arith, less, room, more))
+          of_both (λ s. s.made + creating_left session trace longer ≤ session.objects) (e.what == 0 && not (is_fault e.reply)) (registry_act r e.act e.reply) r
+          (omega (arith, less, room, more)) (omega (arith, less, room))
       at_test false none =
           let less = left_no_more in
           let room = so_far.room in
           let same = counts_act r e.act e.reply none in
-          either (λ s. s.made + creating_left session trace longer ≤ session.objects) (e.what == 0 && not (is_fault e.reply)) r (registry_act r e.act e.reply)
-          (omega (arith, less, room)) (omega (arith, less, room, same))
+          of_both (λ s. s.made + creating_left session trace longer ≤ session.objects) (e.what == 0 && not (is_fault e.reply)) (registry_act r e.act e.reply) r
+          (omega (arith, less, room, same)) (omega (arith, less, room))

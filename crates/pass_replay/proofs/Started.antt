@@ -1,21 +1,20 @@
 -- A run of a trace that has just begun.
 use Rattle.std.proofs.Common.{◌≡◌, ◌≤◌, ◌+◌, ℕ, zero, suc, List, [], ◌∷◌, ◌++◌, length, map, take, refl, ap, sym, ◌∙◌, subst, arith, inl, inr, Bool, true, false, ◌||◌, ◌&&◌, ◌==◌, cond}
 use Rattle.std.specs.Prelude.{Some, slice_get, fold}
+use Rattle.std.proofs.lemmas.List.{append-nil}
 use Rattle.pass_entry.specs.declared.entry.Entry.{Entry}
 use Rattle.pass_plain.specs.Histories.{call_entries}
 use Rattle.pass_plain.specs.Sessions.{Session}
 use Rattle.pass_plain.specs.Registries.{Registry, registry_after}
 use Rattle.pass_plain.specs.Processes.{has_begun, has_ended}
 use Rattle.pass_plain.specs.Calls.{Made, call_steps}
-use Rattle.pass_plain.specs.Legal.{MayFollow, before_call, is_over, last_number, step_of}
+use Rattle.pass_plain.specs.Legal.{before_call, is_over, last_number, step_of}
 use Rattle.pass_plain.specs.Traces.{Line, lines_of, calls_of}
 use Rattle.pass_plain.specs.Runs.{Begun, begun_at, begun_after, pnode_in, pnode_of_process, next_number, request_at}
-use Rattle.pass_plain.proofs.Lists.{some_is, same_numbers}
-use Rattle.pass_plain.proofs.Appends.{legal-last}
+use Rattle.pass_plain.proofs.Lists.{or_none, some_is, same_numbers, alike}
 use Rattle.pass_plain.proofs.Counts.{first_law}
 use Rattle.pass_plain.proofs.Making.{registry-append}
 use Rattle.pass_plain.proofs.Playing.{no_calls}
-use Rattle.pass_plain.proofs.Replays.{append-nil}
 use Rattle.pass_trace.specs.TraceLines.{call_of, plain_line, plain_trace}
 use Rattle.pass_trace.specs.declared.trace.Command.{Command}
 use Rattle.pass_trace.specs.declared.trace.Command.TheVariants as command
@@ -24,18 +23,10 @@ use Rattle.pass_trace.specs.declared.trace.TraceLine.{TraceLine}
 use Rattle.pass_trace.specs.Rules.{creates}
 use Rattle.pass_replay.specs.Making.{IsRunSoFar, first_entry, creates_call, creating_left, entries_made, sum_lines}
 use Rattle.pass_replay.specs.Starts.{HasRoom, RoomLaw}
-use Rattle.pass_replay.proofs.Positions.{equal}
 use Rattle.pass_replay.proofs.Sums.{sum-le}
 use Rattle.pass_replay.proofs.Begun.{forked_or, in_single, single_in}
 use Rattle.pass_replay.proofs.NextCalls.{calls_length, unmade_not_over}
 use Rattle.pass_replay.proofs.Entries.{none_ends}
-
-pub may_start : (session : Session) → 1 ≤ session.objects → MayFollow session [] (first_entry session)
-may_start session some = legal-last session [] _ (first_law session some)
-
-or_nothing : (b : Bool) → b || false ≡ true → b ≡ true
-or_nothing true h = refl
-or_nothing false h = absurd (cc)
 
 number_if : (b : Bool) → cond {A = ℕ} b 0 0 ≡ 0
 number_if true = refl
@@ -116,12 +107,12 @@ room_first session trace room =
 pub has_started : (session : Session) (trace : List Line) → HasRoom session trace → IsRunSoFar session trace (first_entry session ∷ [])
 has_started session trace room =
     let begun_now : has_begun (first_entry session ∷ []) (session.start.ceiling + 1) ≡ true =
-    ap (λ b. b || false) (let z : (session.start.ceiling + 1 == session.start.ceiling + 1) ≡ true = equal _ _ refl in z) in
+    ap (λ b. b || false) (let z : (session.start.ceiling + 1 == session.start.ceiling + 1) ≡ true = alike _ _ refl in z) in
     let alive : (w : ℕ) → has_ended (first_entry session ∷ []) w ≡ false = λ w. none_ends [] (first_entry session) w refl in
     record {
       run = record {
         legal = first_law session (omega (arith, room));
-        traced = λ who begun. (1, first_is session trace ∙ ap (λ w. Some w) (same_numbers _ _ (or_nothing (session.start.ceiling + 1 == who) begun)));
+        traced = λ who begun. (1, first_is session trace ∙ ap (λ w. Some w) (same_numbers _ _ (sym (or_none (session.start.ceiling + 1 == who)) ∙ begun)));
         lines = λ process who number call at stands.
             subst (λ (m : Made). map step_of m ≡ take (length m) (call_steps who (before_call (first_entry session ∷ []) who (number + 1)) m (request_at session trace (first_entry session ∷ []) who (number + 1) call)))
             (sym (no_calls_yet session who number)) refl;

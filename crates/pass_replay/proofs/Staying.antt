@@ -1,6 +1,7 @@
 -- What is over stays over in every legal history that goes on, and who has begun has begun.
 use Rattle.std.proofs.Common.{◌≡◌, ◌<◌, ◌+◌, ℕ, List, [], ◌∷◌, ◌++◌, length, refl, ap, sym, ◌∙◌, subst, arith, inl, inr, Bool, true, false, append_assoc, length-append}
 use Rattle.std.specs.Prelude.{Some}
+use Rattle.std.proofs.lemmas.List.{append-nil}
 use Rattle.pass_entry.specs.declared.entry.Entry.{Entry}
 use Rattle.pass_plain.specs.Histories.{is_of_call}
 use Rattle.pass_plain.specs.Sessions.{Session}
@@ -9,10 +10,10 @@ use Rattle.pass_plain.specs.Traces.{Line}
 use Rattle.pass_plain.specs.Runs.{pnode_of_process}
 use Rattle.pass_plain.proofs.Appends.{legal-last}
 use Rattle.pass_plain.proofs.Calling.{acts-cases, goes_on-cases, legal_begins}
-use Rattle.pass_plain.proofs.Replays.{append-nil}
+use Rattle.pass_plain.proofs.OtherCalls.{other_over, other_entries}
 use Rattle.pass_replay.specs.Lines.{AreLinesBehind}
 use Rattle.pass_replay.proofs.Begun.{OverStays, grows}
-use Rattle.pass_replay.proofs.Entries.{own_is, other_over, other_entries}
+use Rattle.pass_replay.proofs.Entries.{own_is}
 use Rattle.pass_replay.proofs.NextCalls.{over_within}
 
 -- a call that is over has no more entries

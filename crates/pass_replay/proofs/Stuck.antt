@@ -5,20 +5,20 @@ use Rattle.std.specs.Option.{option_map_or}
 use Rattle.std.proofs.lemmas.Bool.{cases_lt}
 use Rattle.std.proofs.lemmas.Option.{slice_get_within}
 use Rattle.pass_entry.specs.declared.entry.Entry.{Entry}
+use Rattle.pass_entry.proofs.Places.{within_front, Contains-at}
 use Rattle.pass_plain.specs.Sessions.{Session}
 use Rattle.pass_plain.specs.Processes.{Process, has_begun, has_ended}
 use Rattle.pass_plain.specs.Legal.{is_over, last_number}
 use Rattle.pass_plain.specs.Traces.{Line, calls_of}
 use Rattle.pass_plain.specs.Runs.{IsOfTrace, first, forked_by, next_number, pnode_of_process}
-use Rattle.pass_plain.proofs.Lists.{same_itself, is_place}
+use Rattle.pass_plain.proofs.Lists.{same_itself, is_place, different}
 use Rattle.pass_plain.proofs.Calling.{acts-cases}
 use Rattle.pass_plain.proofs.TwoPrefixes.{none_later, SameCaller}
 use Rattle.pass_replay.specs.Ends.{NoneCanMove, IsStuck}
 use Rattle.pass_replay.specs.Making.{IsRunSoFar}
 use Rattle.pass_replay.specs.Members.{KnowsChildren, Member, HasMember, Waits, AreStill}
 use Rattle.pass_replay.specs.Replays.{HasRun}
-use Rattle.pass_replay.proofs.Positions.{unequal}
-use Rattle.pass_replay.proofs.Parts.{own_within, whole_is, contains_at}
+use Rattle.pass_replay.proofs.Parts.{whole_is}
 use Rattle.pass_replay.proofs.Begun.{begun_or_forked, child_has_begun}
 use Rattle.pass_replay.proofs.NextCalls.{earlier_over, over_within, calls_length}
 use Rattle.pass_replay.proofs.Replaying.{from, at_one, so_far, known, same, over_same}
@@ -36,7 +36,7 @@ next_some last over = next_if last over (last == 0) refl
 -- behind the last call there is none
 next_behind : (last : ℕ) (over : Bool) → over ≡ true → 1 ≤ last → (if last == 0 then 1 else if over then last + 1 else last) ≡ last + 1
 next_behind last over is some =
-    ap (λ none. if none then 1 else if over then last + 1 else last) (unequal last 0 (λ z. omega (arith, z, some)))
+    ap (λ none. if none then 1 else if over then last + 1 else last) (different last 0 (λ z. omega (arith, z, some)))
     ∙ ap (λ b. if b then last + 1 else last) is
 
 module _ (session : Session) (trace : List Line) (members : List Member) (history : List Entry) (count : ℕ) (ran : HasRun session trace members history)
@@ -73,7 +73,7 @@ module _ (session : Session) (trace : List Line) (members : List Member) (histor
             let has = at.known p e.who begun in
             let m = has.member in
             let parts = (ran.told.begins m has.among).1 in
-            let (more, mine) = own_within (λ (f : Entry). f.who == m.who) m.seen (ran.told.begins m has.among).0 history count e parts
+            let (more, mine) = within_front (λ (f : Entry). f.who == m.who) m.seen (ran.told.begins m has.among).0 history count e parts
             (none_later (λ (e : Entry). e.who == m.who) m.seen (ran.told.begins m has.among).0 history parts (ran.told.agrees m has.among)) stands
             (ap (λ w. w == m.who) (sym has.is) ∙ same_itself m.who) in
             let most = at_most m has.among m.ended refl in
@@ -137,7 +137,7 @@ module _ (session : Session) (trace : List Line) (members : List Member) (histor
         process = p;
         of_trace = elim (begun_or_forked session trace history p halts.one.who at) [
           | inl is_first ↦ subst (λ p. IsOfTrace trace p) (sym is_first) first
-          | inr forked ↦ forked_by forked.1 p (contains_at trace forked.0 forked.1 forked.2) forked.3
+          | inr forked ↦ forked_by forked.1 p (Contains-at trace forked.0 forked.1 forked.2) forked.3
         ];
         waits = ap (λ o. option_map_or (λ w. not (is_over history w (length (calls_of trace p)))) o true) at ∙ ap not (sym (run.ended p halts.one.who at) ∙ alive);
         still = still;

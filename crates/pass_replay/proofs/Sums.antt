@@ -1,7 +1,7 @@
 -- Sums over the lines of a trace.
 use Rattle.std.proofs.Common.{◌≡◌, ◌≤◌, ◌+◌, ℕ, List, [], ◌∷◌, ◌++◌, length, ap, sym, ◌∙◌, subst, arith, append_assoc}
 use Rattle.std.specs.Prelude.{Some, slice_get}
-use Rattle.pass_plain.proofs.Replays.{append-nil}
+use Rattle.std.proofs.lemmas.List.{append-nil}
 use Rattle.pass_plain.specs.Traces.{Line, LineCall, lines_of}
 use Rattle.pass_replay.specs.Making.{sum_lines}
 use Rattle.pass_replay.proofs.Positions.{stands_at}

@@ -1,9 +1,9 @@
 -- A pass over a history, one entry further.
-use Rattle.std.proofs.Common.{◌≡◌, ◌+◌, ◌<◌, ◌≤◌, ◌^◌, ◌==◌, ℕ, zero, suc, List, [], ◌∷◌, ◌++◌, length, take, drop, refl, ap, sym, ◌∙◌, Bool, true, false, ◌&&◌, ◌||◌, not, arith, append_assoc}
+use Rattle.std.proofs.Common.{◌≡◌, ◌+◌, ◌<◌, ◌≤◌, ◌^◌, ◌==◌, ℕ, suc, List, [], ◌∷◌, ◌++◌, length, take, drop, refl, ap, sym, ◌∙◌, Bool, true, false, ◌&&◌, ◌||◌, not, arith}
 use Rattle.std.specs.Prelude.{Some, None, flat_map, slice_get, zip, codes, if◌then◌else◌}
 use Rattle.std.specs.Option.{option_map_or}
 use Rattle.std.specs.List.{list_any, before_first}
-use Rattle.std.proofs.lemmas.List.{length-append, length-take, take-append-drop}
+use Rattle.std.proofs.lemmas.List.{length-append, length-take, take-append-drop, append-nil}
 use Rattle.std.proofs.lemmas.List.Folds.{list_any-append}
 use Rattle.std.proofs.lemmas.List.Concat.{flat_map-append}
 use Rattle.std.proofs.lemmas.Option.{slice_get_within}
@@ -22,54 +22,18 @@ use Rattle.pass_plain.specs.Processes.{process_after}
 use Rattle.pass_plain.specs.Calls.{is_last}
 use Rattle.pass_plain.specs.Legal.{IsLegal, MayFollow, before_call, is_start}
 use Rattle.pass_plain.specs.Versions.{nodes_of, node_at_entry}
-use Rattle.pass_plain.proofs.Lists.{same_itself, some_is}
-use Rattle.pass_plain.proofs.Appends.{slice_get-last}
+use Rattle.pass_plain.proofs.Lists.{same_itself}
 use Rattle.pass_plain.proofs.Calling.{legal_take}
-use Rattle.pass_plain.proofs.LastCalls.{before_kept}
 use Rattle.pass_plain.proofs.Playing.{before_hit}
 use Rattle.pass_plain.proofs.Sources.{source_law}
 use Rattle.pass_plain.proofs.Versioned.{nodes_of-append, length-nodes_of, short_get}
+use Rattle.pass_plain.proofs.LastNodes.{nodes_more}
+use Rattle.pass_plain.proofs.OtherCalls.{before_more}
 use Rattle.pass_report.specs.Reports.{IsLegalFrom, act_answer, answer_of, call_line, is_answered, bytes_text}
 use Rattle.pass_entry.specs.Words.{node_text}
+use Rattle.pass_entry.proofs.Places.{take_one_more, zip_at, slice_get-last}
 use Rattle.pass_report.specs.Passing.{IsNext}
 use Rattle.pass_report.specs.Recorders.{entry_line}
-
--- lists
-
-no_more : {X : Type 0} (xs : List X) → xs ++ [] ≡ xs
-no_more [] = refl
-no_more (x ∷ xs) = ap (λ ys. x ∷ ys) (no_more xs)
-
-pub take-at : {X : Type 0} (xs : List X) (i : ℕ) (x : X) → slice_get xs i ≡ Some x → take (suc i) xs ≡ take i xs ++ x ∷ []
-take-at [] i x at = absurd (cc)
-take-at {X} (y ∷ ys) zero x at = ap (λ (z : X). z ∷ []) (let z : Some y ≡ Some x = at in some_is y x z)
-take-at (y ∷ ys) (suc i) x at = ap (λ zs. y ∷ zs) (take-at ys i x at)
-
-zip-at : {X Y : Type 0} (xs : List X) (ys : List Y) (i : ℕ) (x : X) (y : Y) → slice_get xs i ≡ Some x → slice_get ys i ≡ Some y → slice_get (zip xs ys) i ≡ Some (x, y)
-zip-at [] ys i x y a b = absurd (cc)
-zip-at (z ∷ xs) [] i x y a b = absurd (cc)
-zip-at {X} {Y} (z ∷ xs) (w ∷ ys) zero x y a b =
-    let p : Some z ≡ Some x = a in
-    let q : Some w ≡ Some y = b in
-    λ i. Some (some_is z x p i, some_is w y q i)
-zip-at (z ∷ xs) (w ∷ ys) (suc i) x y a b = zip-at xs ys i x y a b
-
-any_more : {X : Type 0} (p : X → Bool) (xs ys : List X) → list_any p xs ≡ true → list_any p (xs ++ ys) ≡ true
-any_more p xs ys is = list_any-append p xs ys ∙ ap (λ b. b || list_any p ys) is
-
--- what stands before the first item that passes doesn't change with later ones
-before_more : {X : Type 0} (p : X → Bool) (xs ys : List X) → list_any p xs ≡ true → before_first p (xs ++ ys) ≡ before_first p xs
-before_more p xs [] is = ap (before_first p) (no_more xs)
-before_more p xs (y ∷ ys) is =
-    ap (before_first p) (sym (append_assoc xs (y ∷ []) ys)) ∙ before_more p (xs ++ y ∷ []) ys (any_more p xs (y ∷ []) is) ∙ before_kept p xs y is
-
--- the nodes of the first entries are the first nodes
-nodes_more : (session : Session) (past rest : List Entry) → (more : List Node) × (nodes_of session (past ++ rest) ≡ nodes_of session past ++ more)
-nodes_more session past [] = ([], ap (nodes_of session) (no_more past) ∙ sym (no_more (nodes_of session past)))
-nodes_more session past (e ∷ rest) =
-    let (more, is) = nodes_more session (past ++ e ∷ []) rest in
-    let n = node_at_entry session past (nodes_of session past) e in
-    (n ∷ more, ap (nodes_of session) (sym (append_assoc past (e ∷ []) rest)) ∙ is ∙ ap (λ ns. ns ++ more) (nodes_of-append session past e) ∙ append_assoc (nodes_of session past) (n ∷ []) more)
 
 -- the line of an entry asks for the node of no later one
 
@@ -105,10 +69,10 @@ module _ (session : Session) (history : List Entry) (legal : IsLegal session his
   past_length = let t = length-take place history in let w = within in omega (arith, t, w)
 
   pub one_further : take (place + 1) history ≡ past ++ e ∷ []
-  one_further = ap (λ n. take n history) (let z : place + 1 ≡ suc place = omega arith in z) ∙ take-at history place e at
+  one_further = ap (λ n. take n history) (let z : place + 1 ≡ suc place = omega arith in z) ∙ take_one_more history place e at
 
   whole : (past ++ e ∷ []) ++ drop (suc place) history ≡ history
-  whole = ap (λ xs. xs ++ drop (suc place) history) (sym (take-at history place e at)) ∙ take-append-drop (suc place) history
+  whole = ap (λ xs. xs ++ drop (suc place) history) (sym (take_one_more history place e at)) ∙ take-append-drop (suc place) history
 
   pub follows : MayFollow session past e
   follows = legal place e at
@@ -165,10 +129,10 @@ module _ (session : Session) (history : List Entry) (legal : IsLegal session his
       let pairs = zip history nodes in
       let here : Entry × Node = (e, n) in
       ap (λ k. flat_map (entry_line history nodes) (take k pairs)) (let z : place + 1 ≡ suc place = omega arith in z)
-      ∙ ap (flat_map (entry_line history nodes)) (take-at pairs place here (zip-at history nodes place e n at own_node))
+      ∙ ap (flat_map (entry_line history nodes)) (take_one_more pairs place here (zip_at history nodes place e n at own_node))
       ∙ flat_map-append (entry_line history nodes) (take place pairs) (here ∷ [])
       ∙ ap (λ text. flat_map (entry_line history nodes) (take place pairs) ++ text)
-      (no_more (entry_line history nodes here)
+      (append-nil (entry_line history nodes here)
       ∙ ap (λ b. if b then call_line history nodes e n else []) (same_answered ∙ ap (λ b. not (is_start e.call) && b) (sym ends))
       ∙ ap (λ text. if not (is_start e.call) && ended then text else [])
       (call_same history nodes known e n (λ out names. let (before, given) = source_law session history legal place e out at names in same_node_at out (omega (arith, before)))))

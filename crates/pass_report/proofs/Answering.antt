@@ -21,7 +21,3 @@ on_then (Err e) P Q p f = tt
 pub on_then3 : {T E : Type 0} (r : Result T E) (P Q R : Type 0) → OnOk r P → OnOk r Q → (P → Q → R) → OnOk r R
 on_then3 (Ok x) P Q R p q f = f p q
 on_then3 (Err e) P Q R p q f = tt
-
-pub on_each : {T E : Type 0} (r : Result T E) (Q : Type 0) → ((x : T) → r ≡ Ok x → Q) → OnOk r Q
-on_each (Ok x) Q each = each x refl
-on_each (Err e) Q each = tt

@@ -14,7 +14,7 @@ pub passing-none : (test : ℕ → Bool) → 0 ≡ passing test 0
 unfolding passing
 passing-none test = refl
 
-one_more : (b : Bool) (n x : ℕ) → n + length (if b then x ∷ [] else []) ≡ (if b then n + 1 else n)
+pub one_more : {X : Type 0} (b : Bool) (n : ℕ) (x : X) → n + length (if b then x ∷ [] else []) ≡ (if b then n + 1 else n)
 one_more true n x = refl
 one_more false n x = omega arith
 

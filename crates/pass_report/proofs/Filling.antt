@@ -1,22 +1,13 @@
 -- A map whose missing keys stand for a value that follows from the key.
 use Rattle.std.proofs.Common.{◌≡◌, ℕ, [], Bool, true, false, cond, refl, ap, sym, ◌∙◌}
-use Rattle.std.specs.Prelude.{Option, Some, None, is_some}
+use Rattle.std.specs.Prelude.{Some, None, is_some}
 use Rattle.std.specs.Option.{option_map_or}
 use Rattle.std.specs.Ordering.{nat_cmp, is_eq}
-use Rattle.std.specs.declared.cmp.Ordering.{Ordering}
-use Rattle.std.specs.declared.cmp.Ordering.TheVariants.{Less, Equal, Greater}
 use Rattle.std.specs.FinMap.{nat_cmp-IsAntisymmetric}
 use Rattle.std.specs.BTreeMap.{BTreeMap, get, Updates}
 use Rattle.std.specs.Map.{lookup}
-
-pub is_equal : (o : Ordering) → is_eq o ≡ true → o ≡ Equal
-is_equal Less e = absurd (cc)
-is_equal Equal e = refl
-is_equal Greater e = absurd (cc)
-
-pub none_is : {X : Type 0} (o : Option X) → is_some o ≡ false → o ≡ None
-none_is None e = refl
-none_is (Some x) e = absurd (cc)
+use Rattle.pass_entry.proofs.Variants.{none_of}
+use Rattle.pass_entry.proofs.Lists.{is_equal}
 
 -- a missing key that gets the value for which it stands changes nothing
 pub same_filled : {X L : Type 0} (g : X → L) (f : ℕ → L) (m n : BTreeMap ℕ X) (k : ℕ) (v : X) → Updates nat_cmp m n k (Some v)
@@ -28,7 +19,7 @@ same_filled g f m n k v updates missing same q =
     by_test false is = refl
     by_test true is =
         let here : k ≡ q = nat_cmp-IsAntisymmetric k q (is_equal (nat_cmp k q) is) in
-        let none : get nat_cmp m q ≡ None = ap (λ q. get nat_cmp m q) (sym here) ∙ none_is (get nat_cmp m k) missing in
+        let none : get nat_cmp m q ≡ None = ap (λ q. get nat_cmp m q) (sym here) ∙ none_of (get nat_cmp m k) missing in
         same ∙ ap f here ∙ ap (λ o. option_map_or g o (f q)) (sym none)
 
 pub nothing_in : {X : Type 0} (m : BTreeMap ℕ X) → m.entries ≡ [] → (q : ℕ) → get nat_cmp m q ≡ None

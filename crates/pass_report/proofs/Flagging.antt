@@ -5,25 +5,12 @@ use Rattle.std.proofs.lemmas.Bool.Decides.{nat_tests}
 use Rattle.std.proofs.lemmas.Grind.{get_or-set_at}
 use Rattle.std.proofs.lemmas.List.{get_or-set_other}
 use Rattle.std.proofs.lemmas.List.Folds.{list_any_more}
+use Rattle.pass_entry.proofs.Lists.{or_true, or_none, alike, different}
 
 -- one more block is among them, or isn't the one that is asked for
 more : (k : ℕ) (xs : List ℕ) (i : ℕ) → i < length xs → (t : Bool) → (get_or xs i 0 == k) ≡ t
     → list_any (λ x. x == k) (take (i + 1) xs) ≡ (list_any (λ x. x == k) (take i xs) || t)
 more k xs i low t is = list_any_more (λ x. x == k) xs i 0 low ∙ ap (λ b. list_any (λ x. x == k) (take i xs) || b) is
-
-alike : (a b : ℕ) → a ≡ b → (a == b) ≡ true
-alike a b e = grind (arith, nat_tests)
-
-unlike : (a b : ℕ) → a ≢ b → (a == b) ≡ false
-unlike a b ne = grind (arith, nat_tests)
-
-with_none : (b : Bool) → b || false ≡ b
-with_none true = refl
-with_none false = refl
-
-with_one : (b : Bool) → b || true ≡ true
-with_one true = refl
-with_one false = refl
 
 -- the flag of a block is set where it is among one more
 pub set_flag : (rows : List Bool) (xs : List ℕ) (i b k : ℕ) → i < length xs → get_or xs i 0 ≡ b → b < length rows
@@ -33,12 +20,12 @@ set_flag rows xs i b k low here within so = by_test (b == k) refl
     by_test : (t : Bool) → (b == k) ≡ t → get_or (set rows b true) k false ≡ list_any (λ x. x == k) (take (i + 1) xs)
     by_test true same =
         let e : k ≡ b = grind (arith, nat_tests) in
-        get_or-set_at rows b k true false e within ∙ sym (more k xs i low true (ap (λ n. n == k) here ∙ same) ∙ with_one (list_any (λ x. x == k) (take i xs)))
+        get_or-set_at rows b k true false e within ∙ sym (more k xs i low true (ap (λ n. n == k) here ∙ same) ∙ or_true (list_any (λ x. x == k) (take i xs)))
     by_test false apart =
         let e : k ≢ b = λ h. let t = alike b k (sym h) in absurd (cc) in
-        get_or-set_other rows b k true false e ∙ so ∙ sym (more k xs i low false (ap (λ n. n == k) here ∙ apart) ∙ with_none (list_any (λ x. x == k) (take i xs)))
+        get_or-set_other rows b k true false e ∙ so ∙ sym (more k xs i low false (ap (λ n. n == k) here ∙ apart) ∙ or_none (list_any (λ x. x == k) (take i xs)))
 
 -- a block that isn't that one has the flag that it had
 pub keep_flag : (rows : List Bool) (xs : List ℕ) (i b k : ℕ) → i < length xs → get_or xs i 0 ≡ b → b ≢ k
     → get_or rows k false ≡ list_any (λ x. x == k) (take i xs) → get_or rows k false ≡ list_any (λ x. x == k) (take (i + 1) xs)
-keep_flag rows xs i b k low here ne so = so ∙ sym (more k xs i low false (ap (λ n. n == k) here ∙ unlike b k ne) ∙ with_none (list_any (λ x. x == k) (take i xs)))
+keep_flag rows xs i b k low here ne so = so ∙ sym (more k xs i low false (ap (λ n. n == k) here ∙ different b k ne) ∙ or_none (list_any (λ x. x == k) (take i xs)))

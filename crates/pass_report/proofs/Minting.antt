@@ -8,6 +8,7 @@ use Rattle.std.specs.BTreeSet.{insert_key}
 use Rattle.std.proofs.lemmas.List.Folds.{find-append}
 use Rattle.std.proofs.lemmas.List.Sums.{fold-append}
 use Rattle.std.proofs.lemmas.List.Concat.{flat_map-append}
+use Rattle.std.proofs.lemmas.List.{append-nil}
 use Rattle.pass_entry.specs.declared.entry.Entry.{Entry}
 use Rattle.pass_entry.specs.declared.entry.Act.{Act}
 use Rattle.pass_entry.specs.declared.entry.Act.TheVariants as act
@@ -30,6 +31,7 @@ use Rattle.pass_report.specs.declared.kinds.Kinds.{Kinds}
 use Rattle.pass_report.specs.Kinds.{made_by, opening_kind, AreKinds}
 use Rattle.pass_report.proofs.Filling.{nothing_in}
 use Rattle.pass_report.proofs.Openings.{same_registry}
+use Rattle.pass_report.proofs.Reading.{or_none, option_map-or}
 
 kinds_through : {X : Type 0} (h : X → ℕ) (k : Kind) (p : ℕ) (xs : List X)
     → option_map (λ o. o.1) (find (λ o. o.0 == p) (map {B = ℕ × Kind} (λ x. (h x, k)) xs)) ≡ (if is_some (find (λ x. h x == p) xs) then Some k else None)
@@ -40,10 +42,6 @@ kinds_through {X} h k p (x ∷ xs) = by_test (h x == p) (kinds_through h k p xs)
         → option_map (λ (o : ℕ × Kind). o.1) (if b then Some (h x, k) else find (λ o. o.0 == p) (map {B = ℕ × Kind} (λ x. (h x, k)) xs)) ≡ (if is_some (if b then Some x else find (λ x. h x == p) xs) then Some k else None)
     by_test true more = refl
     by_test false more = more
-
-option_map-or : {X Y : Type 0} (f : X → Y) (a b : Option X) → option_map f (option_or a b) ≡ option_or (option_map f a) (option_map f b)
-option_map-or f None b = refl
-option_map-or f (Some x) b = refl
 
 -- an object of the opening is a file or an application's
 pub opening_kind-is : (start : Start) (pnode : ℕ)
@@ -62,10 +60,6 @@ opening_kind-is start pnode =
 abbrev paired : ℕ → Kind → ℕ × Kind
 paired n k = (n, k)
 
-or_none : {X : Type 0} (o : Option X) → option_or o None ≡ o
-or_none None = refl
-or_none (Some k) = refl
-
 -- before the first entry
 pub opening_kinds : (start : Start) (session : Session) → SameButBytes start session.start → (k : Kinds) → k.made.entries ≡ [] → k.touched.keys ≡ [] → AreKinds start session [] k
 opening_kinds start session same k made none = record {
@@ -75,11 +69,6 @@ opening_kinds start session same k made none = record {
       ∙ sym (opening_kind-is start pnode)
       ∙ ap (λ (r : Registry). option_map (λ o. o.1) (find (λ o. o.0 == pnode) r.objects)) (same_registry start session.start same);
 }
-
--- what an entry makes stands behind the objects before it
-no_more : {X : Type 0} (xs : List X) → xs ++ [] ≡ xs
-no_more [] = refl
-no_more (x ∷ xs) = ap (λ ys. x ∷ ys) (no_more xs)
 
 -- an act that makes nothing
 unmade : (a : Act) (y : Reply) → made_kind a ≡ None → made_by a y ≡ None
@@ -98,7 +87,7 @@ acted r (act.Bind name) y n made =
 acted r (act.Mint k) y n made =
     let P : Reply → Type 0 = λ y. (registry_act r (act.Mint k) y).objects ≡ r.objects ++ option_to_list (made_by (act.Mint k) y) in
     subst P (sym (made k refl)) refl
-acted r a y n made = sym (ap (λ o. r.objects ++ option_to_list o) (unmade a y refl) ∙ no_more r.objects)
+acted r a y n made = sym (ap (λ o. r.objects ++ option_to_list o) (unmade a y refl) ∙ append-nil r.objects)
 
 -- an act that makes an object is one on the registry
 elsewhere : (session : Session) (past : List Entry) (e : Entry) → IsLegal session past → MayFollow session past e → (e.what == 0) ≡ false → made_kind e.act ≡ None
@@ -118,7 +107,7 @@ objects_next session past e legal next = by_tests (is_fault e.reply) refl (e.wha
     before = registry_after session past
 
     stays : made_by e.act e.reply ≡ None → (registry_after session past).objects ≡ (registry_after session past).objects ++ option_to_list (made_by e.act e.reply)
-    stays none = sym (ap (λ o. (registry_after session past).objects ++ option_to_list o) none ∙ no_more (registry_after session past).objects)
+    stays none = sym (ap (λ o. (registry_after session past).objects ++ option_to_list o) none ∙ append-nil (registry_after session past).objects)
 
     by_tests : (f : Bool) → is_fault e.reply ≡ f → (b : Bool) → (e.what == 0) ≡ b
         → (registry_after session (past ++ e ∷ [])).objects ≡ (registry_after session past).objects ++ option_to_list (made_by e.act e.reply)
@@ -165,7 +154,7 @@ module _ (start : Start) (session : Session) (past : List Entry) (e : Entry) (le
   touched_next o is =
       ap (ascending nat_cmp) (flat_map-append (λ (e : Entry). e.what ∷ option_to_list (made_object e.act e.reply)) past (e ∷ []))
       ∙ fold-append (insert_key nat_cmp) [] (touched past) _
-      ∙ ap (fold (insert_key nat_cmp) (ascending nat_cmp (touched past))) (no_more (e.what ∷ option_to_list (made_object e.act e.reply))
+      ∙ ap (fold (insert_key nat_cmp) (ascending nat_cmp (touched past))) (append-nil (e.what ∷ option_to_list (made_object e.act e.reply))
       ∙ ap (λ o. e.what ∷ option_to_list o) (made_object-is e.act e.reply ∙ ap (λ o. option_map (λ o. o.0) o) is))
 
   pub idle_kinds : made_by e.act e.reply ≡ None → m.made ≡ k.made → m.touched.keys ≡ insert_key nat_cmp k.touched.keys e.what → AreKinds start session (past ++ e ∷ []) m

@@ -1,26 +1,19 @@
 -- What two starts that differ in the bytes of their files have in common, and the versions of a sound one.
-use Rattle.std.proofs.Common.{◌≡◌, ◌<◌, ◌+◌, ◌^◌, ◌==◌, ℕ, suc, List, [], ◌∷◌, ◌++◌, length, ◌∙◌, ap, sym, refl, Bool, true, false, ◌||◌, map, arith}
-use Rattle.std.specs.Prelude.{Option, Some, None, find, filter_map, slice_get, is_some, option_map, if◌then◌else◌}
+use Rattle.std.proofs.Common.{◌≡◌, ◌+◌, ◌==◌, ℕ, List, [], ◌∷◌, ◌++◌, length, ◌∙◌, ap, sym, refl, Bool, true, false, ◌||◌, map}
+use Rattle.std.specs.Prelude.{Option, Some, None, find, filter_map, is_some, option_map, if◌then◌else◌}
 use Rattle.std.specs.Option.{option_map_or}
 use Rattle.std.specs.List.{cons_option}
 use Rattle.std.specs.FinMap as finite_map
-use Rattle.std.proofs.lemmas.List.{length-append}
-use Rattle.pass_entry.specs.declared.entry.Entry.{Entry}
 use Rattle.pass_entry.specs.declared.objects.Kind.{Kind}
 use Rattle.pass_entry.specs.declared.objects.Kind.TheVariants as kind
 use Rattle.pass_entry.specs.declared.objects.Node.{Node}
+use Rattle.pass_entry.proofs.Places.{found_at}
 use Rattle.pass_plain.specs.declared.start.Start.{Start}
 use Rattle.pass_plain.specs.declared.start.StartFile.{StartFile}
 use Rattle.pass_plain.specs.Sessions.{Session, opened_file, opened_app, opening_version, is_opened, opening_size, opening_rows, opening_bytes}
 use Rattle.pass_plain.specs.Sound.{IsSound}
 use Rattle.pass_plain.specs.Registries.{named_file, opening_registry}
-use Rattle.pass_plain.specs.Legal.{IsLegal, MayFollow}
-use Rattle.pass_plain.specs.Versions.{nodes_of, version_after, is_freeze}
-use Rattle.pass_plain.proofs.Lists.{same_numbers}
-use Rattle.pass_plain.proofs.Calling.{legal_induction}
-use Rattle.pass_plain.proofs.Lineages.{lineage_law}
 use Rattle.pass_report.specs.Reports.{outline, SameButBytes}
-use Rattle.pass_report.proofs.Turning.{node_in-entry}
 
 abbrev pub Outline : Type 0
 Outline = Node × Option (List ℕ) × ℕ × List ℕ
@@ -97,25 +90,6 @@ module _ (a b : Start) (same : SameButBytes a b) where
       file_objects =
           mapped_through outline kind_outline a.files.items ∙ ap (map kind_outline) same.files ∙ sym (mapped_through outline kind_outline b.files.items)
 
--- the first item that passes stands at some place
-found_at : {X : Type 0} (q : X → Bool) (xs : List X) (x : X) → find q xs ≡ Some x → (i : ℕ) × (slice_get xs i ≡ Some x)
-found_at q [] x e = absurd (cc)
-found_at {X} q (y ∷ ys) x e = by_test (q y) e (found_at q ys x)
-  where
-    by_test : (b : Bool) → (if b then Some y else find q ys) ≡ Some x → (find q ys ≡ Some x → (i : ℕ) × (slice_get ys i ≡ Some x)) → (i : ℕ) × (slice_get (y ∷ ys) i ≡ Some x)
-    by_test true e rest = (0, e)
-    by_test false e rest = let (i, at) = rest e in (suc i, at)
-
--- a version of the opening is one that a record can have
-pub opening_low : (session : Session) → IsSound session → (o : ℕ) → opening_version session.start o < 2 ^ 48
-opening_low session sound o = by_file (opened_file session.start o) refl (opened_app session.start o) refl
-  where
-    by_file : (f : Option StartFile) → opened_file session.start o ≡ f → (n : Option Node) → opened_app session.start o ≡ n
-        → option_map_or (λ f. f.node.version) f (option_map_or (λ n. n.version) n 1) < 2 ^ 48
-    by_file (Some f) is n at = let (i, place) = found_at (λ (f : StartFile). f.node.pnode == o) session.start.files.items f is in (sound.files i f place).version.1
-    by_file None is (Some n) at = let (i, place) = found_at (λ (n : Node). n.pnode == o) session.start.apps.items n at in (sound.apps i n place).1
-    by_file None is None at = omega arith
-
 -- the size of an opened file is that of its bytes
 pub opening_sized : (session : Session) → IsSound session → (o : ℕ) → opening_size session.start o ≡ length (opening_bytes session.start o)
 opening_sized session sound o = by_file (opened_file session.start o) refl
@@ -123,28 +97,3 @@ opening_sized session sound o = by_file (opened_file session.start o) refl
     by_file : (f : Option StartFile) → opened_file session.start o ≡ f → option_map_or (λ f. f.size) f 0 ≡ length (option_map_or (λ f. f.bytes.items) f [])
     by_file (Some f) is = let (i, place) = found_at (λ (f : StartFile). f.node.pnode == o) session.start.files.items f is in (sound.files i f place).sized
     by_file None is = refl
-
--- each entry raises the version of its object by at most one
-pub versions_low : (session : Session) → IsSound session → (history : List Entry) → IsLegal session history → (o : ℕ) → version_after session history o < 2 ^ 48 + length history
-versions_low session sound = legal_induction session (λ history. (o : ℕ) → version_after session history o < 2 ^ 48 + length history)
-    (λ o. let low = opening_low session sound o in omega (arith, low))
-    (λ history e legal low next o. raised history e legal next o (low o) (e.what == o) refl)
-  where
-    one_more : (b : Bool) (v n : ℕ) → v < n → (if b then v + 1 else v) < n + 1
-    one_more true v n low = omega arith
-    one_more false v n low = omega arith
-
-    raised : (history : List Entry) (e : Entry) → IsLegal session history → MayFollow session history e → (o : ℕ) → version_after session history o < 2 ^ 48 + length history
-        → (b : Bool) → (e.what == o) ≡ b → version_after session (history ++ e ∷ []) o < 2 ^ 48 + length (history ++ e ∷ [])
-    raised history e legal next o low true is =
-        let here : e.what ≡ o = same_numbers e.what o is in
-        let longer = length-append history (e ∷ []) in
-        let moved = ap (λ (n : Node). n.version) (node_in-entry session history e) in
-        let there = ap (λ o. version_after session (history ++ e ∷ []) o) here in
-        let from = ap (λ o. version_after session history o) here in
-        let more = one_more (is_freeze session history (nodes_of session history) e) (version_after session history e.what) (2 ^ 48 + length history) (omega (arith, low, from)) in
-        omega (arith, longer, moved, there, more)
-    raised history e legal next o low false is =
-        let kept = ap (λ (n : Node). n.version) ((lineage_law session history e legal next).others o is).node in
-        let longer = length-append history (e ∷ []) in
-        omega (arith, kept, longer, low)

@@ -1,23 +1,22 @@
 -- The lines of a trace, read one after the other against the calls of a run.
-use Rattle.std.proofs.Common.{◌≡◌, ◌+◌, ◌==◌, ◌<◌, ◌≤◌, ℕ, suc, List, [], ◌∷◌, ◌++◌, length, take, drop, map, refl, ap, sym, ◌∙◌, Bool, true, false, ◌&&◌, not, arith, append_assoc, get_or}
+use Rattle.std.proofs.Common.{◌≡◌, ◌+◌, ◌==◌, ◌<◌, ◌≤◌, ℕ, suc, List, [], ◌∷◌, ◌++◌, length, take, map, refl, ap, sym, ◌∙◌, Bool, true, false, ◌&&◌, not, arith, append_assoc, get_or}
 use Rattle.std.specs.Prelude.{Option, Some, None, find, filter_map, fold, slice_get, option_map, unwrap_or, if◌then◌else◌}
 use Rattle.std.specs.Option.{option_map_or, option_or, option_to_list}
 use Rattle.std.specs.List.{enumerate_from, cons_option}
 use Rattle.std.specs.Ordering.{nat_cmp}
 use Rattle.std.specs.BTreeMap.{get}
 use Rattle.std.specs.BTreeSet.{insert_key}
-use Rattle.std.proofs.lemmas.List.{length-append}
+use Rattle.std.proofs.lemmas.List.{length-append, append-nil}
 use Rattle.std.proofs.lemmas.List.Elements.{filter-append, filter_map-append}
 use Rattle.std.proofs.lemmas.List.Folds.{find-append}
 use Rattle.std.proofs.lemmas.List.Sums.{fold-append}
 use Rattle.std.proofs.lemmas.Option.{slice_get-map, slice_get_read}
-use Rattle.std.proofs.lemmas.List.{take-append-drop}
 use Rattle.pass_trace.specs.declared.trace.TraceLine.{TraceLine}
 use Rattle.pass_trace.specs.TraceLines.{plain_line, plain_trace}
-use Rattle.pass_report.proofs.Advancing.{take-at}
 use Rattle.pass_entry.specs.declared.entry.Entry.{Entry}
 use Rattle.pass_entry.specs.declared.entry.Act.TheVariants as act
 use Rattle.pass_entry.specs.declared.objects.Kind.TheVariants as kind
+use Rattle.pass_entry.proofs.Places.{take_one_more, parted, slice_get-last}
 use Rattle.pass_plain.specs.declared.request.Request.TheVariants as requests
 use Rattle.pass_plain.specs.Histories.{call_entries, pnode_of}
 use Rattle.pass_plain.specs.Sessions.{Session}
@@ -26,7 +25,7 @@ use Rattle.pass_plain.specs.Legal.{before_call, is_over, ends_call, step_of}
 use Rattle.pass_plain.specs.Traces.{Line, LineCall, given, write_last, fork_as, wait_for, lines_of, calls_of}
 use Rattle.pass_plain.specs.Runs.{Begun, pnode_in, first_begun, begun_by_call, begun_at, begun_after, pnode_of_process, steps_at, IsRun}
 use Rattle.pass_plain.proofs.Lists.{some_is, same_numbers, same_itself}
-use Rattle.pass_plain.proofs.Appends.{slice_get-append, slice_get-last}
+use Rattle.pass_plain.proofs.Appends.{slice_get-append}
 use Rattle.pass_plain.proofs.Replays.{enumerate_from-append}
 use Rattle.pass_report.specs.Reports.{ascending, trace_processes, forked_by, is_done}
 use Rattle.pass_report.specs.declared.calls.Calls.{Calls}
@@ -34,14 +33,15 @@ use Rattle.pass_report.specs.CallTables.{makes_process, ended_by, child_by, IsCa
 use Rattle.pass_report.specs.declared.standing.Standing.{Standing}
 use Rattle.pass_report.specs.Standings.{lines_in, begun_from, ReadsLine, HasRead, next_among, LooksAtLine, HasLooked, done_by}
 use Rattle.pass_report.proofs.Tabling.{over_by}
+use Rattle.pass_report.proofs.Digesting.{one_more}
 
-no_more : {X : Type 0} (xs : List X) → xs ++ [] ≡ xs
-no_more [] = refl
-no_more (x ∷ xs) = ap (λ ys. x ∷ ys) (no_more xs)
-
-option_map-or : {X Y : Type 0} (f : X → Y) (a b : Option X) → option_map f (option_or a b) ≡ option_or (option_map f a) (option_map f b)
+pub option_map-or : {X Y : Type 0} (f : X → Y) (a b : Option X) → option_map f (option_or a b) ≡ option_or (option_map f a) (option_map f b)
 option_map-or f None b = refl
 option_map-or f (Some x) b = refl
+
+pub or_none : {X : Type 0} (o : Option X) → option_or o None ≡ o
+or_none None = refl
+or_none (Some x) = refl
 
 abbrev paired : ℕ → ℕ → ℕ × ℕ
 paired a b = (a, b)
@@ -53,15 +53,11 @@ one_option : (o : Option ℕ) → cons_option o [] ≡ option_to_list o
 one_option None = refl
 one_option (Some n) = refl
 
-or_none : {X : Type 0} (o : Option X) → option_or o None ≡ o
-or_none None = refl
-or_none (Some x) = refl
-
 -- the processes that have begun, one line further
 
 begun_after-more : (history : List Entry) (begun : Begun) (before xs ys : List Line)
     → (more : Begun) × (begun_after history begun before (xs ++ ys) ≡ begun_after history begun before xs ++ more)
-begun_after-more history begun before [] [] = ([], sym (no_more begun))
+begun_after-more history begun before [] [] = ([], sym (append-nil begun))
 begun_after-more history begun before [] (y ∷ ys) =
     let (more, is) = begun_after-more history (begun ++ begun_at history begun before y) (before ++ y ∷ []) [] ys in
     (begun_at history begun before y ++ more, is ∙ append_assoc begun (begun_at history begun before y) more)
@@ -69,7 +65,7 @@ begun_after-more history begun before (x ∷ xs) ys = begun_after-more history (
 
 begun_after-one : (history : List Entry) (begun : Begun) (before xs : List Line) (l : Line)
     → begun_after history begun before (xs ++ l ∷ []) ≡ begun_after history begun before xs ++ begun_at history (begun_after history begun before xs) (before ++ xs) l
-begun_after-one history begun before [] l = ap (λ ls. begun ++ begun_at history begun ls l) (sym (no_more before))
+begun_after-one history begun before [] l = ap (λ ls. begun ++ begun_at history begun ls l) (sym (append-nil before))
 begun_after-one history begun before (x ∷ xs) l =
     begun_after-one history (begun ++ begun_at history begun before x) (before ++ x ∷ []) xs l
     ∙ ap (λ ls. begun_after history begun before (x ∷ xs) ++ begun_at history (begun_after history begun before (x ∷ xs)) ls l) (append_assoc before (x ∷ []) xs)
@@ -84,15 +80,11 @@ pnode_in-append a b process =
 lines_of-one : (done : List Line) (l : Line) (process : ℕ) → lines_of (done ++ l ∷ []) process ≡ lines_of done process ++ (if l.process == process then l ∷ [] else [])
 lines_of-one done l process = filter-append (λ (l : Line). l.process == process) done (l ∷ [])
 
-counted_line : (b : Bool) (n : ℕ) (l : Line) → n + length (if b then l ∷ [] else []) ≡ (if b then n + 1 else n)
-counted_line true n l = refl
-counted_line false n l = omega arith
-
 length-lines_of-one : (done : List Line) (l : Line) (process : ℕ)
     → length (lines_of (done ++ l ∷ []) process) ≡ (if l.process == process then length (lines_of done process) + 1 else length (lines_of done process))
 length-lines_of-one done l process =
     ap length (lines_of-one done l process) ∙ length-append (lines_of done process) (if l.process == process then l ∷ [] else [])
-    ∙ counted_line (l.process == process) (length (lines_of done process)) l
+    ∙ one_more (l.process == process) (length (lines_of done process)) l
 
 -- a line of a trace, its place among its process's lines, and the run
 module _ (session : Session) (trace : List Line) (history : List Entry) (c : Calls) (run : IsRun session trace history) (table : IsCallTable history c)
@@ -191,12 +183,12 @@ pub line_at : (lines : List TraceLine) (i : ℕ) (x : TraceLine) → i < length 
 line_at lines i x within is =
     slice_get-map plain_line lines i ∙ ap (λ o. option_map plain_line o) (slice_get_read lines (length lines) i x refl within is)
 
-pub parted : (trace : List Line) (i : ℕ) (l : Line) → slice_get trace i ≡ Some l → trace ≡ take i trace ++ l ∷ drop (suc i) trace
-parted trace i l at =
-    sym (take-append-drop (suc i) trace) ∙ ap (λ xs. xs ++ drop (suc i) trace) (take-at trace i l at) ∙ append_assoc (take i trace) (l ∷ []) (drop (suc i) trace)
+pub more_or_same : (b : Bool) (n m i : ℕ) → m ≡ (if b then n + 1 else n) → n ≤ i → m ≤ i + 1
+more_or_same true n m i is few = omega (arith, is, few)
+more_or_same false n m i is few = omega (arith, is, few)
 
 pub one_line : (trace : List Line) (i : ℕ) (l : Line) → slice_get trace i ≡ Some l → take (i + 1) trace ≡ take i trace ++ l ∷ []
-one_line trace i l at = ap (λ n. take n trace) (let z : i + 1 ≡ suc i = omega arith in z) ∙ take-at trace i l at
+one_line trace i l at = ap (λ n. take n trace) (let z : i + 1 ≡ suc i = omega arith in z) ∙ take_one_more trace i l at
 
 -- which calls are answered, and the next lines
 
@@ -218,7 +210,7 @@ module _ (session : Session) (trace : List Line) (history : List Entry) (c : Cal
     next_other : (process : ℕ) → (l.process == process) ≡ false → next_among session trace history (done ++ l ∷ []) process ≡ next_among session trace history done process
     next_other process other =
         ap (λ ls. option_map (λ (s : ℕ × Line). s.1.number) (find (λ s. not (is_done session trace history process s.0)) (enumerate_from 1 ls)))
-        (lines_of-one done l process ∙ ap (λ b. lines_of done process ++ (if b then l ∷ [] else [])) other ∙ no_more (lines_of done process))
+        (lines_of-one done l process ∙ ap (λ b. lines_of done process ++ (if b then l ∷ [] else [])) other ∙ append-nil (lines_of done process))
 
     next_own : (process : ℕ) → (l.process == process) ≡ true
         → next_among session trace history (done ++ l ∷ []) process

@@ -1,9 +1,9 @@
 -- The sizes and rows of files after one more entry.
 use Rattle.std.proofs.Common.{◌≡◌, ◌<◌, ◌≤◌, ◌+◌, ◌-◌, ◌*◌, ◌^◌, ◌==◌, ℕ, suc, List, [], ◌∷◌, ◌++◌, length, take, map, refl, ap, sym, subst, ◌∙◌, arith, Bool, true, false, ◌&&◌, ◌||◌, not, length-append}
-use Rattle.std.specs.Prelude.{drop, replicate, filter, max, nat_lt, if◌then◌else◌}
+use Rattle.std.specs.Prelude.{drop, filter, max, nat_lt, if◌then◌else◌}
 use Rattle.std.specs.Option.{option_map_or}
 use Rattle.std.specs.List.{range_with_len, list_any}
-use Rattle.std.proofs.lemmas.List.{length-take, length-drop, length-replicate, length-map}
+use Rattle.std.proofs.lemmas.List.{length-take, length-drop, length-map}
 use Rattle.pass_entry.specs.declared.entry.Entry.{Entry}
 use Rattle.pass_entry.specs.declared.entry.Act.{Act}
 use Rattle.pass_entry.specs.declared.entry.Act.TheVariants as act
@@ -14,7 +14,7 @@ use Rattle.pass_plain.specs.declared.start.Start.{Start}
 use Rattle.pass_plain.specs.Histories.{is_fault}
 use Rattle.pass_plain.specs.Sessions.{Session, opening_size, opening_rows, opening_bytes}
 use Rattle.pass_plain.specs.Sound.{IsSound}
-use Rattle.pass_plain.specs.Files.{file_after, file_act, written, resized, extended}
+use Rattle.pass_plain.specs.Files.{file_after, file_act, written, extended}
 use Rattle.pass_plain.specs.Records.{is_written, touches, range_len, row_act, has_row, is_digested, content_records, digest_of}
 use Rattle.pass_plain.proofs.Lists.{same_numbers}
 use Rattle.pass_plain.proofs.Replays.{state_after-append, own_step-own, own_step-other, own_step-fault}
@@ -24,6 +24,7 @@ use Rattle.pass_plain.specs.Calls.{call_steps}
 use Rattle.pass_plain.specs.Legal.{before_call}
 use Rattle.pass_plain.proofs.Rows.{Row}
 use Rattle.pass_plain.proofs.Calling.{row}
+use Rattle.pass_plain.proofs.Sizes.{length-resized, length-extended}
 use Rattle.pass_report.specs.Reports.{SameButBytes}
 use Rattle.pass_report.specs.Passing.{IsNext}
 use Rattle.pass_report.specs.Digests.{passing, put_size, gets_digest, row_at}
@@ -31,9 +32,6 @@ use Rattle.pass_report.specs.Contents.{size_in, row_in, IsSameFile, AreFiles, co
 use Rattle.pass_report.proofs.Digesting.{passing-same}
 use Rattle.pass_report.proofs.Filling.{nothing_in}
 use Rattle.pass_report.proofs.Openings.{same_size, same_rows, opening_sized}
-
-length-extended : (content : List ℕ) (size : ℕ) → length (extended content size) ≡ length content + (size - length content)
-length-extended content size = length-append content (replicate (size - length content) 0) ∙ ap (λ n. length content + n) (length-replicate (size - length content) 0)
 
 put_size-some : (size at n : ℕ) → put_size size at (suc n) ≡ max size (at + suc n)
 put_size-some size at n =
@@ -51,12 +49,6 @@ length-written content at (b ∷ bytes) =
     let rest = length-append (take at (extended content at)) (b ∷ bytes) in
     let most : length (written content at (b ∷ bytes)) ≡ max (length content) (at + suc (length bytes)) = omega (arith, front, wide, tail, all, rest) in
     most ∙ sym (put_size-some (length content) at (length bytes))
-
-pub length-resized : (content : List ℕ) (size : ℕ) → length (resized content size) ≡ size
-length-resized content size =
-    let t = length-take size (extended content size) in
-    let wide = length-extended content size in
-    omega (arith, t, wide)
 
 -- as many digests, where sizes and rows agree
 pub same_digests : (had held : ℕ → Bool) (old size at len new now n : ℕ) → ((block : ℕ) → block < n → had block ≡ held block) → old ≡ size → new ≡ now

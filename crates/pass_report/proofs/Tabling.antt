@@ -2,30 +2,28 @@
 use Rattle.std.proofs.Common.{◌≡◌, ◌-◌, ◌==◌, ◌<◌, ◌≤◌, ℕ, List, [], ◌∷◌, ◌++◌, length, refl, ap, sym, ◌∙◌, Bool, true, false, ◌||◌, ◌&&◌, cond, arith, inl, inr}
 use Rattle.std.specs.Prelude.{Some, None, is_some, slice_get, nat_lt, if◌then◌else◌}
 use Rattle.std.specs.Option.{option_map_or}
-use Rattle.std.specs.List.{list_any}
 use Rattle.std.specs.Ordering.{nat_cmp, is_eq}
 use Rattle.std.specs.Cmp.{unsigned_tied}
 use Rattle.pass_report.specs.declared.calls.LastCall.{LastCall}
 use Rattle.std.specs.BTreeMap.{BTreeMap, get, Updates}
-use Rattle.std.proofs.lemmas.List.{length-append}
+use Rattle.std.proofs.lemmas.List.{length-append, append-nil}
 use Rattle.std.proofs.lemmas.Bool.Decides.{nat_tests}
 use Rattle.std.proofs.lemmas.Map.Lookups.{exact_pairs, exact_unsigned}
 use Rattle.pass_entry.specs.declared.entry.Entry.{Entry}
 use Rattle.pass_plain.specs.Histories.{is_of_call, call_entries, pnode_of}
 use Rattle.pass_plain.specs.Sessions.{Session}
-use Rattle.pass_plain.specs.Processes.{Process, process_after, has_begun, begins}
+use Rattle.pass_plain.specs.Processes.{process_after, has_begun, begins}
 use Rattle.pass_plain.specs.Calls.{Made, is_last}
 use Rattle.pass_plain.specs.Legal.{IsLegal, MayFollow, before_call, last_number, is_over, ends_call}
 use Rattle.pass_plain.specs.Traces.{Line}
 use Rattle.pass_plain.specs.Runs.{IsRun}
-use Rattle.pass_plain.proofs.Lists.{some_is, true_left, true_right, same_numbers, same_itself, any_of, below_is, not_below}
-use Rattle.pass_plain.proofs.Appends.{slice_get-last}
+use Rattle.pass_plain.proofs.Lists.{some_is, true_left, true_right, same_numbers, same_itself, below_is, not_below, is_equal}
 use Rattle.pass_plain.proofs.Calling.{call_entries-append, last_number-append, legal_induction, acts-cases, numbered}
-use Rattle.pass_plain.proofs.LastCalls.{before_kept, begun_next}
+use Rattle.pass_plain.proofs.LastCalls.{begun_next}
 use Rattle.pass_plain.proofs.Playing.{before_hit, no_calls}
+use Rattle.pass_plain.proofs.OtherCalls.{other_over, ends_last}
 use Rattle.pass_report.specs.declared.calls.Calls.{Calls}
 use Rattle.pass_report.specs.CallTables.{makes_process, call_cmp, number_in, ended_in, child_in, IsCallTable}
-use Rattle.pass_report.proofs.Filling.{is_equal}
 
 same_call : (a b : ℕ × ℕ) → is_eq (call_cmp a b) ≡ true → a ≡ b
 same_call a b e = exact_pairs nat_cmp nat_cmp exact_unsigned exact_unsigned a b (is_equal (call_cmp a b) e)
@@ -64,44 +62,13 @@ at_number {X} {Y} m n k v updates f d q =
 
 -- the calls of a history with one more entry
 
-ends_push : (p : Process) (made : Made) (m : ℕ × Entry) → ends_call p (made ++ m ∷ []) ≡ is_last p m.1
-ends_push p made m =
-    let longer = length-append made (m ∷ []) in
-    ap (λ k. option_map_or (λ (s : ℕ × Entry). is_last p s.1) (slice_get (made ++ m ∷ []) k) false) (let z : length (made ++ m ∷ []) - 1 ≡ length made = omega (arith, longer) in z)
-    ∙ ap (λ o. option_map_or (λ (s : ℕ × Entry). is_last p s.1) o false) (slice_get-last made m)
-
 pub over_own : (past : List Entry) (e : Entry) → is_over (past ++ e ∷ []) e.who e.number ≡ is_last (before_call past e.who e.number) e
 over_own past e =
     let hit : is_of_call e.who e.number e ≡ true = ap (λ b. b && e.number == e.number) (same_itself e.who) ∙ same_itself e.number in
     ap (λ h. ends_call (process_after h e.who) (call_entries (past ++ e ∷ []) e.who e.number)) (before_hit (is_of_call e.who e.number) past e hit)
     ∙ ap (ends_call (before_call past e.who e.number))
     (call_entries-append past e e.who e.number ∙ ap (λ b. call_entries past e.who e.number ++ cond b ((length past, e) ∷ []) []) hit)
-    ∙ ends_push (before_call past e.who e.number) (call_entries past e.who e.number) (length past, e)
-
-ends_none : (p : Process) → ends_call p [] ≡ false
-ends_none p = refl
-
-no_more : {X : Type 0} (xs : List X) → xs ++ [] ≡ xs
-no_more [] = refl
-no_more (x ∷ xs) = ap (λ ys. x ∷ ys) (no_more xs)
-
-pub over_other : (past : List Entry) (e : Entry) (who number : ℕ) → is_of_call who number e ≡ false → is_over (past ++ e ∷ []) who number ≡ is_over past who number
-over_other past e who number other = by_test (list_any (is_of_call who number) past) refl
-  where
-    same_calls : call_entries (past ++ e ∷ []) who number ≡ call_entries past who number
-    same_calls =
-        call_entries-append past e who number ∙ ap (λ b. call_entries past who number ++ cond b ((length past, e) ∷ []) []) other
-        ∙ no_more (call_entries past who number)
-
-    by_test : (b : Bool) → list_any (is_of_call who number) past ≡ b → is_over (past ++ e ∷ []) who number ≡ is_over past who number
-    by_test true is =
-        ap (λ h. ends_call (process_after h who) (call_entries (past ++ e ∷ []) who number)) (before_kept (is_of_call who number) past e is)
-        ∙ ap (ends_call (before_call past who number)) same_calls
-    by_test false is =
-        let none : call_entries past who number ≡ [] = no_calls past who number (λ i f at by its.
-        let hit : is_of_call who number f ≡ true = ap (λ b. b && f.number == number) (ap (λ n. n == who) by ∙ same_itself who) ∙ (ap (λ n. n == number) its ∙ same_itself number) in
-        let z : true ≡ false = sym (any_of (is_of_call who number) past i f at hit) ∙ is in cc) in
-        ap (ends_call (before_call (past ++ e ∷ []) who number)) (same_calls ∙ none) ∙ sym (ap (ends_call (before_call past who number)) none)
+    ∙ ends_last (before_call past e.who e.number) (call_entries past e.who e.number) (length past, e)
 
 module _ (past : List Entry) (e : Entry) (c d : Calls) (ended : Bool) where
   abbrev call : LastCall
@@ -126,14 +93,14 @@ module _ (past : List Entry) (e : Entry) (c d : Calls) (ended : Bool) where
     over who false is =
         let last : last_number (past ++ e ∷ []) who ≡ last_number past who = last_number-append past e who ∙ ap (λ b. if b then e.number else last_number past who) is in
         ap (λ b. if b then ended else ended_in c who) is ∙ table.ended who
-        ∙ sym (over_other past e who (last_number past who) (ap (λ b. b && e.number == last_number past who) is))
+        ∙ sym (other_over past e who (last_number past who) (ap (λ b. b && e.number == last_number past who) is))
         ∙ sym (ap (is_over (past ++ e ∷ []) who) last)
 
     first_child : (who number : ℕ) (s : ℕ × Entry) (b : Bool) → is_of_call who number e ≡ b → slice_get (call_entries (past ++ e ∷ []) who number) 0 ≡ Some s
         → makes_process s.1.act ≡ true → child_in d who number ≡ Some (pnode_of s.1.reply)
     first_child who number s false other at makes =
         let same : call_entries (past ++ e ∷ []) who number ≡ call_entries past who number =
-        call_entries-append past e who number ∙ ap (λ b. call_entries past who number ++ cond b ((length past, e) ∷ []) []) other ∙ no_more (call_entries past who number) in
+        call_entries-append past e who number ∙ ap (λ b. call_entries past who number ++ cond b ((length past, e) ∷ []) []) other ∙ append-nil (call_entries past who number) in
         others who number other ∙ table.child who number s (sym (ap (λ xs. slice_get xs 0) same) ∙ at) makes
     first_child who number s true own at makes =
         let same : call_entries (past ++ e ∷ []) who number ≡ call_entries past who number ++ (length past, e) ∷ [] =
@@ -158,7 +125,7 @@ module _ (past : List Entry) (e : Entry) (c d : Calls) (ended : Bool) where
     free_child : (who number : ℕ) (b : Bool) → is_of_call who number e ≡ b → call_entries (past ++ e ∷ []) who number ≡ [] → child_in d who number ≡ None
     free_child who number false other none =
         let same : call_entries (past ++ e ∷ []) who number ≡ call_entries past who number =
-        call_entries-append past e who number ∙ ap (λ b. call_entries past who number ++ cond b ((length past, e) ∷ []) []) other ∙ no_more (call_entries past who number) in
+        call_entries-append past e who number ∙ ap (λ b. call_entries past who number ++ cond b ((length past, e) ∷ []) []) other ∙ append-nil (call_entries past who number) in
         others who number other ∙ table.none who number (sym same ∙ none)
     free_child who number true own none =
         let same : call_entries (past ++ e ∷ []) who number ≡ call_entries past who number ++ (length past, e) ∷ [] =
@@ -228,12 +195,3 @@ over_by session trace history c run table who number least =
         let apart : last_number history who < number = grind (arith, nat_tests, above, is) in
         ap (λ a. a || (number == last_number history who && is_over history who (last_number history who))) after
         ∙ ap (λ b. b && is_over history who (last_number history who)) is ∙ sym (over_later session history run.legal who number apart)
-
--- no call has a number below 1
-pub none_before : (number : ℕ) → 1 ≤ number → false ≡ (nat_lt number 0 || number == 0 && false)
-none_before number least = by_test (nat_lt number 0) refl (number == 0)
-  where
-    by_test : (a : Bool) → nat_lt number 0 ≡ a → (b : Bool) → false ≡ a || b && false
-    by_test true before b = absurd (let below = below_is number 0 before in omega (arith, below))
-    by_test false before true = refl
-    by_test false before false = refl

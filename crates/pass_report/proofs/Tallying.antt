@@ -5,7 +5,7 @@ use Rattle.std.specs.Option.{option_map_or}
 use Rattle.std.specs.List.{range_with_len}
 use Rattle.std.specs.BTreeSet.{insert_key}
 use Rattle.std.specs.FinMap as finite_map
-use Rattle.std.proofs.lemmas.List.{length-append}
+use Rattle.std.proofs.lemmas.List.{length-append, append-nil}
 use Rattle.std.proofs.lemmas.List.Sums.{fold-append}
 use Rattle.std.proofs.lemmas.List.Concat.{flat_map-append}
 use Rattle.pass_entry.specs.declared.entry.Entry.{Entry}
@@ -20,21 +20,14 @@ use Rattle.pass_plain.specs.Files.{file_after, file_act}
 use Rattle.pass_plain.specs.Registries.{registry_after}
 use Rattle.pass_plain.specs.Versions.{nodes_of, node_at_entry, source_in, is_in, is_exec, is_fresh, is_freeze, is_marked, is_repeated, always_freezes}
 use Rattle.pass_plain.specs.Records.{records_of, entry_records, act_records, version_records, content_records, file_named, digest_of, is_digested}
-use Rattle.pass_plain.proofs.Replays.{replay-append}
 use Rattle.pass_report.specs.Reports.{Edge, ascending, edge_cmp, edges_of_record}
 use Rattle.pass_report.specs.declared.names.Names.{Names}
 use Rattle.pass_plain.specs.declared.nodes.VersionStep.{VersionStep}
+use Rattle.pass_plain.proofs.RecordedBy.{records_of-append}
 use Rattle.pass_report.specs.Trails.{IsTurn}
 use Rattle.pass_report.specs.Names.{holds, AreNames}
 use Rattle.pass_report.specs.Contents.{content_count}
 use Rattle.pass_report.specs.Logging.{one_if, version_count, own_count, turn_edges}
-
-no_more : {X : Type 0} (xs : List X) → xs ++ [] ≡ xs
-no_more [] = refl
-no_more (x ∷ xs) = ap (λ ys. x ∷ ys) (no_more xs)
-
-pub records_of-append : (session : Session) (past : List Entry) (e : Entry) → records_of session (past ++ e ∷ []) ≡ records_of session past ++ entry_records session past e
-records_of-append session past e = replay-append (λ past list e. list ++ entry_records session past e) [] [] past e
 
 -- an entry that names no place takes from nothing
 no_in : (e : Entry) → out_of e.act ≡ None → is_in e ≡ false
@@ -43,12 +36,6 @@ no_in e none = ap (λ o. option_map_or (λ out. true) o false) (by_fault (is_fau
     by_fault : (b : Bool) → (if b then None else out_of e.act) ≡ None
     by_fault true = refl
     by_fault false = none
-
-both_false : (a b c : Bool) → a ≡ false → b ≡ false → (not c && (a || (b && c))) ≡ false
-both_false a b true x y = refl
-both_false true b false x y = absurd (cc)
-both_false false true false x y = absurd (cc)
-both_false false false false x y = refl
 
 module _ (session : Session) (past : List Entry) (e : Entry) (turn : VersionStep) (turned : IsTurn session past e turn) where
   abbrev nodes : List Node
@@ -132,7 +119,7 @@ module _ (session : Session) (past : List Entry) (e : Entry) (turn : VersionStep
         omega (arith, whole, parts, front, long, counted);
     edges =
         ap (flat_map edges_of_record) is ∙ flat_map-append edges_of_record (version_records session past e node) extra
-        ∙ (λ i. version_edges i ++ none i) ∙ no_more (turn_edges turn);
+        ∙ (λ i. version_edges i ++ none i) ∙ append-nil (turn_edges turn);
   }
 
   plain_records : (names : Names) (a : Act) → act_records session past e node a ≡ version_records session past e node ++ []
@@ -193,4 +180,4 @@ pub faulted_records : (session : Session) (past : List Entry) (e : Entry) → is
 faulted_records session past e fault =
     records_of-append session past e
     ∙ ap (λ b. records_of session past ++ (if b then [] else act_records session past e (node_at_entry session past (nodes_of session past) e) e.act)) fault
-    ∙ no_more (records_of session past)
+    ∙ append-nil (records_of session past)

@@ -13,14 +13,15 @@ use Rattle.pass_plain.specs.Lineages.{Lineage, IsAlike, IsLineageStep, lineage_a
 use Rattle.pass_plain.proofs.Lists.{same_numbers}
 use Rattle.pass_plain.proofs.Lineages.{lineage_law}
 use Rattle.pass_plain.proofs.Versioned.{nodes_of-append}
-use Rattle.pass_version.proofs.OneObject.{alike_then, alike_turned, opening_law}
+use Rattle.pass_version.proofs.OneObject.{alike_then, alike_turned, opening_law, act_alike}
 use Rattle.pass_plain.specs.declared.nodes.VersionStep.{VersionStep}
+use Rattle.pass_plain.proofs.LastNodes.{node_in-entry}
 use Rattle.pass_report.specs.Reports.{SameButBytes}
 use Rattle.pass_report.specs.declared.trail.Trail.{Trail}
 use Rattle.pass_report.specs.Trails.{opening_lineage, lineage_in, IsTurn, IsTurnOf}
 use Rattle.pass_report.proofs.Filling.{nothing_in}
 use Rattle.pass_report.proofs.Openings.{same_version, same_opened}
-use Rattle.pass_report.proofs.Turning.{act_alike, fresh_alike, freeze_alike, node_in-entry}
+use Rattle.pass_report.proofs.Turning.{fresh_alike, freeze_alike}
 
 -- before the first entry
 pub opening_alike : (start : Start) (session : Session) → SameButBytes start session.start → (t : Trail) → t.objects.entries ≡ []

@@ -4,11 +4,12 @@ use Rattle.std.specs.Prelude.{fold, nat_lt, nat_le}
 use Rattle.std.specs.List.{list_any, onto_first}
 use Rattle.std.proofs.lemmas.List.{take-append-le, take_all}
 use Rattle.std.proofs.lemmas.List.Sums.{fold-append}
-use Rattle.std.proofs.lemmas.Bool.Decides.{nat_tests}
+use Rattle.std.proofs.lemmas.Bool.{lt-ltb, le-ltb, leb-false, cond-true}
 use Rattle.pass_trace.specs.Lines.{lines_of}
 use Rattle.pass_trace.specs.Lines.{is_too_long}
 use Rattle.pass_run.specs.Reading.{counted, none_counted, counted_of, StopsInTime}
 use Rattle.pass_run.specs.declared.reading.Limits.{Limits}
+use Rattle.pass_entry.proofs.Lists.{or_true, at_most}
 
 -- the beginning of a line that hasn't ended, where there is one
 abbrev begun_line : List ℕ → List (List ℕ)
@@ -49,22 +50,6 @@ with_is front (b ∷ bs) =
 
 -- tests
 
-is_less : (a b : ℕ) → a < b → nat_lt a b ≡ true
-is_less a b h = grind (arith, nat_tests)
-
-not_less : (a b : ℕ) → b ≤ a → nat_lt a b ≡ false
-not_less a b h = grind (arith, nat_tests)
-
-le_is : (a b : ℕ) → nat_le a b ≡ true → a ≤ b
-le_is a b h = grind (arith, nat_tests)
-
-le_not : (a b : ℕ) → nat_le a b ≡ false → b < a
-le_not a b h = grind (arith, nat_tests)
-
-or_true : (a : Bool) → a || true ≡ true
-or_true true = refl
-or_true false = refl
-
 abbrev is_long : List ℕ → Bool
 is_long line = nat_lt 8400 (length line)
 
@@ -81,31 +66,27 @@ some_line front (b ∷ bs) some = at_byte (b == 10) (some_line (front ++ b ∷ [
 -- and behind one that is too long, one that is too long
 long_line : (front text : List ℕ) → 8400 < length front → list_any is_long (lines_with front text) ≡ true
 long_line [] [] long = absurd (omega (arith, long))
-long_line (c ∷ front) [] long = ap (λ b. b || false) (is_less 8400 (length (c ∷ front)) long)
+long_line (c ∷ front) [] long = ap (λ b. b || false) (lt-ltb 8400 (length (c ∷ front)) long)
 long_line front (b ∷ bs) long = at_byte (b == 10) (long_line (front ++ b ∷ []) bs (let z = length-append front (b ∷ []) in omega (arith, z, long)))
   where
     at_byte : (t : Bool) → list_any is_long (lines_with (front ++ b ∷ []) bs) ≡ true → list_any is_long (cond t (front ∷ lines_with [] bs) (lines_with (front ++ b ∷ []) bs)) ≡ true
-    at_byte true more = ap (λ b. b || list_any is_long (lines_with [] bs)) (is_less 8400 (length front) long)
+    at_byte true more = ap (λ b. b || list_any is_long (lines_with [] bs)) (lt-ltb 8400 (length front) long)
     at_byte false more = more
 
 -- lines behind others are too long, or too many
 abbrev too_long_with : ℕ → List (List ℕ) → Bool
 too_long_with lines ls = nat_lt 100000 (lines + length ls) || list_any is_long ls
 
-stay_if : (t : Bool) (c d : Limits) → t ≡ true → cond t c d ≡ c
-stay_if true c d is = refl
-stay_if false c d is = absurd (cc)
-
 over_stays : (limits : Limits) (text : List ℕ) → limits.over ≡ true → fold counted limits text ≡ limits
 over_stays limits [] over = refl
-over_stays limits (b ∷ bs) over = ap (λ (c : Limits). fold counted c bs) (stay_if limits.over limits _ over) ∙ over_stays limits bs over
+over_stays limits (b ∷ bs) over = ap (λ (c : Limits). fold counted c bs) (cond-true limits.over limits _ over) ∙ over_stays limits bs over
 
 counting : (lines bytes : ℕ) (front text : List ℕ) → length front ≡ bytes → lines ≤ 100000 → bytes ≤ 8400 → (0 < bytes → lines < 100000)
     → (fold counted (record { lines = lines; bytes = bytes; over = false }) text).over ≡ too_long_with lines (lines_with front text)
-counting lines bytes [] [] size few short room = sym (ap (λ b. b || false) (not_less 100000 (lines + 0) (omega (arith, few))))
+counting lines bytes [] [] size few short room = sym (ap (λ b. b || false) (le-ltb 100000 (lines + 0) (omega (arith, few))))
 counting lines bytes (c ∷ front) [] size few short room =
-    sym (ap (λ b. b || (nat_lt 8400 (length (c ∷ front)) || false)) (not_less 100000 (lines + 1) (omega (arith, room, size)))
-    ∙ ap (λ b. b || false) (not_less 8400 (length (c ∷ front)) (omega (arith, size, short))))
+    sym (ap (λ b. b || (nat_lt 8400 (length (c ∷ front)) || false)) (le-ltb 100000 (lines + 1) (omega (arith, room, size)))
+    ∙ ap (λ b. b || false) (le-ltb 8400 (length (c ∷ front)) (omega (arith, size, short))))
 counting lines bytes front (b ∷ bs) size few short room =
     at_lines (nat_le 100000 lines) refl (b == 10) refl (nat_le 8400 bytes) refl
     (λ below. counting (lines + 1) 0 [] bs refl (omega (arith, below)) (omega arith) (λ some. absurd (omega (arith, some))))
@@ -125,22 +106,22 @@ counting lines bytes front (b ∷ bs) size few short room =
         (cond long (record { lines = lines; bytes = bytes; over = true }) (record { lines = lines; bytes = bytes + 1; over = false })))) bs).over
         ≡ too_long_with lines (cond ends (front ∷ lines_with [] bs) (lines_with (front ++ b ∷ []) bs))
     at_lines true many ends e long l ended more =
-        let above = le_is 100000 lines many in
+        let above = at_most 100000 lines many in
         let some = some_of ends in
         ap (λ (c : Limits). c.over) (over_stays (record { lines = lines; bytes = bytes; over = true }) bs refl)
         ∙ sym (ap (λ t. t || list_any is_long (cond ends (front ∷ lines_with [] bs) (lines_with (front ++ b ∷ []) bs)))
-        (is_less 100000 (lines + length (cond ends (front ∷ lines_with [] bs) (lines_with (front ++ b ∷ []) bs))) (omega (arith, above, some))))
+        (lt-ltb 100000 (lines + length (cond ends (front ∷ lines_with [] bs) (lines_with (front ++ b ∷ []) bs))) (omega (arith, above, some))))
     at_lines false many true e long l ended more =
-        let below = le_not 100000 lines many in
+        let below = leb-false 100000 lines many in
         ended below
         ∙ ap (λ n. nat_lt 100000 n || list_any is_long (lines_with [] bs)) (let z : lines + 1 + length (lines_with [] bs) ≡ lines + suc (length (lines_with [] bs)) = omega arith in z)
-        ∙ ap (λ t. nat_lt 100000 (lines + suc (length (lines_with [] bs))) || (t || list_any is_long (lines_with [] bs))) (sym (not_less 8400 (length front) (omega (arith, size, short))))
+        ∙ ap (λ t. nat_lt 100000 (lines + suc (length (lines_with [] bs))) || (t || list_any is_long (lines_with [] bs))) (sym (le-ltb 8400 (length front) (omega (arith, size, short))))
     at_lines false many false e true l ended more =
-        let above = le_is 8400 bytes l in
+        let above = at_most 8400 bytes l in
         ap (λ (c : Limits). c.over) (over_stays (record { lines = lines; bytes = bytes; over = true }) bs refl)
         ∙ sym (ap (λ t. nat_lt 100000 (lines + length (lines_with (front ++ b ∷ []) bs)) || t) (long_line (front ++ b ∷ []) bs (omega (arith, grown, size, above)))
         ∙ or_true (nat_lt 100000 (lines + length (lines_with (front ++ b ∷ []) bs))))
-    at_lines false many false e false l ended more = more (le_not 100000 lines many) (le_not 8400 bytes l)
+    at_lines false many false e false l ended more = more (leb-false 100000 lines many) (leb-false 8400 bytes l)
 
 -- a text is too long where its count says so
 pub over_is : (text : List ℕ) → (counted_of text).over ≡ is_too_long text
@@ -176,16 +157,13 @@ growing lines bytes (b ∷ bs) few short over =
     at_lines true many ends long l ended more over =
         absurd (let z : true ≡ false = sym (ap (λ (c : Limits). c.over) (over_stays (record { lines = lines; bytes = bytes; over = true }) bs refl)) ∙ over in cc)
     at_lines false many true long l ended more over =
-        let (a, c, grown) = ended (le_not 100000 lines many) over in (a, c, omega (arith, grown, short))
+        let (a, c, grown) = ended (leb-false 100000 lines many) over in (a, c, omega (arith, grown, short))
     at_lines false many false true l ended more over =
         absurd (let z : true ≡ false = sym (ap (λ (c : Limits). c.over) (over_stays (record { lines = lines; bytes = bytes; over = true }) bs refl)) ∙ over in cc)
-    at_lines false many false false l ended more over = let (a, c, grown) = more (le_not 8400 bytes l) over in (a, c, omega (arith, grown))
+    at_lines false many false false l ended more over = let (a, c, grown) = more (leb-false 8400 bytes l) over in (a, c, omega (arith, grown))
 
 pub text_short : (text : List ℕ) → (counted_of text).over ≡ false → length text ≤ 840108400
 text_short text over = let (few, short, grown) = growing 0 0 text (omega arith) (omega arith) over in omega (arith, few, short, grown)
-
-pub lines_few : (text : List ℕ) → (counted_of text).over ≡ false → (counted_of text).lines ≤ 100000
-lines_few text over = (growing 0 0 text (omega arith) (omega arith) over).0
 
 -- one piece more
 
@@ -201,6 +179,3 @@ stops_at text piece over short = record {
       ∙ take-append-le (length text) text piece (omega arith) ∙ take_all (length text) text (omega arith))
       ∙ sym (over_is text) ∙ over;
 }
-
-pub stops_first : StopsInTime []
-stops_first = record { piece = 0; short = omega arith; before = refl }

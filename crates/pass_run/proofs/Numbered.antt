@@ -7,7 +7,6 @@ use Rattle.pass_entry.specs.declared.entry.Act.{Act}
 use Rattle.pass_entry.specs.declared.entry.Act.TheVariants as act
 use Rattle.pass_entry.specs.declared.entry.CallFault.TheVariants as fault
 use Rattle.pass_entry.specs.declared.entry.Entry.{Entry}
-use Rattle.pass_entry.specs.declared.entry.Reply.{Reply}
 use Rattle.pass_entry.specs.declared.entry.Reply.TheVariants as answer
 use Rattle.pass_entry.specs.declared.objects.Kind.{Kind}
 use Rattle.pass_entry.specs.declared.objects.Kind.TheVariants as kind
@@ -18,7 +17,7 @@ use Rattle.pass_plain.specs.Replies.{minted, reply_to}
 use Rattle.pass_plain.specs.Sessions.{Session}
 use Rattle.pass_plain.proofs.Calling.{legal_take}
 use Rattle.pass_plain.proofs.Lists.{some_is}
-use Rattle.pass_plain.proofs.Making.{making}
+use Rattle.pass_plain.proofs.Making.{making, bound_if}
 
 not_full : (session : Session) (r : Registry) (b : Bool) (n : ℕ) → cond b (answer.Fault fault.TooMany) (answer.Made (next_pnode session r)) ≡ answer.Made n → b ≡ false
 not_full session r true n e = absurd (cc)
@@ -34,15 +33,11 @@ room_left objects made other none = by_test (nat_le objects made) refl none
 minted_room : (session : Session) (r : Registry) (k : Kind) (n : ℕ) → minted session r k ≡ answer.Made n → r.made < session.objects
 minted_room session r k n e = room_left session.objects r.made _ (not_full session r (is_full session r k) n e)
 
-unbound : (b : Bool) (y : Reply) (n : ℕ) → cond b (answer.Fault fault.Exists) y ≡ answer.Made n → y ≡ answer.Made n
-unbound true y n e = absurd (cc)
-unbound false y n e = e
-
 next_room : (session : Session) (history : List Entry) (what n : ℕ) (a : Act) → reply_to session history what a ≡ Some (answer.Made n) → made_object a (answer.Made n) ≡ Some n
     → (registry_after session history).made < session.objects
 next_room session history what n (act.Bind name) e h =
     minted_room session (registry_after session history) kind.File n
-    (unbound (finite_map.contains_key (registry_after session history).names name) (minted session (registry_after session history) kind.File) n (some_is _ _ e))
+    (bound_if (finite_map.contains_key (registry_after session history).names name) (minted session (registry_after session history) kind.File) n (some_is _ _ e))
 next_room session history what n (act.Mint k) e h = minted_room session (registry_after session history) k n (some_is _ _ e)
 next_room session history what n _ e h = absurd (cc)
 

@@ -1,9 +1,10 @@
 -- A history that a closed store hands out, over the records that it opened with.
-use Rattle.std.proofs.Common.{◌≡◌, ◌∷◌, ℕ, zero, suc, List, [], map, refl, ap, sym, ◌∙◌, subst}
-use Rattle.std.specs.Prelude.{Some, slice_get}
+use Rattle.std.proofs.Common.{ℕ, List, ap, sym, ◌∙◌, subst}
+use Rattle.std.specs.Prelude.{slice_get}
 use Rattle.pass_entry.specs.declared.entry.Entry.{Entry}
 use Rattle.pass_entry.specs.declared.entry.Synced.{Synced}
 use Rattle.pass_entry.specs.declared.record.Record.{Record}
+use Rattle.pass_entry.proofs.Places.{mapped}
 use Rattle.pass_graph.specs.Lawful.{GraphLaw, VersionRecordLaw, InputRecordLaw}
 use Rattle.pass_graph.specs.Openings.{Continues}
 use Rattle.pass_keep.specs.Kept.{Story, IsLeft, bound_of}
@@ -21,11 +22,6 @@ use Rattle.pass_vault.specs.Vaults.{handed_of}
 use Rattle.pass_vault.specs.declared.vault.Receipt.{Receipt}
 use Rattle.pass_run.specs.Stored.{HasFirst, IsStored, IsSettledRun, HasRecorded}
 
-mapped_at : {A B : Type 0} (f : A → B) (xs : List A) (i : ℕ) (y : B) → slice_get (map f xs) i ≡ Some y → (x : A) × (slice_get xs i ≡ Some x) × (f x ≡ y)
-mapped_at f [] i y at = absurd (cc)
-mapped_at f (x ∷ xs) zero y at = (x, refl, cc)
-mapped_at f (x ∷ xs) (suc i) y at = mapped_at f xs i y at
-
 first_of : (s : Story) (x : VaultSync) (c : Image) → IsLeft s x.entries (bound_of (noted_of x)) c → HasFirst s x.entries c
 first_of s x c left = record { count = left.count; enough = left.enough; within = left.within; records = left.records; older = left.older }
 
@@ -35,7 +31,7 @@ is_stored s ready m syncs closed = record {
   begun = closed.begun;
   timed = closed.timed;
   since = λ told i y at c left.
-      let (x, there, is) = mapped_at handed_of closed.all i y (ap (λ (l : List Synced). slice_get l i) (sym closed.handed) ∙ at) in
+      let (x, there, is) = mapped handed_of closed.all i y (ap (λ (l : List Synced). slice_get l i) (sym closed.handed) ∙ at) in
       subst (λ (z : Synced). HasFirst s z.entries c) is (first_of s x c (closed.since told i x there c (subst (λ (z : Synced). m.left_since z.calls c) (sym is) left)));
 }
 

@@ -1,10 +1,10 @@
 -- The lines of the trace of a text keep the rules of a trace.
 use Rattle.std.proofs.Common.{◌≡◌, ◌<◌, ◌≤◌, ◌+◌, ℕ, List, [], ◌∷◌, ◌++◌, length, take, refl, ap, sym, ◌∙◌, subst, arith, inl, inr, Bool, true, false, not, ◌||◌, ◌&&◌, ◌==◌, cond, append_assoc, length-append}
-use Rattle.std.specs.Prelude.{Option, Some, None, Result, Ok, Err, option_map, slice_get, slice_index_or, nat_lt, nat_le}
+use Rattle.std.specs.Prelude.{Option, Some, None, Result, Ok, Err, slice_index_or, nat_lt, nat_le}
 use Rattle.std.specs.List.{list_any}
-use Rattle.std.proofs.lemmas.Bool.{cases_lt}
-use Rattle.std.proofs.lemmas.Option.{slice_get-map}
+use Rattle.std.proofs.lemmas.Bool.{cases_lt, le-leb, lt-ltb}
 use Rattle.std.proofs.lemmas.Bool.Decides.{nat_tests}
+use Rattle.std.proofs.lemmas.List.{append-nil}
 use Rattle.pass_entry.specs.Texts.{is_name, is_line}
 use Rattle.pass_entry.specs.declared.objects.Mode.{Mode}
 use Rattle.pass_entry.specs.declared.objects.Mode.TheVariants as mode
@@ -12,7 +12,6 @@ use Rattle.pass_plain.specs.Processes.{same_mode}
 use Rattle.pass_plain.specs.Calls.{is_fd}
 use Rattle.pass_plain.specs.Traces.{Line, fork_as, wait_for}
 use Rattle.pass_plain.proofs.Lists.{true_left, true_right, both_true, not_true, any_at, in_filtered, same_numbers}
-use Rattle.pass_plain.proofs.Replays.{append-nil}
 use Rattle.pass_trace.specs.TraceLines.{call_of, plain_line, plain_trace}
 use Rattle.pass_trace.specs.declared.trace.Command.{Command}
 use Rattle.pass_trace.specs.declared.trace.Command.TheVariants as command
@@ -22,17 +21,17 @@ use Rattle.pass_trace.specs.declared.trace.TraceReason.{TraceReason}
 use Rattle.pass_trace.specs.declared.trace.TraceReason.TheVariants as reason
 use Rattle.pass_trace.specs.Lines as text_lines
 use Rattle.pass_trace.specs.Rules as rules
-use Rattle.pass_trace.specs.Traces.{text_line_of, said, lines_from, reason_behind, fault_at}
+use Rattle.pass_trace.specs.Traces.{text_line_of, said, lines_from, reason_behind}
 use Rattle.pass_trace.proofs.Good.{IsGood, IsMode, text_line_is}
 use Rattle.pass_trace.proofs.LinesLemmas.{lines_from-push}
+use Rattle.pass_trace.proofs.Again.{length-lines_from}
+use Rattle.pass_trace.proofs.Created.{at_front, AreFine}
 use Rattle.pass_run.specs.Ends.{IsTrace}
 use Rattle.pass_replay.specs.Lines.{is_fork_of, is_there, IsLineCall, IsLineBehind, AreLinesBehind, ForksBefore}
+use Rattle.pass_turns.proofs.Linked.{plain_at}
 
 below_64 : (fd : ℕ) → fd ≤ 63 → is_fd fd ≡ true
 below_64 fd le = grind (arith, nat_tests)
-
-at_most : (a b : ℕ) → a ≤ b → nat_le a b ≡ true
-at_most a b le = grind (arith, nat_tests)
 
 no_app : (m : Mode) → IsMode m → not (same_mode m mode.App) ≡ true
 no_app mode.App is = absurd is
@@ -47,8 +46,8 @@ line_call (command.Open fd name m) good =
     (refl, both_true (is_fd fd && is_name name) (not (same_mode m mode.App)) (both_true (is_fd fd) (is_name name) (below_64 fd good.0) good.1) (no_app m good.2))
 line_call (command.Close fd) good = (refl, below_64 fd good)
 line_call (command.Read fd len) good =
-    (refl, both_true (is_fd fd && nat_le 1 len) (nat_le len 4096) (both_true (is_fd fd) (nat_le 1 len) (below_64 fd good.0) (at_most 1 len good.1)) (at_most len 4096 good.2))
-line_call (command.Write fd (payload.Given bytes)) good = (refl, both_true (is_fd fd) (nat_le (length bytes) 4096) (below_64 fd good.0) (at_most (length bytes) 4096 good.1.0))
+    (refl, both_true (is_fd fd && nat_le 1 len) (nat_le len 4096) (both_true (is_fd fd) (nat_le 1 len) (below_64 fd good.0) (le-leb 1 len good.1)) (le-leb len 4096 good.2))
+line_call (command.Write fd (payload.Given bytes)) good = (refl, both_true (is_fd fd) (nat_le (length bytes) 4096) (below_64 fd good.0) (le-leb (length bytes) 4096 good.1.0))
 line_call (command.Write fd payload.Last) good = below_64 fd good.0
 line_call (command.Seek fd off) good = (refl, below_64 fd good.0)
 line_call (command.Truncate fd size) good = (refl, below_64 fd good.0)
@@ -65,9 +64,6 @@ line_call (command.Disclose target source) good = (refl, both_true (is_fd target
 line_call (command.Tag fd attr value) good =
     (refl, both_true (is_fd fd && is_name attr) (is_name value) (both_true (is_fd fd) (is_name attr) (below_64 fd good.0) good.1) good.2)
 line_call (command.Sync fd) good = (refl, below_64 fd good)
-
-plain_at : (lines : List TraceLine) (k : ℕ) (l : TraceLine) → slice_get lines k ≡ Some l → slice_get (plain_trace lines) k ≡ Some (plain_line l)
-plain_at lines k l at = slice_get-map plain_line lines k ∙ ap (λ o. option_map plain_line o) at
 
 -- who is there
 
@@ -129,23 +125,6 @@ ruled_line earlier l good none =
 
 -- the texts of the lines, one by one
 
-place_of_front : (seen rest : List (List ℕ)) (text : List ℕ) → slice_index_or (seen ++ text ∷ rest) (length seen) [] ≡ text
-place_of_front [] rest text = refl
-place_of_front (x ∷ seen) rest text = place_of_front seen rest text
-
-take_front : (seen rest : List (List ℕ)) → take (length seen) (seen ++ rest) ≡ seen
-take_front [] rest = refl
-take_front (x ∷ seen) rest = ap (λ xs. x ∷ xs) (take_front seen rest)
-
-abbrev AreFine : List (List ℕ) → Type 0
-AreFine texts = (k : ℕ) → k < length texts → fault_at texts k ≡ None
-
-at_front : (seen rest : List (List ℕ)) (text : List ℕ) → AreFine (seen ++ text ∷ rest) → reason_behind (lines_from 1 seen) (text_line_of (length seen + 1) text) ≡ None
-at_front seen rest text fine =
-    ap (λ t. reason_behind (lines_from 1 seen) (text_line_of (length seen + 1) t)) (sym (place_of_front seen rest text))
-    ∙ ap (λ ts. reason_behind (lines_from 1 ts) (text_line_of (length seen + 1) (slice_index_or (seen ++ text ∷ rest) (length seen) []))) (sym (take_front seen (text ∷ rest)))
-    ∙ fine (length seen) (let size = length-append seen (text ∷ rest) in omega (arith, size))
-
 ruled_text : (earlier : List TraceLine) (number : ℕ) (text : List ℕ) (more : List TraceLine) (read : Result (Option TraceLine) TraceReason) → text_line_of number text ≡ read → reason_behind earlier read ≡ None
     → AreLinesBehind (plain_trace (earlier ++ said read)) (plain_trace more) → AreLinesBehind (plain_trace earlier) (plain_trace (said read ++ more))
 ruled_text earlier number text more (Ok (Some l)) is none later =
@@ -175,34 +154,18 @@ ruled lines (bytes, text, is) =
 
 -- there are at most 100,000 lines
 
-said_few : (read : Result (Option TraceLine) TraceReason) → length (said read) ≤ 1
-said_few (Ok (Some l)) = omega arith
-said_few (Ok None) = omega arith
-said_few (Err why) = omega arith
-
-lines_few : (number : ℕ) (texts : List (List ℕ)) → length (lines_from number texts) ≤ length texts
-lines_few number [] = omega arith
-lines_few number (text ∷ texts) =
-    let size = length-append (said (text_line_of number text)) (lines_from (number + 1) texts) in
-    let one = said_few (text_line_of number text) in
-    let rest = lines_few (number + 1) texts in
-    omega (arith, size, one, rest)
-
-below : (a b : ℕ) → a < b → nat_lt a b ≡ true
-below a b less = grind (arith, nat_tests)
-
 many_first : (earlier : List TraceLine) (b : Bool) (rest : Result (Option TraceLine) TraceReason) → b ≡ true → reason_behind earlier (cond b (Err reason.Many) rest) ≡ Some reason.Many
 many_first earlier true rest is = refl
 many_first earlier false rest is = absurd (cc)
 
 too_many : (number : ℕ) (text : List ℕ) (earlier : List TraceLine) → 100000 < number → reason_behind earlier (text_line_of number text) ≡ Some reason.Many
 unfolding text_line_of
-too_many number text earlier many = many_first earlier (nat_lt 100000 number) _ (below 100000 number many)
+too_many number text earlier many = many_first earlier (nat_lt 100000 number) _ (lt-ltb 100000 number many)
 
 pub few_lines : (lines : List TraceLine) → IsTrace lines → length lines ≤ 100000
 few_lines lines (bytes, text, is) =
     let texts = text_lines.lines_of bytes in
-    let most = lines_few 1 texts in
+    let most = length-lines_from 1 texts in
     elim (cases_lt 100000 (length texts)) [
       | inr le ↦ (let z = ap length is in omega (arith, z, most, le))
       | inl many ↦ absurd (

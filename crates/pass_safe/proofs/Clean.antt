@@ -83,8 +83,5 @@ untouched_law session history syncs file block none =
     (still (λ past at e. dirty_act session past block at e) None file [] history (prefix_none history) none)
 
 -- a list is empty or not
-pub is_zero : (n : ℕ) → (n == 0) ≡ true → n ≡ 0
-is_zero n is = grind (arith, nat_tests)
-
 pub not_zero : (n : ℕ) → (n == 0) ≡ false → n ≡ 0 → ⊥
 not_zero n is none = grind (arith, nat_tests)

@@ -1,15 +1,15 @@
 -- A file whose desk goes to the vault and comes back.
 use Rattle.std.proofs.Common.{◌≡◌, ◌∙◌, ℕ, suc, ◌<◌, ◌≤◌, true, List, [], ◌∷◌, ◌++◌, length, refl, sym, ap, subst, arith, length-append}
-use Rattle.std.specs.Prelude.{Some, None, Result, Ok, Err, IfOk, OnOk, OnErr, slice_get}
+use Rattle.std.specs.Prelude.{Some, None, Result, Ok, Err, OnOk, OnErr, slice_get}
 use Rattle.std.specs.List.{All}
 use Rattle.std.proofs.lemmas.List.Elements.{All-head, All-tail, filter-append}
 use mathlib.Core.List.{IsPrefix}
 use Rattle.pass_entry.specs.declared.entry.Entry.{Entry}
+use Rattle.pass_entry.proofs.Places.{slice_get-last}
 use Rattle.pass_plain.specs.Lawful.{AgreeOn}
 use Rattle.pass_plain.specs.Sound.{IsSound}
-use Rattle.pass_plain.proofs.Appends.{slice_get-last}
 use Rattle.pass_book.specs.Names.{name}
-use Rattle.pass_book.specs.Syncs.{called, called_from, durable}
+use Rattle.pass_book.specs.Syncs.{called, durable}
 use Rattle.pass_book.proofs.Backed.{durable_last}
 use Rattle.pass_book.specs.Tokens.{BookId, DeskState, HasMet, NoteState}
 use Rattle.pass_book.specs.Views.{longer}
@@ -20,6 +20,7 @@ use Rattle.pass_vault.specs.Vaulted.{Vaulted, file_synced, flushed, is_real, rea
 use Rattle.pass_vault.proofs.Reals.{filter_push, real_from, real_unstaged}
 use Rattle.pass_vault.proofs.Keeping.{longer_self}
 use Rattle.pass_vault.specs.declared.vault.Receipt.{Receipt}
+use Rattle.pass_vault.proofs.Holding.{called_last}
 use Rattle.pass_file.specs.Desks.{FileDeskView}
 use Rattle.pass_safe.specs.Commits.{flushed_to, saved_to}
 use Rattle.pass_safe.specs.Syncings.{HasReceipt, HasSynced, IsFileSaved, IsSaved}
@@ -66,10 +67,6 @@ module _ {D : Type 0} (book : BookId) (v w : Vaulted D) (file : FileDeskView) (r
 
 -- What a flush has come to
 
-called_last_from : (c : ℕ) (ss : List VaultSync) (s : VaultSync) → called_from c (ss ++ s ∷ []) ≡ s.calls
-called_last_from c [] s = refl
-called_last_from c (t ∷ ss) s = called_last_from t.calls ss s
-
 -- a sync that is no staging is one more of those
 real_push : (ss : List VaultSync) (s : VaultSync) → is_real s ≡ true → real_syncs (ss ++ s ∷ []) ≡ real_syncs ss ++ s ∷ []
 real_push ss s is = filter_push is_real ss s is
@@ -94,7 +91,7 @@ module _ {D : Type 0} (v w : Vaulted D) (seen : List Entry) (calls : ℕ) (done 
   pub flushed_calls : r.calls ≡ calls
   flushed_calls =
       ap (λ (r : Receipt). r.calls) is ∙ ap (λ (ss : List VaultSync). called (real_syncs ss)) noted ∙ ap called (real_push v.syncs (flushed calls (length seen)) refl)
-      ∙ called_last_from 0 (real_syncs v.syncs) (flushed calls (length seen))
+      ∙ called_last 0 (real_syncs v.syncs) (flushed calls (length seen))
 
   pub flushed_entries : r.entries ≡ length seen
   flushed_entries =
@@ -174,18 +171,11 @@ shared_saved book v r told sound some within counted is note =
 
 -- by an answer
 
-pub ok_of : {A E : Type 0} (P : A → Type 0) (r : Result A E) (x : A) → r ≡ Ok x → IfOk r P → P x
-ok_of P r x is all = subst (λ o. IfOk o P) is all
-
 pub ok_on : {A E P : Type 0} (r : Result A E) (x : A) → r ≡ Ok x → OnOk r P → P
 ok_on {A} {E} {P} r x is all = subst (λ (o : Result A E). OnOk o P) is all
 
 pub err_on : {A E P : Type 0} (r : Result A E) (e : E) → r ≡ Err e → OnErr r P → P
 err_on {A} {E} {P} r e is all = subst (λ (o : Result A E). OnErr o P) is all
-
-pub ok_map : {A E : Type 0} (P Q : A → Type 0) → ((x : A) → P x → Q x) → (r : Result A E) → IfOk r P → IfOk r Q
-ok_map P Q more (Ok x) all = more x all
-ok_map P Q more (Err e) all = tt
 
 -- a receipt of the vault, with the vault's note
 pub told_saved : {D : Type 0} (book : BookId) (v : Vaulted D) (r : Receipt) (told : NoteState) → IsSound book.session → told ≡ record { book = book; seen = v.seen; syncs = v.syncs } → HasReceipt v r

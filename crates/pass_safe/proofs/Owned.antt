@@ -10,7 +10,7 @@ use Rattle.pass_entry.specs.declared.entry.Entry.{Entry}
 use Rattle.pass_entry.specs.declared.objects.Kind.{Kind}
 use Rattle.pass_entry.specs.declared.objects.Kind.TheVariants as kind
 use Rattle.pass_plain.specs.Histories.{is_fault}
-use Rattle.pass_plain.specs.Lawful.{is_registry_act, suits}
+use Rattle.pass_plain.specs.Lawful.{suits}
 use Rattle.pass_plain.specs.Legal.{IsLegal, MayFollow}
 use Rattle.pass_plain.specs.Records.{is_digested}
 use Rattle.pass_plain.specs.Recording.{is_change}
@@ -22,6 +22,7 @@ use Rattle.pass_plain.proofs.Lists.{some_is}
 use Rattle.pass_plain.proofs.Objects.{object_law}
 use Rattle.pass_range.specs.Dirtied.{dirtied_at, ends_before}
 use Rattle.pass_range.proofs.Dirtying.{dirtied_law, quiet}
+use Rattle.pass_range.proofs.Numbered.{no_registry}
 use Rattle.pass_book.specs.Numbers.{IsFileNumber, files_of}
 use Rattle.pass_book.proofs.Backed.{number_stays}
 use Rattle.pass_clean.specs.Cleaned.{cleaned, is_dirty_from}
@@ -31,11 +32,6 @@ suits_file : (a : Act) (k : Kind) → is_change a ≡ true → suits a k ≡ tru
 suits_file (act.Put out at bytes) k change fits = fits
 suits_file (act.Cut out size) k change fits = fits
 suits_file _ k change fits = absurd (cc)
-
-no_registry : (a : Act) → is_change a ≡ true → is_registry_act a ≡ true → ⊥
-no_registry (act.Put out at bytes) change registry = absurd (cc)
-no_registry (act.Cut out size) change registry = absurd (cc)
-no_registry _ change registry = absurd (cc)
 
 -- an object that is a file has a place among the files
 file_listed : (objects : List (ℕ × Kind)) (i n : ℕ) (k : Kind) → slice_get objects i ≡ Some (n, k) → same_kind k kind.File ≡ true → (j : ℕ) × (slice_get (files_of objects) j ≡ Some n)

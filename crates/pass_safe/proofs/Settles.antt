@@ -7,11 +7,11 @@ use Rattle.std.proofs.lemmas.Option.{get_or_from_slice_get, slice_get_within}
 use mathlib.Core.List.{IsPrefix}
 use Rattle.pass_entry.specs.Limits.{block_count}
 use Rattle.pass_entry.specs.declared.entry.Entry.{Entry}
+use Rattle.pass_entry.proofs.Places.{slice_get-last}
 use Rattle.pass_plain.specs.Legal.{IsLegal}
 use Rattle.pass_plain.specs.Sessions.{Session}
 use Rattle.pass_plain.specs.Sound.{IsSound}
 use Rattle.pass_book.proofs.Backed.{durable_last}
-use Rattle.pass_plain.proofs.Appends.{slice_get-last}
 use Rattle.pass_book.proofs.Prefixes.{prefix_self}
 use Rattle.pass_book.specs.Syncs.{called, durable}
 use Rattle.pass_book.specs.declared.view.VaultSync.{VaultSync}

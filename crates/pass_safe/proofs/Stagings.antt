@@ -1,8 +1,7 @@
 -- What a staging leaves of a vault.
 use Rattle.std.proofs.Common.{◌≡◌, ◌∙◌, ℕ, List, sym, ap}
-use Rattle.pass_entry.specs.declared.entry.Entry.{Entry}
 use Rattle.pass_vault.specs.Vaulted.{Vaulted}
-use Rattle.pass_safe.specs.Commits.{HasNotFlushed, flushed_to, left_by_staging, staged_to, unstaged_to}
+use Rattle.pass_safe.specs.Commits.{left_by_staging, staged_to, unstaged_to}
 
 pub staged_left : {D : Type 0} (v w : Vaulted D) (what number calls entries : ℕ) (blocks : List (ℕ × List ℕ)) → w ≡ staged_to v w what number calls entries blocks → w ≡ left_by_staging v w
 staged_left v w what number calls entries blocks is =
@@ -18,15 +17,3 @@ unstaged_left v w is =
     let place = ap (λ (v : Vaulted _). v.place) is in
     let syncs = ap (λ (v : Vaulted _). v.syncs) is in
     is ∙ (λ i. record v { seen = sym seen i; disk = w.disk; place = sym place i; pool = w.pool; unsynced = w.unsynced; syncs = sym syncs i })
-
-pub unflushed_left : {D : Type 0} (seen : List Entry) (v w : Vaulted D) → HasNotFlushed seen v w → w ≡ left_by_staging v w
-unflushed_left seen v w not =
-    let pool = ap (λ (v : Vaulted _). v.pool) not.vault in
-    let unsynced = ap (λ (v : Vaulted _). v.unsynced) not.vault in
-    let syncs = ap (λ (v : Vaulted _). v.syncs) not.vault in
-    not.vault ∙ (λ i. record v { seen = w.seen; disk = w.disk; place = w.place; pool = sym pool i; unsynced = sym unsynced i; syncs = sym syncs i })
-
--- after a flush
-pub staged_after : {D : Type 0} (v m w : Vaulted D) (seen : List Entry) (calls : ℕ) → m ≡ flushed_to v m seen calls → w ≡ left_by_staging m w → w ≡ left_by_staging v w
-staged_after v m w seen calls flush left =
-    left ∙ (λ i. record (flush i) { seen = w.seen; disk = w.disk; place = w.place; pool = w.pool; unsynced = w.unsynced; syncs = w.syncs })

@@ -1,6 +1,6 @@
 -- What turns in a row do to a task.
 use Rattle.std.proofs.Common.{◌≡◌, ◌≢◌, ℕ, ◌+◌, ◌≤◌, ◌<◌, ◌⊎◌, inl, inr, List, [], ◌∷◌, ◌++◌, length, refl, sym, ap, ◌∙◌, subst, arith, All, sum_by, Some}
-use Rattle.std.proofs.lemmas.List.Sums.{sum_by-append}
+use Rattle.std.proofs.lemmas.List.Sums.{sum_by-append, sum_by-cons}
 use Rattle.std.proofs.lemmas.List.Elements.{All-append, All-head, All-tail, All-nil}
 use Rattle.pass_sched.specs.declared.task.Task.{Ghosts}
 use Rattle.pass_sched.specs.declared.task.Turn.{Turn}
@@ -8,13 +8,10 @@ use Rattle.pass_sched.specs.declared.task.Turn.TheVariants.{Moved, Waiting, Ende
 use Rattle.pass_sched.specs.Turns.{Rises}
 use Rattle.pass_sched.specs.Passes.{Moves, start, more, Takes, RunsOut, IsRun}
 
-pub sum_of_cons : {X : Type 0} (f : X → ℕ) (x : X) (xs : List X) → sum_by f (x ∷ xs) ≡ f x + sum_by f xs
-sum_of_cons f x xs = omega (arith, sum_by-append f (x ∷ []) xs)
-
 -- of living children there are no more than steps of theirs
 pub few : {X : Type 0} (left : X → ℕ) (kids : List X) → All (λ kid. 0 < left kid) kids → length kids ≤ sum_by left kids
 few left [] h = omega arith
-few left (k ∷ ks) h = omega (arith, sum_of_cons left k ks, All-head (λ kid. 0 < left kid) k ks h, few left ks (All-tail (λ kid. 0 < left kid) k ks h))
+few left (k ∷ ks) h = omega (arith, sum_by-cons left k ks, All-head (λ kid. 0 < left kid) k ks h, few left ks (All-tail (λ kid. 0 < left kid) k ks h))
 
 -- counts that rise twice rise
 pub rises_again : (a b c : ℕ) → Rises a b → Rises b c → Rises a c

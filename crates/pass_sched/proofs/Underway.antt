@@ -2,12 +2,12 @@
 use Rattle.std.proofs.Common.{◌≡◌, ℕ, ◌+◌, ◌≤◌, ◌<◌, ◌⊎◌, inl, inr, List, [], ◌∷◌, ◌++◌, Bool, false, ◌||◌, length, map, filter, not, All, sum_by, ap, ◌∙◌, sym, subst, append_assoc, append-nil, refl, arith, IsPermutation}
 use Rattle.std.specs.List.{flat_map, list_all}
 use Rattle.std.proofs.lemmas.List.Sorted.{IsPermutation-refl, IsPermutation-trans, IsPermutation-middle, IsPermutation-append_left, IsPermutation-append_right, IsPermutation-append_comm, IsPermutation-filter_both, sum_by-IsPermutation}
-use Rattle.std.proofs.lemmas.List.Sums.{sum_by-append}
+use Rattle.std.proofs.lemmas.List.Sums.{sum_by-append, sum_by-cons}
 use Rattle.std.proofs.lemmas.List.Elements.{All-cons, All-nil, All-head, All-tail}
 use Rattle.pass_sched.specs.declared.task.Task.{Ghosts}
 use Rattle.pass_sched.specs.declared.pass.PassEnd.{PassEnd}
 use Rattle.pass_sched.specs.Passes.{Run, IsRun, RunsOut, IsUnderway, IsPass, joining, staying, room_of, has_failed, has_moved, has_ended, end_by, end_of}
-use Rattle.pass_sched.proofs.Plays.{few, sum_of_cons, moves_sum}
+use Rattle.pass_sched.proofs.Plays.{few, moves_sum}
 
 module _ {X : Type 0} where
   -- one more run, whose task waited, and whose children wait from now on
@@ -43,12 +43,12 @@ module _ {X : Type 0} (t : Ghosts X) where
   -- living children have as much room as steps
   rooms : (kids : List X) → All (λ kid. 0 < t.left kid) kids → sum_by (room_of t) kids ≡ sum_by t.left kids
   rooms [] live = refl
-  rooms (k ∷ ks) live = omega (arith, sum_of_cons (room_of t) k ks, sum_of_cons t.left k ks, All-head (λ kid. 0 < t.left kid) k ks live, rooms ks (All-tail (λ kid. 0 < t.left kid) k ks live))
+  rooms (k ∷ ks) live = omega (arith, sum_by-cons (room_of t) k ks, sum_by-cons t.left k ks, All-head (λ kid. 0 < t.left kid) k ks live, rooms ks (All-tail (λ kid. 0 < t.left kid) k ks live))
 
   -- no list is longer than its room
   pub short : (xs : List X) → length xs ≤ sum_by (room_of t) xs
   short [] = omega arith
-  short (x ∷ xs) = omega (arith, sum_of_cons (room_of t) x xs, short xs)
+  short (x ∷ xs) = omega (arith, sum_by-cons (room_of t) x xs, short xs)
 
   -- the task and all its children fit the steps that were left
   pub fits : (before : X) (kids : List X) (after : X) → 0 < t.left before → RunsOut t before kids after → 1 + sum_by t.left kids ≤ t.left before

@@ -1,15 +1,15 @@
 -- Why no session begins over what was read of a disk, or which one does.
 use Rattle.std.proofs.Common.{◌≡◌, ◌⊎◌, ◌<◌, ◌≤◌, ◌+◌, ◌^◌, ℕ, Bool, true, false, ◌||◌, List, [], refl, ap, sym, ◌∙◌, subst, inl, inr, ⊎_elim, arith}
-use Rattle.std.specs.Prelude.{Option, Some, None, Result, Ok, Err, IsTrue, is_some, nat_le, nat_lt, option_map, if◌then◌else◌}
+use Rattle.std.specs.Prelude.{Option, Some, None, Result, Ok, IsTrue, is_some, nat_lt, option_map, if◌then◌else◌}
 use Rattle.std.specs.Option.{option_map_or}
 use Rattle.std.proofs.lemmas.Bool.Decides.{nat_tests}
 use Rattle.pass_bounds.specs.Lawful.{OpenedLaw}
+use Rattle.pass_bounds.proofs.Numbers.{number_is}
 use Rattle.pass_entry.specs.declared.objects.Node.{Node}
 use Rattle.pass_entry.specs.declared.record.FlawReason.{FlawReason}
 use Rattle.pass_entry.specs.declared.record.Record.{Record}
 use Rattle.pass_entry.specs.declared.record.Record.TheVariants.{Ceiling}
-use Rattle.pass_entry.specs.Ranges.{is_number, IsInRange}
-use Rattle.pass_entry.proofs.Lists.{both_true}
+use Rattle.pass_entry.specs.Ranges.{IsInRange}
 use Rattle.pass_graph.specs.Openings.{Continues}
 use Rattle.pass_keep.specs.Kept.{IsLeft, IsBegun}
 use Rattle.pass_keep.specs.Keepers.{GoesOn}
@@ -74,9 +74,6 @@ judged_fault old new (store.Flaw place reason) (bytes, read, (held, image, flaw)
 disk_cause : (old new : Moment) (fault : OpenFault) → IsCauseOf old new fault → fault ≡ store.DiskFault → (old.faults < new.faults) ⊎ IsAtEnd new
 disk_cause old new fault cause is = subst (IsCauseOf old new) is cause
 
-pub same_error : (a b : OpenFault) {A : Type 0} → ◌≡◌ {A = Result A OpenFault} (Err a) (Err b) → a ≡ b
-same_error a b same = cc
-
 -- the store didn't open
 pub refused : {D : Type 0} (view : D → Moment) (old : Moment) (disk : D) (objects : ℕ) (fault : OpenFault) → IsCauseOf old (view disk) fault
     → ((fault ≡ store.DiskFault → ⊥) → (view disk).faults ≡ old.faults) → ((fault ≡ store.DiskFault → ⊥) → (view disk).seen ≡ old.seen)
@@ -89,9 +86,6 @@ refused view old disk objects fault cause healthy reads alone since later = reco
   left = inl (record { alone = alone; since = since; reads = reads });
   later = later;
 }
-
-number_is : (n : ℕ) → 1 ≤ n → n < 2 ^ 48 → is_number n ≡ true
-number_is n low high = both_true (nat_le 1 n) (nat_lt n (2 ^ 48)) (grind (arith, nat_tests)) (grind (arith, nat_tests))
 
 -- an object opens with its version in the records before, or with 1
 opened_low : (before : List Record) (session : Session) → Continues before session → (most : ℕ) → 1 ≤ most → ((object : ℕ) → current_of before object ≤ most) → (object : ℕ)

@@ -3,7 +3,7 @@ use Rattle.std.proofs.Common.{◌≡◌, ℕ, zero, suc, ◌+◌, ◌<◌, ◌�
 use Rattle.std.specs.Prelude.{Option, Some, option_to_list, slice_get}
 use Rattle.std.specs.List.{range_with_len}
 use Rattle.std.proofs.lemmas.List.FromFn.{get_or-range_with_len, length-range_with_len}
-use Rattle.std.proofs.lemmas.List.{append-nil, drop_all, drop_more}
+use Rattle.std.proofs.lemmas.List.{append-nil, drop_all}
 use Rattle.std.proofs.lemmas.Grind.{drop_more_same}
 use Rattle.std.proofs.lemmas.Option.{slice_get-get_or}
 use Rattle.pass_book.specs.declared.view.VaultSync.{VaultSync}
@@ -11,15 +11,13 @@ use Rattle.pass_flow.specs.Flows.{ObjectView}
 use Rattle.pass_plain.specs.declared.start.StartFile.{StartFile}
 use Rattle.pass_file.specs.Desks.{FileDeskView}
 use Rattle.pass_session.specs.Layouts.{file_view, file_views}
-
-next : {X : Type 0} (xs : List X) (i : ℕ) (x : X) → i < length xs → x ≡ get_or xs i x → drop i xs ≡ x ∷ drop (i + 1) xs
-next xs i x within is = drop_more xs i x within ∙ ap (λ y. y ∷ drop (i + 1) xs) (sym is)
+use Rattle.pass_entry.proofs.Places.{drop_known}
 
 -- the next desk is that of the next one
 pub next_desk : {X D : Type 0} (f : X → D) (xs : List X) (i : ℕ) (x : X) (old new : List D) (o : Option D) (d : D) → i < length xs → x ≡ get_or xs i x
     → old ≡ map f (drop i xs) → old ≡ option_to_list o ++ new → o ≡ Some d → (d ≡ f x) × (new ≡ map f (drop (i + 1) xs))
 next_desk f xs i x old new o d within is had split some =
-    let all : d ∷ new ≡ f x ∷ map f (drop (i + 1) xs) = ap (λ o. option_to_list o ++ new) (sym some) ∙ sym split ∙ had ∙ ap (map f) (next xs i x within is) in
+    let all : d ∷ new ≡ f x ∷ map f (drop (i + 1) xs) = ap (λ o. option_to_list o ++ new) (sym some) ∙ sym split ∙ had ∙ ap (map f) (drop_known xs i x within is) in
     ((let head : d ≡ f x = cc in head), ap (drop 1) all)
 
 one_more : {V : Type 0} (made new rest : List V) (v w : V) → new ≡ made ++ v ∷ [] → v ≡ w → new ++ rest ≡ made ++ w ∷ rest
@@ -28,12 +26,12 @@ one_more made new rest v w pushed is = ap (λ l. l ++ rest) (pushed ∙ ap (λ u
 pub view_step : {X V : Type 0} (f : X → V) (xs : List X) (i : ℕ) (x : X) (made new : List V) (v : V) → i < length xs → x ≡ get_or xs i x
     → made ++ map f (drop i xs) ≡ map f xs → new ≡ made ++ v ∷ [] → v ≡ f x → new ++ map f (drop (i + 1) xs) ≡ map f xs
 view_step f xs i x made new v within is had pushed view =
-    one_more made new (map f (drop (i + 1) xs)) v (f x) pushed view ∙ ap (λ l. made ++ map f l) (sym (next xs i x within is)) ∙ had
+    one_more made new (map f (drop (i + 1) xs)) v (f x) pushed view ∙ ap (λ l. made ++ map f l) (sym (drop_known xs i x within is)) ∙ had
 
 pub number_step : (xs : List ℕ) (i x : ℕ) (made new : List ℕ) (v : ℕ) → i < length xs → x ≡ get_or xs i x → made ++ drop i xs ≡ xs → new ≡ made ++ v ∷ [] → v ≡ x
     → new ++ drop (i + 1) xs ≡ xs
 number_step xs i x made new v within is had pushed view =
-    one_more made new (drop (i + 1) xs) v x pushed view ∙ ap (λ l. made ++ l) (sym (next xs i x within is)) ∙ had
+    one_more made new (drop (i + 1) xs) v x pushed view ∙ ap (λ l. made ++ l) (sym (drop_known xs i x within is)) ∙ had
 
 -- at the end
 pub views_end : {X V : Type 0} (f : X → V) (xs : List X) (i : ℕ) (made : List V) → length xs ≤ i → made ++ map f (drop i xs) ≡ map f xs → made ≡ map f xs
@@ -55,7 +53,7 @@ at_place xs ys i x within is same = ap (λ l. slice_get l i) (sym same) ∙ slic
 -- A list that has been changed in front of a place
 
 pub head : {X : Type 0} (xs ys : List X) (i : ℕ) (x : X) → i < length xs → x ≡ get_or xs i x → drop i xs ≡ drop i ys → drop i ys ≡ x ∷ drop (i + 1) ys
-head xs ys i x within is same = sym same ∙ next xs i x within is ∙ ap (λ l. x ∷ l) (drop_more_same xs ys i same)
+head xs ys i x within is same = sym same ∙ drop_known xs i x within is ∙ ap (λ l. x ∷ l) (drop_more_same xs ys i same)
 
 pub head_place : {X : Type 0} (ys : List X) (i : ℕ) (x : X) (rest : List X) → drop i ys ≡ x ∷ rest → slice_get ys i ≡ Some x
 head_place ys zero x rest is = ap (λ l. slice_get l 0) is

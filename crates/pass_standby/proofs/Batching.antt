@@ -1,21 +1,21 @@
 -- How the records of a frame are read and judged one after another.
 use Rattle.std.proofs.Common.{◌≡◌, ℕ, ◌+◌, ◌<◌, List, [], ◌∷◌, ◌++◌, length, drop, Result, Ok, Err, refl, sym, ◌∙◌, ap, subst, arith, append_assoc, length-append}
-use Rattle.std.specs.Prelude.{true, false, is_some, Option, Some, None}
+use Rattle.std.specs.Prelude.{true, is_some, Option, Some, None}
 use Rattle.std.specs.Option.{option_map_or}
 use Rattle.std.specs.List.{All}
 use Rattle.std.proofs.lemmas.List.{append-nil}
-use Rattle.std.proofs.lemmas.List.Elements.{All-nil, All-push}
+use Rattle.std.proofs.lemmas.List.Elements.{All-push}
 use Rattle.pass_entry.specs.declared.record.Record.{Record}
 use Rattle.pass_entry.specs.declared.record.FlawReason.{FlawReason}
 use Rattle.pass_entry.specs.Lengths.{record_length}
 use Rattle.pass_entry.specs.Ranges.{IsInRange}
+use Rattle.pass_entry.proofs.Variants.{no_first}
 use Rattle.pass_graph.specs.declared.logged.Logged.{Logged}
 use Rattle.pass_graph.specs.Logged.{Summarizes}
 use Rattle.pass_graph.proofs.Accepting.{fine_one, fine-append}
-use Rattle.pass_graph.proofs.Logging.{no_first}
 use Rattle.pass_log.specs.declared.fault.LogFault.{LogFault}
 use Rattle.pass_log.specs.Records.{joined, records_in, spellings}
-use Rattle.pass_log.proofs.Reading.{joined_nil, joined_joined, record_found, no_record}
+use Rattle.pass_log.proofs.Reading.{joined_joined, record_found, no_record}
 use Rattle.pass_plain.specs.WellLogged.{flaw_of, first_flaw_after}
 use Rattle.pass_record.specs.declared.fault.RecordFault.{RecordFault}
 use Rattle.pass_record.specs.declared.fault.RecordFault.TheVariants as why_is
@@ -25,7 +25,6 @@ use Rattle.pass_record.specs.Spelling.{spelling, StandsAtFront}
 use Rattle.pass_standby.specs.declared.batch.BatchFault.{BatchFault}
 use Rattle.pass_standby.specs.declared.batch.BatchFault.TheVariants as batches
 use Rattle.pass_standby.specs.Streams.{unflawed, batch_in}
-use Rattle.pass_standby.specs.Logs.{IsBatch}
 
 -- records behind others that have no flaw
 pub flaw-append : (list xs ys : List Record) → first_flaw_after list xs ≡ None → first_flaw_after list (xs ++ ys) ≡ first_flaw_after (list ++ xs) ys
@@ -49,29 +48,6 @@ pub record IsReading (before : List Record) (frame rest : List ℕ) (old new : L
   pub says : Summarizes judge (before ++ batch)
   pub spelled : frame ≡ spellings batch ++ rest
   pub in_range : All IsInRange batch
-
-pub reading_none : (before : List Record) (frame : List ℕ) (old : List Record) (judge : Logged) → Summarizes judge before → IsReading before frame frame old old judge
-reading_none before frame old judge says = record {
-  batch = [];
-  told = ap (λ (n : ℕ). records_in 0 n frame) (omega arith) ∙ sym (joined_nil (records_in 0 (length before + 0) frame));
-  fine = refl;
-  put = sym (append-nil old);
-  says = subst (Summarizes judge) (sym (append-nil before)) says;
-  spelled = refl;
-  in_range = All-nil IsInRange;
-}
-
--- all of it was read
-pub reading_done : (before : List Record) (frame rest : List ℕ) (old new : List Record) (judge : Logged) → IsReading before frame rest old new judge → length rest ≡ 0 → IsBatch before frame old new judge
-reading_done before frame [] old new judge r none = record {
-  batch = r.batch;
-  read = ap (unflawed before) (r.told ∙ ap (λ (l : List Record). Ok l) (append-nil r.batch)) ∙ ap (λ o. option_map_or (λ flaw. None) o (Some r.batch)) r.fine;
-  put = r.put;
-  says = r.says;
-  spelled = r.spelled ∙ append-nil (spellings r.batch);
-  in_range = r.in_range;
-}
-reading_done before frame (x ∷ rest) old new judge r none = absurd (omega (arith, none))
 
 module _ (before : List Record) (frame rest : List ℕ) (old new : List Record) (judge : Logged) (r : IsReading before frame rest old new judge) (one : Record) (len : ℕ)
     (some : 0 < len) (more : 0 < length rest) (long : len ≡ record_length one) (stands : StandsAtFront one rest) (is : record_at rest ≡ Ok (one, drop len rest)) where
@@ -105,11 +81,6 @@ module _ (before : List Record) (frame rest : List ℕ) (old new : List Record) 
           ap (λ o. option_map_or (λ flaw. None) o (Some ((r.batch ++ one ∷ []) ++ ys)))
           (ap (first_flaw_after before) (append_assoc r.batch (one ∷ []) ys) ∙ flaw-append before r.batch (one ∷ ys) r.fine
           ∙ ap (λ (o : Option FlawReason). option_map_or (λ reason. Some (length (before ++ r.batch), reason)) o (first_flaw_after (before ++ r.batch ++ one ∷ []) ys)) (sym flaw))
-
--- no reason
-pub no_reason : (o : Option FlawReason) → is_some o ≡ false → o ≡ None
-no_reason None h = refl
-no_reason (Some reason) h = absurd (cc h)
 
 -- no record stands at the front of the rest
 pub reading_bad : (before : List Record) (frame rest : List ℕ) (old new : List Record) (judge : Logged) → IsReading before frame rest old new judge → (why : RecordFault) (e : BatchFault)

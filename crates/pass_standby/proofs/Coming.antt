@@ -5,10 +5,12 @@ use Rattle.std.specs.Int.{w32, from_be_bytes}
 use Rattle.std.proofs.lemmas.Bool.Decides.{nat_tests}
 use Rattle.std.proofs.lemmas.List.{append-nil, take-append-le, drop-append-le}
 use Rattle.std.proofs.lemmas.List.Sums.{fold-append}
+use Rattle.std.proofs.lemmas.Bool.{lt-ltb, le-ltb}
 use Rattle.pass_log.specs.Frames.{number}
 use Rattle.pass_standby.specs.declared.frame.Judgement.{Judgement}
 use Rattle.pass_standby.specs.declared.frame.Judgement.TheVariants.{Begun, Bad, Whole}
 use Rattle.pass_standby.specs.Streams.{head, claimed, is_open, is_fit, judgement, Told, judged, arrived, followed, next_stop, IsBegun, IsWhole}
+use Rattle.pass_entry.proofs.Lists.{below_is, not_below}
 
 -- the bytes in two parts
 pub followed-append : (t : Told) (xs ys : List ℕ) → followed t (xs ++ ys) ≡ followed (followed t xs) ys
@@ -42,18 +44,6 @@ whole_by true false false less h = absurd (cc h)
 whole_by true false true true h = absurd (cc h)
 whole_by true false true false h = record { gate_is = refl; few_is = refl; fit_is = refl; less_is = refl }
 
-is_below : (m n : ℕ) → nat_lt m n ≡ true → m < n
-is_below m n h = grind (arith, nat_tests)
-
-isnt_below : (m n : ℕ) → nat_lt m n ≡ false → n ≤ m
-isnt_below m n h = grind (arith, nat_tests)
-
-pub below_is : (m n : ℕ) → m < n → nat_lt m n ≡ true
-below_is m n h = grind (arith, nat_tests)
-
-pub below_isnt : (m n : ℕ) → n ≤ m → nat_lt m n ≡ false
-below_isnt m n h = grind (arith, nat_tests)
-
 -- where a frame of so many bytes is judged next
 stop_at_first : (frame : List ℕ) → length frame < 1 → next_stop frame ≡ 1
 stop_at_first frame few = grind (arith, nat_tests)
@@ -77,8 +67,8 @@ open_stays (b ∷ frame) more some = refl
 -- the beginning of a frame, so judged
 pub begun_is : (at : ℕ) (frame : List ℕ) → judgement at frame ≡ Begun → IsBegun at frame
 begun_is at frame is = elim (by.few_or) [
-  | inl few ↦ in_head (is_below (length frame) head few)
-  | inr rest ↦ behind (isnt_below (length frame) head rest.0) rest.1 (is_below (length frame) (head + claimed frame) rest.2)
+  | inl few ↦ in_head (below_is (length frame) head few)
+  | inr rest ↦ behind (not_below (length frame) head rest.0) rest.1 (below_is (length frame) (head + claimed frame) rest.2)
 ]
   where
     by : IsBegunBy (is_open frame) (nat_lt (length frame) head) (is_fit at (claimed frame)) (nat_lt (length frame) (head + claimed frame))
@@ -120,15 +110,15 @@ module _ (at : ℕ) (frame : List ℕ) (begun : IsBegun at frame) (byte : ℕ) (
     | inl few ↦
         let gate : is_open longer ≡ true = open_stays frame (byte ∷ []) some ∙ begun.open_gate some in
         let stop : next_stop frame ≡ head = stop_in_head frame some few in
-        let less : nat_lt (length longer) head ≡ true = below_is (length longer) head (omega (arith, size_more, below, stop)) in
+        let less : nat_lt (length longer) head ≡ true = lt-ltb (length longer) head (omega (arith, size_more, below, stop)) in
         by_few gate less
     | inr enough ↦
         let gate : is_open longer ≡ true = open_stays frame (byte ∷ []) some ∙ begun.open_gate some in
         let same : claimed longer ≡ claimed frame = claimed_stays frame (byte ∷ []) enough in
         let fit : is_fit at (claimed longer) ≡ true = ap (is_fit at) same ∙ begun.fits enough in
         let stop : next_stop frame ≡ head + claimed frame = stop_at_end frame enough in
-        let more : nat_lt (length longer) head ≡ false = below_isnt (length longer) head (omega (arith, size_more, enough)) in
-        let less : nat_lt (length longer) (head + claimed longer) ≡ true = below_is (length longer) (head + claimed longer) (omega (arith, size_more, below, stop, same)) in
+        let more : nat_lt (length longer) head ≡ false = le-ltb (length longer) head (omega (arith, size_more, enough)) in
+        let less : nat_lt (length longer) (head + claimed longer) ≡ true = lt-ltb (length longer) (head + claimed longer) (omega (arith, size_more, below, stop, same)) in
         by_all gate more fit less
   ]
     where
@@ -195,10 +185,10 @@ whole_is at begun more is within whole =
     sum = length-append begun more
 
     enough : head ≤ length (begun ++ more)
-    enough = isnt_below (length (begun ++ more)) head by.few_is
+    enough = not_below (length (begun ++ more)) head by.few_is
 
     all : head + claimed (begun ++ more) ≤ length (begun ++ more)
-    all = isnt_below (length (begun ++ more)) (head + claimed (begun ++ more)) by.less_is
+    all = not_below (length (begun ++ more)) (head + claimed (begun ++ more)) by.less_is
 
     one_at_least : (n : ℕ) → is_fit at n ≡ true → 1 ≤ n
     one_at_least n fit = grind (arith, nat_tests)

@@ -14,8 +14,9 @@ use Rattle.pass_standby.specs.declared.frame.Judgement.TheVariants.{Begun, Bad, 
 use Rattle.pass_standby.specs.Streams.{head, judgement, batch_in, Told, spoiled, with_batch, judged, arrived, followed, next_stop, IsBegun, IsWhole, HasFrames, HasSomeFrames}
 use Rattle.pass_standby.specs.Standing.{told_so_far, IsFollowing, HasBegun, Spoils, LeavesEither, Stops, Starves, Undone, Ends}
 use Rattle.pass_log.specs.Log.{log_end, LeavesStore}
+use Rattle.pass_log.proofs.Append.{leaves_more, leaves_none}
 use Rattle.pass_standby.proofs.Coming.{followed-append, gathered, below_stop, whole_is}
-use Rattle.pass_standby.proofs.Keeping.{store_same, store_then, work_none, work_then, work_as}
+use Rattle.pass_standby.proofs.Keeping.{work_none, work_then, work_as}
 
 -- behind a bad frame nothing counts
 pub bad_stays : (t : Told) (xs : List ℕ) → t.bad ≡ true → followed t xs ≡ t
@@ -248,7 +249,7 @@ feeding_none view piece first following begun = record {
   following = following;
   begun = begun;
   moments = λ told. adds_nothing (view first.disk) (λ c. HasSomeFrames (told_so_far first) piece c.log);
-  store = store_same (view first.disk);
+  store = leaves_none (view first.disk);
   work = work_none (view first.disk) (λ never. never);
 }
 
@@ -263,7 +264,7 @@ module _ {D : Type 0} (view : D → Moment) (piece rest : List ℕ) (first now :
       (f.moments told) (any (subst IsTrue (sym f.work.tells) told)) (λ c x. x) (λ c x. some_then c.log x)
 
   pub store_on : LeavesStore (view now.disk) (view next.disk) → LeavesStore (view first.disk) (view next.disk)
-  store_on more = store_then (view first.disk) (view now.disk) (view next.disk) f.work.tells f.store more
+  store_on more = leaves_more (view first.disk) (view now.disk) (view next.disk) f.work.tells f.store more
 
   pub work_on : {G : Type 0} → IsDeviceWork (view now.disk) (view next.disk) G → IsDeviceWork (view first.disk) (view next.disk) G
   work_on {G} more = work_then (view first.disk) (view now.disk) (view next.disk) f.work (λ never. never) more

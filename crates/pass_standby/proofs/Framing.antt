@@ -3,12 +3,13 @@ use Rattle.std.proofs.Common.{◌≡◌, ℕ, ◌+◌, ◌<◌, ◌≤◌, ◌^�
 use Rattle.std.specs.Prelude.{Some, nat_lt}
 use Rattle.std.specs.Int.{w32, to_be_bytes}
 use Rattle.std.proofs.lemmas.List.{append-nil, drop_at}
+use Rattle.std.proofs.lemmas.Bool.{lt-ltb, le-ltb}
 use Rattle.pass_entry.specs.declared.record.Record.{Record}
 use Rattle.pass_log.proofs.Scan.{spells}
 use Rattle.pass_standby.specs.declared.frame.Judgement.TheVariants.{Begun, Whole}
 use Rattle.pass_standby.specs.Streams.{head, claimed, is_open, is_fit, judgement, batch_in, Told, judged, followed, next_stop, IsBegun}
 use Rattle.pass_standby.specs.Laws.{WholeLaw}
-use Rattle.pass_standby.proofs.Coming.{by_tests, below_is, below_isnt, stop_at_end, claimed_stays, begun_is, followed-append}
+use Rattle.pass_standby.proofs.Coming.{by_tests, stop_at_end, claimed_stays, begun_is, followed-append}
 use Rattle.pass_standby.proofs.Feeding.{taken_is}
 use Rattle.pass_standby.proofs.Keeping.{fit_room, judged_whole}
 
@@ -55,7 +56,7 @@ module _ (list : List Record) (at : ℕ) (frame : List ℕ) (fit : is_fit at (le
 
   -- its length
   still : judgement at front ≡ Begun
-  still = judged_by at front true true refl (below_isnt (length front) head (omega (arith, five))) (ap (is_fit at) claims ∙ fit) (below_is (length front) (head + claimed front) (omega (arith, five, claims, some)))
+  still = judged_by at front true true refl (le-ltb (length front) head (omega (arith, five))) (ap (is_fit at) claims ∙ fit) (lt-ltb (length front) (head + claimed front) (omega (arith, five, claims, some)))
 
   two : followed (start (1 ∷ [])) (to_be_bytes w32 (length frame)) ≡ start front
   two =
@@ -65,8 +66,8 @@ module _ (list : List Record) (at : ℕ) (frame : List ℕ) (fit : is_fit at (le
 
   -- and its records
   whole : judgement at (front ++ frame) ≡ Whole
-  whole = judged_by at (front ++ frame) true false refl (below_isnt (length (front ++ frame)) head (omega (arith, all_size))) (ap (is_fit at) all_claims ∙ fit)
-      (below_isnt (length (front ++ frame)) (head + claimed (front ++ frame)) (omega (arith, all_size, all_claims)))
+  whole = judged_by at (front ++ frame) true false refl (le-ltb (length (front ++ frame)) head (omega (arith, all_size))) (ap (is_fit at) all_claims ∙ fit)
+      (le-ltb (length (front ++ frame)) (head + claimed (front ++ frame)) (omega (arith, all_size, all_claims)))
 
   three : followed (start front) frame ≡ judged (start front) (front ++ frame) Whole
   three =

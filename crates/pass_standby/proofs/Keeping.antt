@@ -1,6 +1,6 @@
 -- What a standby's calls do to its disk.
 use Rattle.std.proofs.Common.{◌≡◌, ◌⊎◌, ℕ, ◌+◌, ◌<◌, ◌≤◌, Bool, true, false, List, [], ◌∷◌, ◌++◌, length, drop, IsTrue, Result, Ok, Err, inl, inr, ⊎_elim, refl, sym, ◌∙◌, ap, subst, arith, length-drop}
-use Rattle.std.specs.Prelude.{OnOk, Option, Some, None, nat_le, ◌&&◌}
+use Rattle.std.specs.Prelude.{Option, Some, None, nat_le, ◌&&◌}
 use Rattle.std.specs.Option.{option_map_or}
 use Rattle.std.specs.Int.{w32, to_be_bytes}
 use Rattle.std.specs.List.{All}
@@ -13,12 +13,12 @@ use Rattle.pass_graph.specs.Logged.{Summarizes}
 use Rattle.pass_graph.proofs.Accepting.{fine-append}
 use Rattle.pass_log.specs.declared.fault.LogFault.{LogFault}
 use Rattle.pass_log.specs.declared.log.Log.{Log}
-use Rattle.pass_log.specs.Log.{SameStore, LeavesStore, IsFrameOf, IsSettled, log_end, log_opened}
+use Rattle.pass_log.specs.Log.{IsFrameOf, IsSettled, log_end, log_opened}
 use Rattle.pass_log.specs.Records.{records_in, spellings, image_of, IsOldOrBoth}
 use Rattle.pass_log.specs.Records as logs
 use Rattle.pass_outside.specs.Areas.{Image}
-use Rattle.pass_outside.specs.Moments.{Moment, Adds, AfterStep, IsDeviceWork}
-use Rattle.pass_outside.specs.Runs.{adds_nothing, adds_weaker, adds_steps, follows_both}
+use Rattle.pass_outside.specs.Moments.{Moment, Adds, IsDeviceWork}
+use Rattle.pass_outside.specs.Runs.{adds_weaker}
 use Rattle.pass_plain.specs.WellLogged.{first_flaw_after, IsWellLogged}
 use Rattle.pass_standby.specs.declared.frame.Judgement.TheVariants.{Whole}
 use Rattle.pass_standby.specs.Streams.{head, furthest, longest_frame, claimed, is_fit, unflawed, batch_in, Told, spoiled, with_batch, judged, IsWhole, IsSpelled, HasFrames}
@@ -28,20 +28,8 @@ use Rattle.pass_standby.specs.declared.fault.StandbyFault.TheVariants as faults
 use Rattle.pass_standby.specs.Logs.{IsBatch}
 use Rattle.pass_standby.specs.Standing.{told_so_far, staged_of, Leaves, LeavesEither, IsKept, IsFollowing, Undone}
 
--- nothing was done
-pub store_same : (m : Moment) → LeavesStore m m
-store_same m = record { reads = λ told. refl; at_once = λ c may. (c, may, refl); moments = adds_nothing m (AfterStep SameStore m) }
-
 pub work_none : {F : Type 0} (m : Moment) → (F → ⊥) → IsDeviceWork m m F
 work_none {F} m never = record { tells = refl; rises = omega arith; later = omega arith; fault = λ f. absurd (never f); no_fault = λ h. refl }
-
--- one thing was done after another
-pub store_then : (old mid new : Moment) → mid.tells ≡ old.tells → LeavesStore old mid → LeavesStore mid new → LeavesStore old new
-store_then old mid new tells one two = record {
-  reads = λ told. two.reads (subst IsTrue (sym tells) told) ∙ one.reads told;
-  at_once = follows_both SameStore old mid new (λ a b c x y. y ∙ x) one.at_once two.at_once;
-  moments = adds_steps SameStore old mid new (λ a b c x y. y ∙ x) one.at_once one.moments two.moments;
-}
 
 pub work_then : {F G : Type 0} (old mid new : Moment) → IsDeviceWork old mid F → (F → ⊥) → IsDeviceWork mid new G → IsDeviceWork old new G
 work_then {F} {G} old mid new one fine two =
@@ -282,8 +270,3 @@ work_err {X} {Y} old new e d r s is as_is one = record {
   fault = λ h. let same : e ≡ d = cc (as_is, h) in one.fault (is ∙ ap (λ (x : StandbyFault). Err x) same);
   no_fault = λ h. one.no_fault (λ f. let same : e ≡ d = cc (is, f) in h (as_is ∙ ap (λ (x : StandbyFault). Err x) same));
 }
-
--- a weaker fact of what is Ok
-pub ok_so : {X E : Type 0} (P Q : Type 0) (r : Result X E) → (P → Q) → OnOk r P → OnOk r Q
-ok_so P Q (Ok x) h p = h p
-ok_so P Q (Err e) h p = tt

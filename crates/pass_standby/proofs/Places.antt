@@ -3,23 +3,18 @@ use Rattle.std.proofs.Common.{◌≡◌, ◌⊎◌, ℕ, zero, suc, ◌+◌, ◌
 use Rattle.std.specs.Prelude.{Contains, IsTrue, ◌↔◌, ◌==◌}
 use Rattle.std.specs.Int.{w32, to_be_bytes}
 use Rattle.std.proofs.lemmas.Bool.Decides.{nat_tests}
+use Rattle.std.proofs.lemmas.Map.Made.{Contains-tail}
 use Rattle.pass_log.specs.Frames.{Frames, before, scan, frames_of}
 use Rattle.pass_log.proofs.Scan.{front_frame, scan_shut, scan_broken}
 use Rattle.pass_log.proofs.Crash.{image_short}
 use Rattle.pass_standby.specs.Logs.{IsBroken}
 use Rattle.pass_standby.specs.Sending.{places}
 use Rattle.pass_standby.specs.Streams.{is_open}
+use Rattle.pass_entry.proofs.Places.{Contains-behind}
 
 abbrev frames_in : Result Frames ℕ → List (List ℕ)
 frames_in (Ok frames) = frames.list
 frames_in (Err place) = []
-
-in_tail : (y x : ℕ) (xs : List ℕ) → (y ≡ x → ⊥) → Contains (y ∷ xs) x → Contains xs x
-in_tail y x xs other (zero, below, is) = absurd (other is)
-in_tail y x xs other (suc k, below, is) = (k, omega (arith, below), is)
-
-in_more : (y x : ℕ) (xs : List ℕ) → Contains xs x → Contains (y ∷ xs) x
-in_more y x xs (k, below, is) = (suc k, omega (arith, below), is)
 
 -- one place alone
 pub only : (y x : ℕ) → Contains (y ∷ []) x → y ≡ x
@@ -81,11 +76,11 @@ module _ (bytes rest : List ℕ) (place from : ℕ) (s : IsSought bytes rest pla
 
         on : Contains (places place behind.list) from → Contains (places (place + (5 + length frame)) last.list) from
         on x = subst (λ (n : ℕ). Contains (places n last.list) from) sums
-            (in_tail place from (places (place + 5 + length frame) last.list) (λ here. omega (arith, here, below)) (subst (λ (l : List (List ℕ)). Contains (places place l) from) (sym list_is) x))
+            (Contains-tail place (places (place + 5 + length frame) last.list) from (λ here. omega (arith, here, below)) (subst (λ (l : List (List ℕ)). Contains (places place l) from) (sym list_is) x))
 
         back : Contains (places (place + (5 + length frame)) last.list) from → Contains (places place behind.list) from
         back y = subst (λ (l : List (List ℕ)). Contains (places place l) from) list_is
-            (in_more place from (places (place + 5 + length frame) last.list) (subst (λ (n : ℕ). Contains (places n last.list) from) (sym sums) y))
+            (Contains-behind place (places (place + 5 + length frame) last.list) from (subst (λ (n : ℕ). Contains (places n last.list) from) (sym sums) y))
 
     pub sought_more : IsSought bytes after (place + (5 + length frame)) from
     sought_more = record {

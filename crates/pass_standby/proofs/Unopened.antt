@@ -5,25 +5,18 @@ use Rattle.std.specs.Option.{option_map_or}
 use Rattle.std.proofs.lemmas.Bool.Decides.{nat_tests}
 use Rattle.pass_entry.specs.declared.record.Record.{Record}
 use Rattle.pass_entry.specs.declared.record.FlawReason.{FlawReason}
-use Rattle.pass_graph.proofs.Logging.{no_first}
 use Rattle.pass_log.specs.declared.fault.LogFault.{LogFault}
 use Rattle.pass_log.specs.Frames.{Frames, before, number, scan}
 use Rattle.pass_log.specs.Records.{joined, records_in, frame_more, records_of, Held, held, image_in}
 use Rattle.pass_log.proofs.Crash.{image_scan}
 use Rattle.pass_log.proofs.Reading.{records_after}
 use Rattle.pass_log.proofs.Scan.{scan_open, scan_broken}
-use Rattle.pass_plain.specs.WellLogged.{flaw_of, first_flaw_after, IsWellLogged}
+use Rattle.pass_plain.specs.WellLogged.{first_flaw_after, IsWellLogged}
+use Rattle.pass_plain.proofs.Flaws.{logged_before}
 use Rattle.pass_standby.specs.Streams.{unflawed, batch_in, is_open}
 use Rattle.pass_standby.specs.Logs.{IsBroken, IsUnread}
 use Rattle.pass_standby.specs.Laws.{BadLogLaw}
 use Rattle.pass_standby.proofs.Batching.{flaw-append}
-
--- what has no flaw has none at its front
-front_fine : (list xs ys : List Record) → first_flaw_after list (xs ++ ys) ≡ None → first_flaw_after list xs ≡ None
-front_fine list [] ys none = refl
-front_fine list (x ∷ xs) ys none =
-    let parts = no_first (λ (reason : FlawReason). (length list, reason)) (flaw_of list x) (first_flaw_after (list ++ x ∷ []) (xs ++ ys)) none in
-    ap (λ (o : Option FlawReason). option_map_or (λ reason. Some (length list, reason)) o (first_flaw_after (list ++ x ∷ []) xs)) parts.0 ∙ front_fine (list ++ x ∷ []) xs ys parts.1
 
 -- records that hold, well logged
 abbrev pub IsGood : Result (List Record) LogFault → Type 0
@@ -49,7 +42,7 @@ unread_bad list logged (Ok batch) none behind good = by_case (behind (length bat
 
     by_case : (y : Result (List Record) LogFault) → IsGood (joined list (joined batch y)) → ⊥
     by_case (Err e) g = g
-    by_case (Ok more) g = flawed (first_flaw_after list batch) (front_fine list batch more (sym (flaw-append [] list (batch ++ more) logged) ∙ g)) none
+    by_case (Ok more) g = flawed (first_flaw_after list batch) (logged_before list batch more (sym (flaw-append [] list (batch ++ more) logged) ∙ g)) none
 
 -- the frame behind an open gate is bad: no bytes with it hold well logged records
 module _ (frames : List (List ℕ)) (list : List Record) (read : records_of 0 frames ≡ Ok list) (logged : IsWellLogged list) (place : ℕ) (tail : List ℕ) where

@@ -11,9 +11,9 @@ use Rattle.pass_entry.specs.Limits.{block_count}
 use Rattle.pass_entry.specs.declared.entry.Entry.{Entry}
 use Rattle.pass_entry.specs.declared.entry.Synced.{Synced}
 use Rattle.pass_entry.proofs.Lists.{in_take}
+use Rattle.pass_entry.proofs.Places.{slice_get-last}
 use Rattle.pass_outside.specs.Areas.{Image}
 use Rattle.pass_outside.specs.Moments.{Moment}
-use Rattle.pass_plain.proofs.Appends.{slice_get-last}
 use Rattle.pass_plain.proofs.Lists.{some_is}
 use Rattle.pass_range.specs.Places.{place, Holds}
 use Rattle.pass_range.specs.Rows.{IsUnmatched}

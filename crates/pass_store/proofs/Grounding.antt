@@ -12,7 +12,7 @@ use Rattle.pass_keep.specs.Keepers.{GoesOn}
 use Rattle.pass_outside.specs.Moments.{Moment}
 use Rattle.pass_store.specs.Grounds.{Ground, HasGoneOn, ground_of}
 
-stopped : {D : Type 0} (seen : List Entry) (old new : Vaulted D) → HasStopped seen old new → ground_of new ≡ ground_of old
+pub stopped : {D : Type 0} (seen : List Entry) (old new : Vaulted D) → HasStopped seen old new → ground_of new ≡ ground_of old
 stopped seen old new (inl not) = ap ground_of not.vault
 stopped seen old new (inr (calls, is)) = ap ground_of is
 

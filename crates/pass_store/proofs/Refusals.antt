@@ -1,9 +1,9 @@
 -- What a call asks of its process, and what the process holds where it does not refuse.
-use Rattle.std.proofs.Common.{◌≡◌, ℕ, ◌<◌, ◌≤◌, ◌+◌, List, length, refl, ap, subst, sym, ◌∙◌, Bool, true, false, ◌&&◌, ◌||◌, arith}
-use Rattle.std.proofs.lemmas.Bool.Decides.{nat_tests}
+use Rattle.std.proofs.Common.{◌≡◌, ℕ, ◌<◌, ◌≤◌, List, length, refl, ap, sym, ◌∙◌, Bool, true, false, ◌&&◌, ◌||◌}
 use Rattle.std.specs.Prelude.{Option, Some, None, is_some, nat_le, nat_lt, not}
 use Rattle.std.specs.Option.{option_map_or}
 use Rattle.std.specs.FinMap as finite_map
+use Rattle.std.proofs.lemmas.Bool.{le-leb}
 use Rattle.pass_entry.specs.Limits.{file_limit, transfer_limit}
 use Rattle.pass_entry.specs.Texts.{is_name}
 use Rattle.pass_entry.specs.declared.entry.Ask.TheVariants as ask
@@ -21,16 +21,11 @@ use Rattle.pass_plain.specs.Registries.{same_kind}
 use Rattle.pass_plain.proofs.Lists.{both_true}
 use Rattle.pass_proc.specs.CallEnds.{Asks}
 use Rattle.pass_proc.proofs.Steps.{low_fd}
-use Rattle.pass_calls.proofs.Naming.{one_held, read_at, two_held, write_at}
-
-is_le : (a b : ℕ) → a ≤ b → nat_le a b ≡ true
-is_le a b le = grind (arith, nat_tests)
+use Rattle.pass_calls.proofs.Naming.{one_held, two_held}
+use Rattle.pass_calls.proofs.PipeWrites.{write_within}
 
 pub read_within : (fd len : ℕ) → fd < 64 → (1 ≤ len) × (len ≤ transfer_limit) → is_within (requests.Read fd len) ≡ true
-read_within fd len low (least, most) = both_true (is_fd fd && nat_le 1 len) (nat_le len transfer_limit) (both_true (is_fd fd) (nat_le 1 len) (low_fd fd low) (is_le 1 len least)) (is_le len transfer_limit most)
-
-pub write_within : (fd : ℕ) (bytes : List ℕ) → fd < 64 → length bytes ≤ transfer_limit → is_within (requests.Write fd bytes) ≡ true
-write_within fd bytes low few = both_true (is_fd fd) (nat_le (length bytes) transfer_limit) (low_fd fd low) (is_le (length bytes) transfer_limit few)
+read_within fd len low (least, most) = both_true (is_fd fd && nat_le 1 len) (nat_le len transfer_limit) (both_true (is_fd fd) (nat_le 1 len) (low_fd fd low) (le-leb 1 len least)) (le-leb len transfer_limit most)
 
 pub tag_within : (fd : ℕ) (attr value : List ℕ) → fd < 64 → (is_name attr ≡ true) × (is_name value ≡ true) → is_within (requests.TagObj fd attr value) ≡ true
 tag_within fd attr value low (named, valued) = both_true (is_fd fd && is_name attr) (is_name value) (both_true (is_fd fd) (is_name attr) (low_fd fd low) named) valued
@@ -60,13 +55,6 @@ disclose_asks fd source low = record { request = requests.Disclose fd source; na
 pub child_asks : (child : ℕ) → Asks calls.WaitChild (ask.Child child)
 child_asks child = record { request = requests.WaitChild child; named = refl; asked = refl; within = refl }
 
--- what is held where it is not refused
-pub read_held : (p : Process) (fd : ℕ) → refusal p (ask.ToRead fd) ≡ None → is_held p fd ≡ true
-read_held p fd fine = let (d, at) = read_at p fd fine in ap is_some at
-
-pub write_held : (p : Process) (fd len : ℕ) → refusal p (ask.ToWrite fd len) ≡ None → is_held p fd ≡ true
-write_held p fd len fine = let (d, at) = write_at p fd len fine in ap is_some at
-
 held_if : (o : Option Descriptor) (judge : Descriptor → Option CallFault) → option_map_or judge o (Some fault.BadFd) ≡ None → is_some o ≡ true
 held_if None judge fine = absurd (cc)
 held_if (Some d) judge fine = refl
@@ -85,28 +73,8 @@ no_first : (a b : Bool) (f : CallFault) (next : Option CallFault) → faults_if 
 no_first false b f next fine = refl
 no_first true b f next fine = absurd (cc)
 
-not_not : (b : Bool) → not b ≡ false → b ≡ true
-not_not true e = refl
-not_not false e = absurd (cc)
-
 judged : (p : Process) (fd : ℕ) (d : Descriptor) (judge : Descriptor → Option CallFault) → finite_map.get p.descriptors fd ≡ Some d → at_held p fd judge ≡ None → judge d ≡ None
 judged p fd d judge at fine = sym (ap (λ o. option_map_or judge o (Some fault.BadFd)) at) ∙ fine
-
-pub read_no_app : (p : Process) (fd : ℕ) (d : Descriptor) → finite_map.get p.descriptors fd ≡ Some d → refusal p (ask.ToRead fd) ≡ None → is_app d ≡ false
-read_no_app p fd d at fine =
-    no_first (is_app d) (same_mode d.mode mode.Write) fault.BadMode None
-    (judged p fd d (λ d. faults_if (is_app d || same_mode d.mode mode.Write) fault.BadMode None) at fine)
-
-pub write_no_app : (p : Process) (fd len : ℕ) (d : Descriptor) → finite_map.get p.descriptors fd ≡ Some d → refusal p (ask.ToWrite fd len) ≡ None → is_app d ≡ false
-write_no_app p fd len d at fine =
-    no_first (is_app d) (same_mode d.mode mode.Read) fault.BadMode (faults_if (is_file d && nat_lt file_limit (d.offset + len)) fault.TooBig None)
-    (judged p fd d (λ d. faults_if (is_app d || same_mode d.mode mode.Read) fault.BadMode (faults_if (is_file d && nat_lt file_limit (d.offset + len)) fault.TooBig None)) at fine)
-
-pub cut_file : (p : Process) (fd size : ℕ) (d : Descriptor) → finite_map.get p.descriptors fd ≡ Some d → refusal p (ask.ToCut fd size) ≡ None → is_file d ≡ true
-cut_file p fd size d at fine =
-    not_not (is_file d)
-    (no_first (not (is_file d)) (same_mode d.mode mode.Read) fault.BadMode (faults_if (nat_lt file_limit size) fault.TooBig None)
-    (judged p fd d (λ d. faults_if (not (is_file d) || same_mode d.mode mode.Read) fault.BadMode (faults_if (nat_lt file_limit size) fault.TooBig None)) at fine))
 
 kind_file : (k : Kind) → same_kind k kind.File ≡ true → (same_kind k kind.Pipe ≡ false) × (same_kind k kind.App ≡ false)
 kind_file kind.File is = (refl, refl)
@@ -132,7 +100,3 @@ app_alone d is = kind_app d.kind is
 
 some_same : (o : Option Descriptor) (a b : Descriptor) → o ≡ Some a → o ≡ Some b → a ≡ b
 some_same o a b one other = ap (λ (x : Option Descriptor). option_map_or (λ (d : Descriptor). d) x a) (sym one ∙ other)
-
--- what holds of the descriptor that is held holds of each that is
-pub of_held : (o : Option Descriptor) (a : Descriptor) (P : Descriptor → Type 0) → o ≡ Some a → P a → (d : Descriptor) → o ≡ Some d → P d
-of_held o a P held is d at = subst P (some_same o a d held at) is

@@ -1,5 +1,5 @@
 -- What a vault was opened with stays while a store is settled; and the counts of a fault.
-use Rattle.std.proofs.Common.{◌≡◌, ◌∙◌, List, ap, inl, inr, refl, subst, sym}
+use Rattle.std.proofs.Common.{◌≡◌, ◌∙◌, List, ap, refl, subst, sym}
 use Rattle.std.specs.Prelude.{IfErr, IfOk, OnErr, Option, Some, None, Result, Ok, Err}
 use Rattle.pass_entry.specs.declared.entry.Entry.{Entry}
 use Rattle.pass_file.specs.Desks.{FileDeskView}
@@ -13,16 +13,13 @@ use Rattle.pass_safe.specs.declared.fault.SafeFault.{SafeFault}
 use Rattle.pass_safe.specs.declared.fault.SafeFault.TheVariants.{DiskFault, NoMemory}
 use Rattle.pass_store.specs.Closings.{IsFaultSince}
 use Rattle.pass_store.specs.Grounds.{Ground, ground_of}
+use Rattle.pass_store.proofs.Grounding.{stopped}
 
 pub shared_stand : {D : Type 0} (ground : Ground) (f : FileDeskView) (old new : Vaulted D) (answer : Result (Option Receipt) SafeFault) → ground_of old ≡ ground
     → IfOk answer (λ r. new ≡ settled_to old new f.what f.number r) → OnErr answer (new ≡ unsaved_to old new) → ground_of new ≡ ground
 shared_stand ground f old new (Ok None) was done undone = ap ground_of done ∙ was
 shared_stand ground f old new (Ok (Some r)) was done undone = ap ground_of done ∙ was
 shared_stand ground f old new (Err e) was done undone = ap ground_of undone ∙ was
-
-stopped : {D : Type 0} (seen : List Entry) (old new : Vaulted D) → HasStopped seen old new → ground_of new ≡ ground_of old
-stopped seen old new (inl not) = ap ground_of not.vault
-stopped seen old new (inr (calls, is)) = ap ground_of is
 
 pub copied_stand : {D : Type 0} (ground : Ground) (f : FileDeskView) (old new : Vaulted D) (answer : Result (Option Receipt) SafeFault) → ground_of old ≡ ground
     → IfOk answer (λ r. HasSettled f old new r) → OnErr answer (HasStopped f.seen old new) → ground_of new ≡ ground

@@ -1,6 +1,6 @@
 -- A write into one block.
 use Rattle.std.proofs.Common.{◌≡◌, ◌∙◌, ℕ, zero, suc, ◌+◌, ◌*◌, ◌-◌, ◌<◌, ◌≤◌, List, [], ◌∷◌, ◌++◌, length, take, drop, get_or, Vec, refl, ap, sym, subst, arith, append_assoc}
-use Rattle.std.specs.Prelude.{Option, Some, None, slice_set, is_some, false}
+use Rattle.std.specs.Prelude.{Option, Some, None, slice_set}
 use Rattle.std.specs.declared.alloc.Global.{Global}
 use Rattle.std.proofs.Math.Seq.{take-append-add, drop-append-add}
 use Rattle.std.proofs.lemmas.List.{take-append-le, drop-append-le, length-append, length-take-le, length-drop, take-append-drop, take_all, take_at, drop-drop, length-replicate}
@@ -112,10 +112,6 @@ module _ (old mid new bytes : List ℕ) (at first p q : ℕ) (at_p : p ≡ at) (
 
 -- A spare block in the place of one that isn't made
 
-pub not_some : (o : Block) → is_some o ≡ false → o ≡ None
-not_some None is = refl
-not_some (Some own) is = absurd (cc)
-
 pub flat_made : (table : List Block) (b : ℕ) (own : Vec ℕ Global) → b < length table → get_or table b None ≡ None → own.items ≡ zeros → flat (slice_set table b (Some own)) ≡ flat table
 flat_made [] b own low is none = absurd (omega (arith, low))
 flat_made (x ∷ table) zero own low is none = ap (λ xs. xs ++ flat table) (none ∙ ap bytes_of (sym is))
@@ -130,7 +126,3 @@ whole_made (x ∷ table) (suc b) own whole none = (whole.0, whole_made table b o
 pub zero_front : (xs : List (Vec ℕ Global)) (own : Vec ℕ Global) → AreZero (xs ++ own ∷ []) → AreZero xs × (own.items ≡ zeros)
 zero_front [] own all = (tt, all.0)
 zero_front (x ∷ xs) own all = let more = zero_front xs own all.1 in ((all.0, more.0), more.1)
-
-pub zero_push : (xs : List (Vec ℕ Global)) (own : Vec ℕ Global) → AreZero xs → own.items ≡ zeros → AreZero (xs ++ own ∷ [])
-zero_push [] own all none = (none, tt)
-zero_push (x ∷ xs) own all none = (all.0, zero_push xs own all.1 none)

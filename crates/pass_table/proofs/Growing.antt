@@ -1,10 +1,9 @@
 -- A table that gets more places, and what is read from it piece by piece.
 use Rattle.std.proofs.Common.{◌≡◌, ◌∙◌, ℕ, ◌+◌, ◌-◌, ◌≤◌, List, [], ◌∷◌, ◌++◌, length, take, drop, replicate, ap, sym, arith, append_assoc}
-use Rattle.std.specs.Prelude.{None, Result, Ok, Err, OnErr}
+use Rattle.std.specs.Prelude.{None}
 use Rattle.std.proofs.Math.Seq.{drop-append-add, take-append-add, take-add}
-use Rattle.std.proofs.lemmas.List.{take_at, drop_at, take-append-le, drop-append-le, take-append-drop, take-take, take_all, drop-drop, length-append, length-take, length-take-le, length-replicate, take-replicate, drop-replicate}
+use Rattle.std.proofs.lemmas.List.{take_at, drop_at, take-append-le, drop-append-le, take-append-drop, take-take, take_all, drop-drop, length-append, length-take, length-take-le, length-replicate, take-replicate, drop-replicate, append-nil}
 use Rattle.pass_plain.specs.Files.{extended, resized}
-use Rattle.pass_plain.proofs.Replays.{append-nil}
 use Rattle.pass_table.specs.Tables.{bytes_of, flat, AreWhole}
 use Rattle.pass_table.proofs.Flats.{Block}
 use Rattle.pass_table.proofs.Parts.{replicate_add}
@@ -103,7 +102,3 @@ pub rest_front : (bytes rest : List ℕ) (at done k len : ℕ) → rest ≡ take
 rest_front bytes rest at done k len is low =
     let n = ap length is ∙ length-take k (drop (at + done) bytes) in
     ap (take len) is ∙ take-take len k (drop (at + done) bytes) (omega (arith, n, low)) ∙ ap (take len) (sym (drop-drop done at bytes))
-
-pub on_err : {T E P : Type 0} (r : Result T E) → P → OnErr r P
-on_err (Ok x) p = tt
-on_err (Err e) p = p

@@ -4,9 +4,8 @@ use Rattle.std.specs.Prelude.{Some, None, is_some}
 use Rattle.std.specs.List.{list_all}
 use Rattle.std.proofs.Math.Seq.{drop-append-add, take-append-add}
 use Rattle.std.proofs.lemmas.Bool.Decides.{nat_tests}
-use Rattle.std.proofs.lemmas.List.{take_at, take-append-drop, take-take, take_all, drop-take, drop-drop, drop_all, length-take-le, length-drop, length-replicate, take-replicate, drop-replicate}
+use Rattle.std.proofs.lemmas.List.{take_at, take-append-drop, take-take, take_all, drop-take, drop-drop, drop_all, length-take-le, length-drop, length-replicate, take-replicate, drop-replicate, append-nil}
 use Rattle.pass_plain.specs.Files.{extended}
-use Rattle.pass_plain.proofs.Replays.{append-nil}
 use Rattle.pass_table.specs.Tables.{zeros, bytes_of, flat, AreWhole}
 use Rattle.pass_table.proofs.Flats.{Block, start, starts, flat_length}
 

@@ -1,5 +1,5 @@
 -- The text that is written of lines that may follow each other is one of a trace, and says them again.
-use Rattle.std.proofs.Common.{◌≡◌, ℕ, suc, ◌+◌, ◌<◌, ◌≤◌, Bool, true, false, not, ◌&&◌, ◌||◌, cond, eqb, leb, ltb, List, [], ◌∷◌, ◌++◌, length, get_or, fold, map, Option, Some, None, Result, Ok, Err, refl, sym, ap, ◌∙◌, subst, inl, inr, arith, append_assoc, append-nil, length-append}
+use Rattle.std.proofs.Common.{◌≡◌, ℕ, ◌+◌, ◌<◌, ◌≤◌, Bool, true, false, not, ◌&&◌, ◌||◌, cond, eqb, leb, ltb, List, [], ◌∷◌, ◌++◌, length, get_or, fold, map, Option, Some, None, Result, Ok, Err, refl, sym, ap, ◌∙◌, subst, inl, inr, arith, append_assoc, append-nil, length-append}
 use Rattle.std.specs.List.{list_all, list_any, onto_first}
 use Rattle.std.proofs.Math.Seq.{take-append_seam, get_or-append_seam}
 use Rattle.std.proofs.lemmas.Bool.{and_parts, cases_eq, ne_eqb, leb-true, ltb-false}
@@ -90,12 +90,12 @@ texts_within number earlier (text ∷ texts) h s =
     let rest = texts_within (number + 1) (earlier ++ said (text_line_of number text)) texts (omega (arith, here)) s.1 in
     omega (arith, rest)
 
-length-said : (read : Result (Option TraceLine) TraceReason) → length (said read) ≤ 1
+pub length-said : (read : Result (Option TraceLine) TraceReason) → length (said read) ≤ 1
 length-said (Ok (Some line)) = omega arith
 length-said (Ok None) = omega arith
 length-said (Err reason) = omega arith
 
-length-lines_from : (number : ℕ) (texts : List (List ℕ)) → length (lines_from number texts) ≤ length texts
+pub length-lines_from : (number : ℕ) (texts : List (List ℕ)) → length (lines_from number texts) ≤ length texts
 length-lines_from number [] = omega arith
 length-lines_from number (text ∷ texts) =
     omega (arith, length-append (said (text_line_of number text)) (lines_from (number + 1) texts), length-said (text_line_of number text), length-lines_from (number + 1) texts)
@@ -146,10 +146,6 @@ rule_of-Same xs ys line number s =
 -- the texts of lines
 abbrev line_texts : List TraceLine → List (List ℕ)
 line_texts lines = map line_text lines
-
-length-line_texts : (lines : List TraceLine) → length (line_texts lines) ≡ length lines
-length-line_texts [] = refl
-length-line_texts (line ∷ lines) = ap suc (length-line_texts lines)
 
 Sound-texts : (number : ℕ) (xs ys lines : List TraceLine) → Same xs ys → LinesFollow xs lines → number + length lines ≤ 100001 → Sound number ys (line_texts lines)
 Sound-texts number xs ys [] s f within = tt

@@ -12,19 +12,19 @@ use Rattle.pass_trace.specs.Traces.{text_line_of, said, lines_from, reason_behin
 use Rattle.pass_trace.proofs.LinesLemmas.{lines_from-push}
 use Rattle.pass_trace.specs.Lawful.{ObjectsLaw}
 
-place_of_front : (seen rest : List (List ℕ)) (text : List ℕ) → slice_index_or (seen ++ text ∷ rest) (length seen) [] ≡ text
+pub place_of_front : (seen rest : List (List ℕ)) (text : List ℕ) → slice_index_or (seen ++ text ∷ rest) (length seen) [] ≡ text
 place_of_front [] rest text = refl
 place_of_front (x ∷ seen) rest text = place_of_front seen rest text
 
-take_front : (seen rest : List (List ℕ)) → take (length seen) (seen ++ rest) ≡ seen
+pub take_front : (seen rest : List (List ℕ)) → take (length seen) (seen ++ rest) ≡ seen
 take_front [] rest = refl
 take_front (x ∷ seen) rest = ap (λ xs. x ∷ xs) (take_front seen rest)
 
-abbrev AreFine : List (List ℕ) → Type 0
+abbrev pub AreFine : List (List ℕ) → Type 0
 AreFine texts = (k : ℕ) → k < length texts → fault_at texts k ≡ None
 
 -- the line that stands first behind the others has no fault
-at_front : (seen rest : List (List ℕ)) (text : List ℕ) → AreFine (seen ++ text ∷ rest) → reason_behind (lines_from 1 seen) (text_line_of (length seen + 1) text) ≡ None
+pub at_front : (seen rest : List (List ℕ)) (text : List ℕ) → AreFine (seen ++ text ∷ rest) → reason_behind (lines_from 1 seen) (text_line_of (length seen + 1) text) ≡ None
 at_front seen rest text fine =
     ap (λ t. reason_behind (lines_from 1 seen) (text_line_of (length seen + 1) t)) (sym (place_of_front seen rest text))
     ∙ ap (λ ts. reason_behind (lines_from 1 ts) (text_line_of (length seen + 1) (slice_index_or (seen ++ text ∷ rest) (length seen) []))) (sym (take_front seen (text ∷ rest)))

@@ -19,6 +19,7 @@ use Rattle.pass_trace.specs.declared.call.Form.TheVariants as form
 use Rattle.pass_entry.specs.Words.{call_of}
 use Rattle.pass_entry.specs.declared.entry.CallName.{CallName}
 use Rattle.pass_entry.specs.declared.entry.CallName.TheVariants as call
+use Rattle.pass_entry.proofs.Variants.{guard_ok}
 use Rattle.pass_trace.specs.Calls.{forms_of}
 use Rattle.pass_trace.specs.Lines.{words_of}
 pub use Rattle.pass_trace.specs.Ranges.{IsPayload, IsMode, IsArgs, IsGood, IsGoodLine}
@@ -32,10 +33,6 @@ pub child_of-le : (c : Command) → IsGood c → child_of c ≤ 8192
 child_of-le (command.Fork child) h = h.1
 child_of-le (command.Wait child) h = h.1
 child_of-le _ h = omega arith
-
-guard_ok : {A B : Type 0} (b : Bool) (x y : A) (e : B) → cond b (Ok x) (Err e) ≡ Ok y → (b ≡ true) × (x ≡ y)
-guard_ok true x y e h = (refl, cc)
-guard_ok false x y e h = cc
 
 pub number_in_range : (low high : ℕ) (word : List ℕ) (n : ℕ) → number_in low high word ≡ Ok n → (low ≤ n) × (n ≤ high)
 unfolding number_in

@@ -1,5 +1,5 @@
 pub mod Again
-mod Created
+pub mod Created
 pub mod Faults
 pub mod Good
 pub mod LinesLemmas

@@ -1,14 +1,15 @@
 -- Words and numbers that are written are read again.
-use Rattle.std.proofs.Common.{◌≡◌, lit<, ℕ, ◌+◌, ◌-◌, ◌*◌, ◌^◌, ◌<◌, ◌≤◌, Bool, true, false, not, ◌&&◌, ◌||◌, cond, eqb, leb, ltb, List, [], ◌∷◌, ◌++◌, length, get_or, fold, decimal, Ok, Err, refl, sym, ap, ◌∙◌, inl, inr, arith, rules, append-nil}
+use Rattle.std.proofs.Common.{◌≡◌, lit<, ℕ, ◌+◌, ◌-◌, ◌*◌, ◌^◌, ◌<◌, ◌≤◌, Bool, true, false, ◌&&◌, ◌||◌, cond, eqb, leb, ltb, List, [], ◌∷◌, ◌++◌, length, get_or, fold, decimal, Ok, Err, refl, sym, ap, ◌∙◌, inl, inr, arith, rules, append-nil}
 use Rattle.std.specs.List.{list_all, onto_first, join_with_byte}
 use Rattle.std.proofs.lemmas.Bool.{and_parts, and_from, cases_eq, ne_eqb, le-leb, lt-ltb, leb-true, or_right, or_left, eq-eqb, not_from_false}
 use Rattle.std.proofs.lemmas.List.Splits.{slice_split-cons_no, slice_split-cons_yes}
 use Rattle.std.proofs.lemmas.Str.Parse.{IsNumeralModel, numerals_by_fold}
 use Rattle.std.proofs.lemmas.Fmt.{digits_decimal, digits_value-decimal, length-decimal-le, decimal_digit, decimal_nonempty, first_decimal}
 use Rattle.pass_entry.specs.Texts.{is_name_byte, is_line_byte}
+use Rattle.pass_entry.proofs.NameTexts.{name_byte-line}
 use Rattle.pass_trace.specs.declared.trace.TraceReason.TheVariants as reason
 use Rattle.pass_trace.specs.Lines.{words_of}
-use Rattle.pass_trace.specs.Words.{is_digit, is_number, is_word, value_of}
+use Rattle.pass_trace.specs.Words.{is_digit, is_number, value_of}
 use Rattle.pass_trace.specs.Commands.{number_in}
 use Rattle.pass_trace.specs.Texts.{spaced}
 
@@ -49,11 +50,6 @@ onto_first-graphic b (part ∷ parts) h =
     let front = and_parts (is_name_byte b) (are_graphic part) both.0 in
     (front.0, and_from (are_graphic part) (list_all are_graphic parts) front.1 both.1)
 
-is_line_byte-graphic : (b : ℕ) → is_name_byte b ≡ true → is_line_byte b ≡ true
-is_line_byte-graphic b h =
-    let parts = and_parts (leb 33 b) (leb b 126) h in
-    and_from (leb 32 b) (leb b 126) (le-leb 32 b (omega (arith, leb-true 33 b parts.0))) parts.1
-
 pub are_printable : (text : List ℕ) → list_all are_graphic (words_of text) ≡ true → list_all is_line_byte text ≡ true
 are_printable [] h = refl
 are_printable (b ∷ text) h =
@@ -65,7 +61,7 @@ are_printable (b ∷ text) h =
       | inr other ↦
           let split = slice_split-cons_no (λ b. eqb b 32) b text (ne_eqb b 32 other) in
           let parts = onto_first-graphic b (words_of text) (ap (list_all are_graphic) (sym split) ∙ h) in
-          and_from (is_line_byte b) (list_all is_line_byte text) (is_line_byte-graphic b parts.0) (are_printable text parts.1)
+          and_from (is_line_byte b) (list_all is_line_byte text) (name_byte-line b parts.0) (are_printable text parts.1)
     ]
 
 own : IsNumeralModel (λ ds. list_all is_digit ds ≡ true) value_of
@@ -83,11 +79,6 @@ digits_graphic (d ∷ ds) h =
 
 pub are_graphic-decimal : (n : ℕ) → n < 2 ^ 64 → are_graphic (decimal n) ≡ true
 are_graphic-decimal n h = digits_graphic (decimal n) (digits_decimal own n h)
-
-pub is_word-decimal : (n : ℕ) → n < 2 ^ 64 → is_word (decimal n) ≡ true
-is_word-decimal n h =
-    let some = decimal_nonempty n h in
-    and_from (not (eqb (length (decimal n)) 0)) (are_graphic (decimal n)) (not_from_false (eqb (length (decimal n)) 0) (ne_eqb (length (decimal n)) 0 (λ e. omega (arith, e, some)))) (are_graphic-decimal n h)
 
 no_leading_zero : (n : ℕ) → n < 2 ^ 64 → (eqb (length (decimal n)) 1 || ltb 48 (get_or (decimal n) 0 0)) ≡ true
 no_leading_zero n h =

@@ -3,12 +3,12 @@ use Rattle.std.proofs.Common.{◌≡◌, ◌<◌, ◌≤◌, ◌+◌, ◌-◌, �
 use Rattle.std.specs.Prelude.{Option, Some, None, Result, Err, nat_lt}
 use Rattle.std.specs.List.{list_any, onto_first}
 use Rattle.std.proofs.lemmas.List.{take-append-le, get_or_append_left, get_or_at}
-use Rattle.std.proofs.lemmas.Bool.{cases_order}
-use Rattle.std.proofs.lemmas.Bool.Decides.{nat_tests}
+use Rattle.std.proofs.lemmas.Bool.{cases_order, lt-ltb}
 use Rattle.pass_trace.specs.declared.trace.TraceReason.{TraceReason}
 use Rattle.pass_trace.specs.declared.trace.TraceReason.TheVariants as reason
 use Rattle.pass_trace.specs.Lines.{lines_of, is_too_long}
 use Rattle.pass_trace.specs.Traces.{text_line_of, lines_from, reason_behind, fault_at, IsTraceText, IsFirstFault}
+use Rattle.pass_entry.proofs.Lists.{below_is}
 
 -- the lines of a text, and those of one that begins with it: they part in the text's last line, which may go on
 record Parts (texts more : List (List ℕ)) : Type 0 where
@@ -82,12 +82,6 @@ same_inside init texts more k inside =
 abbrev IsOver : List (List ℕ) → ℕ → Type 0
 IsOver texts k = (k < length texts) × ((100000 ≤ k) ⊎ (8400 < length (get_or texts k [])))
 
-less : (a b : ℕ) → a < b → nat_lt a b ≡ true
-less a b h = grind (arith, nat_tests)
-
-from_less : (a b : ℕ) → nat_lt a b ≡ true → a < b
-from_less a b h = grind (arith, nat_tests)
-
 -- its reason
 abbrev over_reason : ℕ → TraceReason
 over_reason k = cond (nat_lt 100000 (k + 1)) reason.Many reason.Length
@@ -103,8 +97,8 @@ as_reason true a b = refl
 as_reason false a b = refl
 
 tested : (k size : ℕ) → (100000 ≤ k) ⊎ (8400 < size) → (nat_lt 100000 (k + 1) ≡ true) ⊎ (nat_lt 8400 size ≡ true)
-tested k size (inl many) = inl (less 100000 (k + 1) (omega (arith, many)))
-tested k size (inr long) = inr (less 8400 size long)
+tested k size (inl many) = inl (lt-ltb 100000 (k + 1) (omega (arith, many)))
+tested k size (inr long) = inr (lt-ltb 8400 size long)
 
 over_line : (k : ℕ) (line : List ℕ) → (100000 ≤ k) ⊎ (8400 < length line) → text_line_of (k + 1) line ≡ Err (over_reason k)
 unfolding text_line_of
@@ -114,9 +108,6 @@ over_line k line over =
 
 over_fault : (texts : List (List ℕ)) (k : ℕ) → IsOver texts k → fault_at texts k ≡ Some (over_reason k)
 over_fault texts k over = ap (reason_behind (lines_from 1 (take k texts))) (over_line k (get_or texts k []) over.1)
-
-longer_line : (n : ℕ) (line : List ℕ) (tail : List ℕ) → 8400 < length line → 8400 < length (line ++ tail)
-longer_line n line tail long = let z = length-append line tail in omega (arith, z, long)
 
 more_size : (init : List (List ℕ)) (line : List ℕ) (rest : List (List ℕ)) → length (init ++ line ∷ rest) ≡ length init + suc (length rest)
 more_size init line rest = length-append init (line ∷ rest)
@@ -157,14 +148,14 @@ any_at (l ∷ ls) h = by (nat_lt 8400 (length l)) refl h (any_at ls)
     by : (long : Bool) → nat_lt 8400 (length l) ≡ long → long || list_any (λ line. nat_lt 8400 (length line)) ls ≡ true
         → (list_any (λ line. nat_lt 8400 (length line)) ls ≡ true → (k : ℕ) × (k < length ls) × (8400 < length (get_or ls k [])))
         → (k : ℕ) × (k < length (l ∷ ls)) × (8400 < length (get_or (l ∷ ls) k []))
-    by true is h later = (0, omega arith, from_less 8400 (length l) is)
+    by true is h later = (0, omega arith, below_is 8400 (length l) is)
     by false is h later = let (k, there, long) = later h in (suc k, omega (arith, there), long)
 
 over_at : (texts : List (List ℕ)) → nat_lt 100000 (length texts) || list_any (λ line. nat_lt 8400 (length line)) texts ≡ true → (k : ℕ) × IsOver texts k
 over_at texts h = by (nat_lt 100000 (length texts)) refl h
   where
     by : (many : Bool) → nat_lt 100000 (length texts) ≡ many → many || list_any (λ line. nat_lt 8400 (length line)) texts ≡ true → (k : ℕ) × IsOver texts k
-    by true is h = let many = from_less 100000 (length texts) is in (100000, (many, inl (omega arith)))
+    by true is h = let many = below_is 100000 (length texts) is in (100000, (many, inl (omega arith)))
     by false is h = let (k, there, long) = any_at texts h in (k, (there, inr long))
 
 -- a line that is the first at fault
@@ -173,9 +164,6 @@ record IsFirstOf (texts : List (List ℕ)) (line : ℕ) (why : TraceReason) : Ty
   there : line ≤ length texts
   fault : fault_at texts (line - 1) ≡ Some why
   first : (k : ℕ) → k + 1 < line → fault_at texts k ≡ None
-
-some_is : (a b : TraceReason) → ◌≡◌ {A = Option TraceReason} (Some a) (Some b) → a ≡ b
-some_is a b h = cc
 
 first_goes : (texts more : List (List ℕ)) (p : Parts texts more) (k : ℕ) → IsOver texts k → (line : ℕ) (why : TraceReason) → IsFirstOf texts line why → IsFirstOf more line why
 first_goes texts more p k over line why f =

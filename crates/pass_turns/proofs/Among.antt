@@ -4,7 +4,7 @@ use Rattle.std.specs.Prelude.{Some, slice_get, Contains, filter}
 use Rattle.std.specs.List.{flat_map}
 use Rattle.std.proofs.lemmas.List.Elements.{Contains-get_or}
 use Rattle.pass_plain.proofs.Lists.{some_is}
-use Rattle.pass_replay.proofs.Parts.{contains_at, at_contains}
+use Rattle.pass_entry.proofs.Places.{Contains-place, Contains-at}
 
 abbrev pub Among : {X : Type 0} → X → List X → Type 0
 Among x [] = ⊥
@@ -16,7 +16,7 @@ from_at (y ∷ xs) zero x at = inl (some_is y x at)
 from_at (y ∷ xs) (suc k) x at = inr (from_at xs k x at)
 
 pub among : {X : Type 0} (xs : List X) (x : X) → Contains xs x → Among x xs
-among xs x h = let (k, at) = at_contains xs x h in from_at xs k x at
+among xs x h = let (k, at) = Contains-place xs x h in from_at xs k x at
 
 to_at : {X : Type 0} (xs : List X) (x : X) → Among x xs → (k : ℕ) × (slice_get xs k ≡ Some x)
 to_at [] x h = absurd h
@@ -24,7 +24,7 @@ to_at (y ∷ xs) x (inl same) = (zero, ap (λ y. Some y) same)
 to_at (y ∷ xs) x (inr rest) = let (k, at) = to_at xs x rest in (suc k, at)
 
 pub contains : {X : Type 0} (xs : List X) (x : X) → Among x xs → Contains xs x
-contains xs x h = let (k, at) = to_at xs x h in contains_at xs k x at
+contains xs x h = let (k, at) = to_at xs x h in Contains-at xs k x at
 
 pub all_of : {X : Type 0} (P : X → Type 0) (xs : List X) → ((x : X) → Contains xs x → P x) → All P xs
 all_of P xs f = λ k d less. f (get_or xs k d) (Contains-get_or xs k d less)

@@ -6,7 +6,6 @@ use Rattle.pass_plain.specs.declared.request.Request.TheVariants as requests
 use Rattle.pass_plain.specs.Legal.{is_over}
 use Rattle.pass_plain.specs.Sessions.{Session}
 use Rattle.pass_plain.specs.Traces.{Line, given, lines_of, calls_of}
-use Rattle.pass_plain.proofs.Appends.{slice_get-last}
 use Rattle.pass_lives.specs.Exits.{HasExited}
 use Rattle.pass_proc.specs.Ends.{TrailView}
 use Rattle.pass_progress.specs.Progress.{BirthLaw, ExitLaw, IsAtRest, IsBetween}
@@ -20,6 +19,7 @@ use Rattle.pass_turns.specs.Lefts.{left_at}
 use Rattle.pass_turns.specs.Walkers.{HasWent, IsLivingOf, pnode_among}
 use Rattle.pass_turns.proofs.Locals as locals
 use Rattle.pass_turns.proofs.Walks.{may_go_on}
+use Rattle.pass_entry.proofs.Places.{slice_get-last}
 
 module _ {J : Type 0} (session : Session) (places : ℕ) (trace : List Line) (behind : AreLinesBehind [] trace) (l : Living J) (is : IsLivingOf session trace l) (line : l.line ≡ None) where
   count : length (lines_of trace l.process) ≡ is.done

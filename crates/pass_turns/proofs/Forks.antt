@@ -1,7 +1,7 @@
 -- A turn by the fork of a line.
 use Rattle.std.proofs.Common.{◌≡◌, ◌≢◌, ◌<◌, ◌≤◌, ◌+◌, ◌-◌, ℕ, zero, suc, List, [], ◌∷◌, ◌++◌, length, drop, take, refl, ap, sym, ◌∙◌, subst, arith, inl, inr, true, false, cond, ◌==◌}
 use Rattle.std.specs.Prelude.{Option, Some, None, slice_get}
-use Rattle.std.proofs.lemmas.Bool.{cases_lt}
+use Rattle.std.proofs.lemmas.Bool.{cases_lt, or_right}
 use Rattle.std.proofs.lemmas.List.{append-nil}
 use Rattle.std.proofs.lemmas.Option.{slice_get_within}
 use Rattle.pass_plain.specs.declared.request.Request.TheVariants as requests
@@ -11,19 +11,18 @@ use Rattle.pass_plain.specs.Legal.{is_over}
 use Rattle.pass_plain.specs.Sessions.{Session}
 use Rattle.pass_plain.specs.Traces.{Line, LineCall, fork_as, lines_of, calls_of}
 use Rattle.pass_plain.specs.Runs.{pnode_of_process}
-use Rattle.pass_plain.proofs.Lists.{some_is, any_of, same_itself, filtered, slice_get-front}
+use Rattle.pass_plain.proofs.Lists.{some_is, any_of, same_itself, filtered, slice_get-front, alike, different}
 use Rattle.pass_calls.specs.declared.answer.CallEnd.{CallEnd}
 use Rattle.pass_calls.specs.declared.answer.CallEnd.TheVariants as ends
 use Rattle.pass_proc.specs.Procs.{ProcView}
 use Rattle.pass_plain.specs.Processes.{has_ended}
+use Rattle.pass_plain.proofs.OtherCalls.{last_none}
 use Rattle.pass_progress.specs.Progress.{IsAtRest, IsNewborn, IsNotDone, IsNotReady, IsShortOfPlaces, MayGoOn}
 use Rattle.pass_replay.specs.Lines.{is_there, is_fork_of, AreLinesBehind, IsNextLine}
 use Rattle.pass_replay.specs.Members.{KnowsChildren, request_by}
 use Rattle.pass_replay.proofs.Begun.{child_has_begun, no_later_fork}
-use Rattle.pass_replay.proofs.Births.{or_right}
-use Rattle.pass_replay.proofs.Entries.{last_none}
 use Rattle.pass_replay.proofs.NextCalls.{behind_at, calls_length, line_behind}
-use Rattle.pass_replay.proofs.Positions.{equal, unequal, lines-append}
+use Rattle.pass_replay.proofs.Positions.{lines-append}
 use Rattle.pass_sched.specs.declared.task.Turn.TheVariants as turn
 use Rattle.pass_turns.specs.declared.children.Children.{Children}
 use Rattle.pass_turns.specs.declared.ends.Cause.TheVariants as causes
@@ -39,8 +38,9 @@ use Rattle.pass_turns.specs.Walkers.{HasWent, IsLivingOf, pnode_among}
 use Rattle.pass_turns.proofs.CallTurns.{another, call_stands, in_lines, its_request, lacks, left_after, left_with, line_after, waits_there}
 use Rattle.pass_turns.proofs.LeftBounds.{behind_from}
 use Rattle.pass_turns.proofs.LeftLemmas.{drop_at, left_from}
-use Rattle.pass_turns.proofs.Placed.{first_line, parts_at}
+use Rattle.pass_turns.proofs.Placed.{first_line}
 use Rattle.pass_turns.proofs.Walks.{counted, known_before, left_went, makes_now, may_go_on, right_now, stayed, went_on}
+use Rattle.pass_entry.proofs.Places.{parted}
 
 -- two lines of a process that stand apart don't fork the same child
 earlier_line : (trace : List Line) (behind : AreLinesBehind [] trace) (process j k child : ℕ) (m n : Line) → j < k → slice_get (lines_of trace process) j ≡ Some m → slice_get (lines_of trace process) k ≡ Some n
@@ -97,7 +97,7 @@ module _ {J : Type 0} (session : Session) (trace : List Line) (behind : AreLines
   -- the child's lines stand behind the fork
   no_line_yet : (k : ℕ) (n : Line) → k ≤ place → slice_get trace k ≡ Some n → n.process ≢ child
   no_line_yet k n early at same =
-      let parts = parts_at trace k n at in
+      let parts = parted trace k n at in
       let rules = behind_at [] (take k trace) (drop (suc k) trace) n (subst (λ t. AreLinesBehind [] t) parts behind) in
       let known : is_there (take k trace) child ≡ true = ap (λ p. is_there (take k trace) p) (sym same) ∙ rules.there in
       let later : slice_get (n ∷ drop (suc k) trace) (place - k) ≡ Some m =
@@ -127,14 +127,14 @@ module _ {J : Type 0} (session : Session) (trace : List Line) (behind : AreLines
     knows k q n early at n_forks = elim (cases_lt k is.done) [
       | inl less ↦
           let apart : child ≢ q = λ same. earlier_line trace behind l.process k is.done q n m less at (in_lines session trace behind l is place line m there) n_forks (forks ∙ ap (λ c. fork_as c) same) in
-          noted q ∙ ap (λ b. cond b born.who (pnode_among l.children q)) (unequal child q apart)
+          noted q ∙ ap (λ b. cond b born.who (pnode_among l.children q)) (different child q apart)
           ∙ known_before session trace behind l is (fork_as child) fork_stands new f.done.on.who f.done.on.goes k q n less at n_forks
       | inr le ↦
           let same : k ≡ is.done = omega (arith, le, early) in
           let one : m ≡ n = some_is m n (sym (in_lines session trace behind l is place line m there) ∙ ap (λ k. slice_get (lines_of trace l.process) k) (sym same) ∙ at) in
           let child_is : fork_as child ≡ fork_as q = sym forks ∙ ap (λ (l : Line). l.call) one ∙ n_forks in
           let child_same : child ≡ q = cc (child_is) in
-          noted q ∙ ap (λ b. cond b born.who (pnode_among l.children q)) (equal child q child_same)
+          noted q ∙ ap (λ b. cond b born.who (pnode_among l.children q)) (alike child q child_same)
           ∙ f.named ∙ ap (λ n. pnode_at (call_entries new.seen l.proc.who n) 0) (is.local.next ∙ ap (λ n. n + 1) (sym same))
     ]
 

@@ -5,7 +5,8 @@ use Rattle.std.proofs.lemmas.Bool.{cases_lt}
 use Rattle.pass_plain.proofs.Lists.{some_is}
 use Rattle.pass_turns.specs.Meetings.{IsLater}
 use Rattle.pass_turns.specs.Turners.{TurnerState}
-use Rattle.pass_turns.proofs.Linked.{set_here, set_other}
+use Rattle.pass_turns.proofs.Linked.{set_other}
+use Rattle.pass_entry.proofs.Places.{set_here}
 
 -- those before a place that have ended have seen no more
 abbrev pub HaveSeenNoMore : List TurnerState → ℕ → TurnerState → Type 0

@@ -4,7 +4,6 @@ use Rattle.std.specs.Prelude.{slice_get, Contains}
 use Rattle.std.proofs.lemmas.List.Elements.{All-contains}
 use mathlib.Core.List.{IsPrefix}
 use Rattle.pass_entry.specs.declared.entry.Act.TheVariants as act
-use Rattle.pass_entry.specs.declared.entry.CallName.{CallName}
 use Rattle.pass_entry.specs.declared.entry.CallName.TheVariants as call_name
 use Rattle.pass_entry.specs.declared.entry.Entry.{Entry}
 use Rattle.pass_entry.specs.declared.entry.Reply.TheVariants as answer
@@ -15,12 +14,13 @@ use Rattle.pass_plain.specs.Calls.{Step, call_steps, name_of}
 use Rattle.pass_plain.specs.Replies.{reply_to}
 use Rattle.pass_plain.proofs.Calling.{step_next}
 use Rattle.pass_plain.proofs.Lists.{some_is, same_numbers, true_left, true_right}
-use Rattle.pass_replay.proofs.Started.{may_start}
 use Rattle.pass_turns.proofs.Walks.{some_seen}
 use Rattle.pass_plain.specs.Lawful.{AgreeBy}
 use Rattle.pass_plain.specs.Legal.{IsLegal, MayFollow, before_call, is_next_number, is_start, may_act}
 use Rattle.pass_plain.specs.Sessions.{Session}
 use Rattle.pass_plain.proofs.Appends.{slice_get-append}
+use Rattle.pass_plain.proofs.Counts.{first_follows}
+use Rattle.pass_plain.proofs.OtherCalls.{start_named}
 use Rattle.pass_trace.specs.TraceLines.{plain_trace}
 use Rattle.pass_trace.specs.Rules.{count_created}
 use Rattle.pass_trace.specs.declared.trace.TraceLine.{TraceLine}
@@ -43,10 +43,6 @@ start_of : (r : Request) → name_of r ≡ call_name.Start → r ≡ requests.St
 start_of requests.Start e = refl
 start_of _ e = absurd (cc)
 
-is_the_start : (c : CallName) → is_start c ≡ true → c ≡ call_name.Start
-is_the_start call_name.Start h = refl
-is_the_start _ h = absurd (cc)
-
 -- it is of a call of the outside
 may_begin : (e : Entry) → may_act [] e ≡ true → (e.call ≡ call_name.Start) × (e.who ≡ 0) × (e.number ≡ 0)
 may_begin e may = at (is_start e.call) refl may
@@ -54,12 +50,12 @@ may_begin e may = at (is_start e.call) refl may
     at : (b : Bool) → is_start e.call ≡ b → may_act [] e ≡ true → (e.call ≡ call_name.Start) × (e.who ≡ 0) × (e.number ≡ 0)
     at true t may =
         let both : (true && e.who == 0) && e.number == 0 ≡ true = ap (λ b. cond b ((true && e.who == 0) && e.number == 0) (false && is_next_number [] e)) (sym t) ∙ may in
-        (is_the_start e.call t, same_numbers e.who 0 (true_right true (e.who == 0) (true_left (true && e.who == 0) (e.number == 0) both)), same_numbers e.number 0 (true_right (true && e.who == 0) (e.number == 0) both))
+        (start_named e.call t, same_numbers e.who 0 (true_right true (e.who == 0) (true_left (true && e.who == 0) (e.number == 0) both)), same_numbers e.number 0 (true_right (true && e.who == 0) (e.number == 0) both))
     at false t may = absurd (let z : false ≡ true = ap (λ b. cond b ((true && e.who == 0) && e.number == 0) (false && is_next_number [] e)) (sym t) ∙ may in cc)
 
 first_step : (session : Session) (e : Entry) → MayFollow session [] e → e.call ≡ call_name.Start → ◌≡◌ {A = Step} (0, act.Mint kind.Process) (e.what, e.act)
 first_step session e next is =
-    some_is {X = Step} (0, act.Mint kind.Process) (e.what, e.act)
+    some_is {A = Step} (0, act.Mint kind.Process) (e.what, e.act)
     (subst (λ r. slice_get (call_steps e.who (before_call [] e.who e.number) [] r) 0 ≡ Some (e.what, e.act)) (start_of next.step.request (next.step.named ∙ is))
     (step_next e.who (before_call [] e.who e.number) [] (call_steps e.who (before_call [] e.who e.number) [] next.step.request) (e.what, e.act) next.step.steps))
 
@@ -68,7 +64,7 @@ first_is session e some next =
     let (call, who, number) = may_begin e next.acts in
     let step = first_step session e next call in
     let reply : answer.Made (session.start.ceiling + 1) ≡ e.reply =
-    some_is _ _ (sym (may_start session some).replied ∙ ap (λ (s : Step). reply_to session [] s.0 s.1) step ∙ next.replied) in
+    some_is _ _ (sym (first_follows session some).replied ∙ ap (λ (s : Step). reply_to session [] s.0 s.1) step ∙ next.replied) in
     λ i. record { who = sym who i; number = sym number i; call = sym call i; what = (step i).0; act = (step i).1; reply = reply i }
 
 pub begins_with_first : (session : Session) → 1 ≤ session.objects → (history : List Entry) → IsLegal session history → 0 < length history → IsPrefix (first_entry session ∷ []) history

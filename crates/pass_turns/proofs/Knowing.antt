@@ -7,9 +7,7 @@ use Rattle.pass_sched.specs.declared.task.Turn.{Turn}
 use Rattle.pass_sched.specs.Turns.{Rises}
 use Rattle.pass_trace.specs.declared.trace.TraceLine.{TraceLine}
 use Rattle.pass_replay.specs.Members.{Waits}
-use Rattle.pass_replay.proofs.Parts.{contains_at}
-use Rattle.pass_replay.proofs.Positions.{unequal}
-use Rattle.pass_plain.proofs.Lists.{is_place, some_is}
+use Rattle.pass_plain.proofs.Lists.{is_place, some_is, different}
 use Rattle.pass_turns.specs.declared.walker.Living.{Living}
 use Rattle.pass_turns.specs.declared.walker.Walker.{Walker}
 use Rattle.pass_turns.specs.declared.walker.Walker.TheVariants as walker
@@ -18,6 +16,7 @@ use Rattle.pass_turns.specs.Tasks.{task_of}
 use Rattle.pass_turns.specs.Turners.{HasLiving, IsKnown, IsStill, TurnerState}
 use Rattle.pass_turns.specs.Walkers.{IsWalkerOf, member_of, left_member}
 use Rattle.pass_turns.proofs.LeftLemmas.{left_at_some}
+use Rattle.pass_entry.proofs.Places.{Contains-at}
 
 pub known : {J : Type 0} (session : Session) (places : ℕ) (lines : List TraceLine) (w : Walker J) (turns : ℕ) (last : Option Turn) (waits : Bool) → IsWalkerOf session places (plain_trace lines) w → IsKnown session places (task_of lines w turns last waits)
 known session places lines (walker.Living l) turns last waits is = record {
@@ -53,11 +52,11 @@ still_walker count session lines w turns last waits l is fact so size = record {
 }
 
 pub rises_some : (a b : ℕ) → Rises a b → false ≡ (b == 0)
-rises_some a b (inl less) = sym (unequal b 0 (λ z. omega (arith, z, less)))
-rises_some a b (inr top) = sym (unequal b 0 (λ z. let y = top.1 in omega (arith, z, y)))
+rises_some a b (inl less) = sym (different b 0 (λ z. omega (arith, z, less)))
+rises_some a b (inr top) = sym (different b 0 (λ z. let y = top.1 in omega (arith, z, y)))
 
 -- the task at that place lives
 pub some_living : (tasks : List TurnerState) (place : ℕ) → place < length tasks → ((t : TurnerState) → slice_get tasks place ≡ Some t → (t.ended ≡ false) × (t.cause ≡ None)) → HasLiving tasks
 some_living tasks place within lives =
     let (t, at) = is_place tasks place within in
-    record { one = t; among = contains_at tasks place t at; lives = (lives t at).0 }
+    record { one = t; among = Contains-at tasks place t at; lives = (lives t at).0 }

@@ -3,13 +3,12 @@ use Rattle.std.proofs.Common.{◌≡◌, ◌≢◌, ◌≤◌, ◌+◌, ℕ, suc
 use Rattle.std.specs.Prelude.{Some, slice_get}
 use Rattle.std.proofs.lemmas.List.{append-nil}
 use Rattle.pass_plain.specs.Traces.{Line, LineCall, given, write_last, fork_as, wait_for}
-use Rattle.pass_plain.proofs.Lists.{same_numbers}
+use Rattle.pass_plain.proofs.Lists.{same_numbers, different}
 use Rattle.pass_replay.specs.Lines.{AreLinesBehind, is_there}
 use Rattle.pass_replay.proofs.Begun.{there_now, there_stays}
-use Rattle.pass_replay.proofs.Positions.{unequal}
 use Rattle.pass_turns.specs.Lefts.{of_child, left_in}
-use Rattle.pass_turns.proofs.Placed.{parts_at}
 use Rattle.pass_turns.proofs.LeftLemmas.{drop_at}
+use Rattle.pass_entry.proofs.Places.{parted}
 
 -- what is left to some processes together
 abbrev total : List Line → List ℕ → ℕ
@@ -39,7 +38,7 @@ new_to_all before q (p ∷ ps) none (there, all) = ((λ same. let z : true ≡ f
 total_other : (l : Line) (ls : List Line) (ps : List ℕ) → NotIn l.process ps → total (l ∷ ls) ps ≡ total ls ps
 total_other l ls [] other = refl
 total_other l ls (p ∷ ps) (apart, others) =
-    let one : left_in (l ∷ ls) p ≡ left_in ls p = ap (λ b. cond b (1 + of_child (λ p. left_in ls p) l.call + left_in ls p) (left_in ls p)) (unequal l.process p (λ same. apart (sym same))) in
+    let one : left_in (l ∷ ls) p ≡ left_in ls p = ap (λ b. cond b (1 + of_child (λ p. left_in ls p) l.call + left_in ls p) (left_in ls p)) (different l.process p (λ same. apart (sym same))) in
     let rest = total_other l ls ps others in
     omega (arith, one, rest)
 
@@ -87,7 +86,7 @@ behind_from before (x ∷ xs) ys h = subst (λ b. AreLinesBehind b ys) (append_a
 -- what is left to a process from one of its lines on
 pub left_bound : (trace : List Line) (place : ℕ) (l : Line) → AreLinesBehind [] trace → slice_get trace place ≡ Some l → left_in (drop place trace) l.process ≤ 1 + (length trace + length trace)
 left_bound trace place l behind at =
-    let parts = parts_at trace place l at in
+    let parts = parted trace place l at in
     let later = behind_from [] (take place trace) (l ∷ drop (suc place) trace) (subst (λ t. AreLinesBehind [] t) parts behind) in
     let all = bound (l ∷ drop (suc place) trace) (take place trace) (l.process ∷ []) later (tt, tt) (later.0.there, tt) in
     let size = ap length parts ∙ length-append (take place trace) (l ∷ drop (suc place) trace) in

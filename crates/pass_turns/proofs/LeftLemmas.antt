@@ -1,10 +1,10 @@
 -- How many turns are left from one line of a process to its next one.
 use Rattle.std.proofs.Common.{◌≡◌, ◌≢◌, ◌<◌, ◌≤◌, ◌+◌, ◌-◌, ℕ, zero, suc, List, [], ◌∷◌, length, drop, refl, ap, sym, ◌∙◌, arith, Bool, true, false, ◌==◌, cond}
 use Rattle.std.specs.Prelude.{Option, Some, None, slice_get}
+use Rattle.std.proofs.lemmas.List.{drop_all}
 use Rattle.pass_plain.specs.Traces.{Line}
-use Rattle.pass_plain.proofs.Lists.{some_is}
+use Rattle.pass_plain.proofs.Lists.{some_is, alike, different}
 use Rattle.pass_replay.specs.Lines.{IsNextLine}
-use Rattle.pass_replay.proofs.Positions.{equal, unequal}
 use Rattle.pass_turns.specs.Lefts.{of_child, left_in, left_at}
 
 pub drop_at : {X : Type 0} (xs : List X) (i : ℕ) (x : X) → slice_get xs i ≡ Some x → drop i xs ≡ x ∷ drop (suc i) xs
@@ -18,12 +18,6 @@ drop_past [] (suc i) at = refl
 drop_past (y ∷ xs) zero at = absurd (cc)
 drop_past (y ∷ xs) (suc i) at = drop_past xs i at
 
-pub past_nil : {X : Type 0} (xs : List X) (i : ℕ) → length xs ≤ i → drop i xs ≡ []
-past_nil [] zero le = refl
-past_nil [] (suc i) le = refl
-past_nil (x ∷ xs) zero le = absurd (omega arith)
-past_nil (x ∷ xs) (suc i) le = past_nil xs i (omega arith)
-
 skip_at : (trace : List Line) (process i : ℕ) (o : Option Line) → slice_get trace i ≡ o → ((l : Line) → slice_get trace i ≡ Some l → l.process ≢ process)
     → left_in (drop i trace) process ≡ left_in (drop (suc i) trace) process
 skip_at trace process i None at other =
@@ -36,7 +30,7 @@ skip_at trace process i None at other =
     after (y ∷ xs) (suc i) at = after xs i at
 skip_at trace process i (Some l) at other =
     ap (λ ls. left_in ls process) (drop_at trace i l at)
-    ∙ ap (λ b. cond b (1 + of_child (λ p. left_in (drop (suc i) trace) p) l.call + left_in (drop (suc i) trace) process) (left_in (drop (suc i) trace) process)) (unequal l.process process (other l at))
+    ∙ ap (λ b. cond b (1 + of_child (λ p. left_in (drop (suc i) trace) p) l.call + left_in (drop (suc i) trace) process) (left_in (drop (suc i) trace) process)) (different l.process process (other l at))
 
 skips : (trace : List Line) (process from d : ℕ) → ((k : ℕ) (l : Line) → from ≤ k → k < from + d → slice_get trace k ≡ Some l → l.process ≢ process)
     → left_in (drop from trace) process ≡ left_in (drop (from + d) trace) process
@@ -50,7 +44,7 @@ skips trace process from (suc d) none =
 pub left_from : (trace : List Line) (process from : ℕ) (o : Option ℕ) → IsNextLine trace process from o → left_in (drop from trace) process ≡ left_at trace process o
 left_from trace process from None next =
     skips trace process from (length trace) (λ k l low high at. next k l low at)
-    ∙ ap (λ ls. left_in ls process) (past_nil trace (from + length trace) (omega arith))
+    ∙ ap (λ ls. left_in ls process) (drop_all (from + length trace) trace (omega arith))
 left_from trace process from (Some place) (le, there, none) =
     skips trace process from (place - from) (λ k l low high at. none k l low (omega (arith, le, high)) at)
     ∙ ap (λ n. left_in (drop n trace) process) (let z : from + (place - from) ≡ place = omega (arith, le) in z)
@@ -60,7 +54,7 @@ pub left_line : (trace : List Line) (process place : ℕ) (l : Line) (o : Option
     → left_at trace process (Some place) ≡ 1 + of_child (λ p. left_in (drop (place + 1) trace) p) l.call + left_at trace process o
 left_line trace process place l o at own next =
     ap (λ ls. left_in ls process) (drop_at trace place l at)
-    ∙ ap (λ b. cond b (1 + of_child (λ p. left_in (drop (suc place) trace) p) l.call + left_in (drop (suc place) trace) process) (left_in (drop (suc place) trace) process)) (equal l.process process own)
+    ∙ ap (λ b. cond b (1 + of_child (λ p. left_in (drop (suc place) trace) p) l.call + left_in (drop (suc place) trace) process) (left_in (drop (suc place) trace) process)) (alike l.process process own)
     ∙ ap (λ n. 1 + of_child (λ p. left_in (drop n trace) p) l.call + left_in (drop n trace) process) (let z : suc place ≡ place + 1 = omega arith in z)
     ∙ ap (λ n. 1 + of_child (λ p. left_in (drop (place + 1) trace) p) l.call + n) (left_from trace process (place + 1) o next)
 

@@ -6,20 +6,20 @@ use Rattle.std.specs.Ordering.{nat_cmp}
 use Rattle.std.specs.BTreeMap.{BTreeMap, Updates, IsEmpty}
 use Rattle.std.proofs.lemmas.Bool.{cases_lt}
 use Rattle.std.proofs.lemmas.Option.{slice_get_within}
+use Rattle.std.proofs.lemmas.List.{drop_all}
 use Rattle.pass_plain.specs.Traces.{Line}
-use Rattle.pass_plain.proofs.Lists.{some_is}
+use Rattle.pass_plain.proofs.Lists.{some_is, alike, different}
 use Rattle.pass_replay.specs.Lines.{AreLinesBehind}
-use Rattle.pass_replay.proofs.Positions.{equal, unequal}
 use Rattle.pass_turns.specs.Behind.{left_behind}
 use Rattle.pass_turns.specs.Lefts.{of_child, left_in}
 use Rattle.pass_turns.proofs.LeftBounds.{left_bound, left_cons}
-use Rattle.pass_turns.proofs.LeftLemmas.{past_nil}
-use Rattle.pass_turns.proofs.Linked.{get_inserted, get_none, set_here, set_other}
+use Rattle.pass_turns.proofs.Linked.{get_inserted, get_none, set_other}
+use Rattle.pass_entry.proofs.Places.{set_here}
 
 -- behind the last line
 pub none_behind : (trace : List Line) (behind : BTreeMap ℕ ℕ) (n process : ℕ) → IsEmpty behind → length trace ≤ n → left_behind behind process ≡ left_in (drop n trace) process
 none_behind trace behind n process empty past =
-    ap (λ o. option_map_or (λ left. left) o 1) (get_none behind process empty) ∙ ap (λ ls. left_in ls process) (sym (past_nil trace n past))
+    ap (λ o. option_map_or (λ left. left) o 1) (get_none behind process empty) ∙ ap (λ ls. left_in ls process) (sym (drop_all n trace past))
 
 module _ (trace : List Line) (i : ℕ) (m : Line) (at : slice_get trace i ≡ Some m) (old : BTreeMap ℕ ℕ) (behind : (process : ℕ) → left_behind old process ≡ left_in (drop (i + 1) trace) process) where
   of_table : 1 + of_child (left_behind old) m.call + left_behind old m.process ≡ 1 + of_child (λ p. left_in (drop (suc i) trace) p) m.call + left_in (drop (suc i) trace) m.process
@@ -32,7 +32,7 @@ module _ (trace : List Line) (i : ℕ) (m : Line) (at : slice_get trace i ≡ So
   left_is =
       of_table
       ∙ sym (left_cons trace i m at m.process
-      ∙ ap (λ b. cond b (1 + of_child (λ p. left_in (drop (suc i) trace) p) m.call + left_in (drop (suc i) trace) m.process) (left_in (drop (suc i) trace) m.process)) (equal m.process m.process refl))
+      ∙ ap (λ b. cond b (1 + of_child (λ p. left_in (drop (suc i) trace) p) m.call + left_in (drop (suc i) trace) m.process) (left_in (drop (suc i) trace) m.process)) (alike m.process m.process refl))
 
   pub left_fits : AreLinesBehind [] trace → 1 + of_child (left_behind old) m.call + left_behind old m.process ≤ 1 + (length trace + length trace)
   left_fits ordered = (let a = left_bound trace i m ordered at in let b = left_is in omega (arith, a, b))
@@ -44,7 +44,7 @@ module _ (trace : List Line) (i : ℕ) (m : Line) (at : slice_get trace i ≡ So
       | inr other ↦
           ap (λ o. option_map_or (λ left. left) o 1) other.1 ∙ behind process ∙ ap (λ n. left_in (drop n trace) process) (let z : i + 1 ≡ suc i = omega arith in z)
           ∙ sym (left_cons trace i m at process
-          ∙ ap (λ b. cond b (1 + of_child (λ p. left_in (drop (suc i) trace) p) m.call + left_in (drop (suc i) trace) process) (left_in (drop (suc i) trace) process)) (unequal m.process process other.0))
+          ∙ ap (λ b. cond b (1 + of_child (λ p. left_in (drop (suc i) trace) p) m.call + left_in (drop (suc i) trace) process) (left_in (drop (suc i) trace) process)) (different m.process process other.0))
     ]
 
     pub lefts_after : (lefts : List ℕ) → length lefts ≡ length trace → ((k : ℕ) (l : Line) → i + 1 ≤ k → slice_get trace k ≡ Some l → slice_get lefts k ≡ Some (left_in (drop k trace) l.process))

@@ -1,4 +1,4 @@
-mod Linked
+pub mod Linked
 mod Placed
 mod LeftLemmas
 mod Among

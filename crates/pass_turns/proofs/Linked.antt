@@ -1,27 +1,22 @@
 -- How the places of a trace's lines are linked, from the last line on.
-use Rattle.std.proofs.Common.{◌≡◌, ◌≢◌, ◌<◌, ◌≤◌, ◌+◌, ℕ, zero, suc, List, [], ◌∷◌, length, refl, ap, sym, ◌∙◌, subst, arith, ◌⊎◌, inl, inr, Bool, true, false, cond}
+use Rattle.std.proofs.Common.{◌≡◌, ◌≢◌, ◌≤◌, ◌+◌, ℕ, zero, suc, List, [], ◌∷◌, length, refl, ap, sym, ◌∙◌, subst, arith, ◌⊎◌, inl, inr, Bool, true, false, cond}
 use Rattle.std.specs.Prelude.{Option, Some, None, option_map, slice_get, slice_set}
 use Rattle.std.specs.Cmp.{nat_cmp_is}
 use Rattle.std.proofs.lemmas.List.{length-map}
 use Rattle.std.specs.Ordering.{nat_cmp, is_eq}
-use Rattle.std.specs.declared.cmp.Ordering.{Ordering}
-use Rattle.std.specs.declared.cmp.Ordering.TheVariants.{Less, Equal, Greater}
+use Rattle.std.specs.declared.cmp.Ordering.TheVariants.{Equal}
 use Rattle.std.specs.FinMap.{nat_cmp-IsAntisymmetric}
 use Rattle.std.specs.BTreeMap.{BTreeMap, get, Updates, IsEmpty}
 use Rattle.std.specs.Map.{lookup}
 use Rattle.std.proofs.lemmas.Bool.{cases_lt}
 use Rattle.std.proofs.lemmas.Option.{slice_get_within, slice_get-map}
 use Rattle.pass_plain.specs.Traces.{Line}
-use Rattle.pass_plain.proofs.Lists.{some_is}
+use Rattle.pass_plain.proofs.Lists.{some_is, is_equal}
 use Rattle.pass_trace.specs.TraceLines.{plain_line, plain_trace}
 use Rattle.pass_trace.specs.declared.trace.TraceLine.{TraceLine}
 use Rattle.pass_replay.specs.Lines.{IsNextLine}
 use Rattle.pass_turns.specs.Tables.{NextPlace}
-
-pub set_here : {X : Type 0} (xs : List X) (i : ℕ) (x : X) → i < length xs → slice_get (slice_set xs i x) i ≡ Some x
-set_here [] i x within = absurd (omega arith)
-set_here (y ∷ xs) zero x within = refl
-set_here (y ∷ xs) (suc i) x within = set_here xs i x (omega arith)
+use Rattle.pass_entry.proofs.Places.{set_here}
 
 pub set_other : {X : Type 0} (xs : List X) (i k : ℕ) (x : X) → k ≢ i → slice_get (slice_set xs i x) k ≡ slice_get xs k
 set_other [] i k x apart = refl
@@ -29,11 +24,6 @@ set_other (y ∷ xs) zero zero x apart = absurd (apart refl)
 set_other (y ∷ xs) zero (suc k) x apart = refl
 set_other (y ∷ xs) (suc i) zero x apart = refl
 set_other (y ∷ xs) (suc i) (suc k) x apart = set_other xs i k x (λ same. apart (ap suc same))
-
-is_equal : (o : Ordering) → is_eq o ≡ true → o ≡ Equal
-is_equal Less e = absurd (cc)
-is_equal Equal e = refl
-is_equal Greater e = absurd (cc)
 
 -- a map with a value at a key
 pub get_inserted : {X : Type 0} (m n : BTreeMap ℕ X) (k q : ℕ) (w : Option X) → Updates nat_cmp m n k w

@@ -5,8 +5,10 @@ use Rattle.std.specs.List.{list_any}
 use Rattle.std.proofs.lemmas.Bool.{cases_lt}
 use Rattle.std.proofs.lemmas.List.{take-append-le}
 use Rattle.std.proofs.lemmas.List.Elements.{All-cons, All-contains, All-head, All-nil, All-tail}
+use Rattle.std.proofs.lemmas.List.Sums.{sum_by-cons}
 use mathlib.Core.List.{IsPrefix}
 use Rattle.pass_entry.specs.declared.entry.Entry.{Entry}
+use Rattle.pass_entry.proofs.Places.{within_front}
 use Rattle.pass_plain.specs.Lawful.{AgreeBy}
 use Rattle.pass_plain.specs.Legal.{IsLegal, ends_call, is_over}
 use Rattle.pass_plain.specs.Processes.{has_begun}
@@ -19,8 +21,6 @@ use Rattle.pass_proc.specs.Procs.{ProcView}
 use Rattle.pass_progress.specs.Progress.{IsBetween, LookedLaw, UnderWayLaw}
 use Rattle.pass_replay.specs.Lines.{AreLinesBehind}
 use Rattle.pass_replay.specs.Members.{IsLineStep, MakesSteps}
-use Rattle.pass_replay.proofs.Parts.{own_within}
-use Rattle.pass_sched.proofs.Plays.{sum_of_cons}
 use Rattle.pass_store.specs.Meetings.{HasMet}
 use Rattle.pass_trace.specs.TraceLines.{plain_trace}
 use Rattle.pass_trace.specs.declared.trace.TraceLine.{TraceLine}
@@ -63,7 +63,7 @@ module _ (session : Session) (who : ℕ) (old new : List Entry) (legal : IsLegal
 
   -- each entry by it stands where it had seen it
   own_early : (n : ℕ) (e : Entry) → slice_get new n ≡ Some e → e.who ≡ who → (n < length old) × (slice_get old n ≡ Some e)
-  own_early n e at by = own_within (λ (e : Entry). e.who == who) old begins.0 new n e begins.1 none at (ap (λ w. w == who) by ∙ same_itself who)
+  own_early n e at by = within_front (λ (e : Entry). e.who == who) old begins.0 new n e begins.1 none at (ap (λ w. w == who) by ∙ same_itself who)
 
   own_none : (n : ℕ) (e : Entry) → slice_get new n ≡ Some e → length old ≤ n → e.who ≡ who → ⊥
   own_none n e at later by = let z = (own_early n e at by).0 in omega (arith, z, later)
@@ -155,7 +155,7 @@ later_room [] [] are = refl
 later_room [] (u ∷ us) are = absurd are
 later_room (t ∷ ts) [] are = absurd are
 later_room (t ∷ ts) (u ∷ us) (one, are) =
-    (let a = sum_of_cons task_room t ts in let b = sum_of_cons task_room u us in let c = later_room ts us are in let d = ap (λ n. max 1 n) one.left in omega (arith, a, b, c, d))
+    (let a = sum_by-cons task_room t ts in let b = sum_by-cons task_room u us in let c = later_room ts us are in let d = ap (λ n. max 1 n) one.left in omega (arith, a, b, c, d))
 
 module _ (tasks others : List TurnerState) (are : AreLater tasks others) where
   has_on : (q w : ℕ) → HasTask tasks q w → HasTask others q w

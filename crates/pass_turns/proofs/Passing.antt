@@ -6,7 +6,7 @@ use Rattle.std.proofs.lemmas.Bool.{cases_lt}
 use Rattle.std.proofs.lemmas.List.{append-nil}
 use Rattle.std.proofs.lemmas.List.Elements.{All-nil, All-append, All-contains, All-head, All-tail}
 use Rattle.std.proofs.lemmas.List.Sorted.{Contains-permutation, IsPermutation-append_left, IsPermutation-filter_both, IsPermutation-sym, sum_by-IsPermutation}
-use Rattle.std.proofs.lemmas.List.Sums.{sum_by-append}
+use Rattle.std.proofs.lemmas.List.Sums.{sum_by-append, sum_by-cons}
 use Rattle.std.proofs.lemmas.Option.{slice_get_within}
 use Rattle.pass_entry.specs.declared.entry.Entry.{Entry}
 use Rattle.pass_entry.specs.declared.entry.Act.TheVariants as act
@@ -20,7 +20,6 @@ use Rattle.pass_sched.specs.declared.pass.PassEnd.{PassEnd}
 use Rattle.pass_sched.specs.declared.pass.PassEnd.TheVariants as pass_end
 use Rattle.pass_trace.specs.declared.trace.TraceLine.{TraceLine}
 use Rattle.pass_plain.specs.Processes.{Held}
-use Rattle.pass_sched.proofs.Plays.{sum_of_cons}
 use Rattle.pass_sched.proofs.Underway.{fits}
 use Rattle.pass_turns.specs.Tasks.{task_room}
 use Rattle.pass_turns.specs.Turners.{TurnerState, IsNewTask, HasTask, IsBirthAmong, Turned, AreTasks}
@@ -286,13 +285,13 @@ parted f p xs = sym (sum_by-append f (filter p xs) (filter (λ x. not (p x)) xs)
 module _ (t : Ghosts TurnerState) (same_left : (x : TurnerState) → t.left x ≡ x.left) where
   room_is : (xs : List TurnerState) → sum_by (room_of t) xs ≡ sum_by task_room xs
   room_is [] = refl
-  room_is (x ∷ xs) = omega (arith, sum_of_cons (room_of t) x xs, sum_of_cons task_room x xs, room_is xs, ap (λ n. max 1 n) (same_left x))
+  room_is (x ∷ xs) = omega (arith, sum_by-cons (room_of t) x xs, sum_by-cons task_room x xs, room_is xs, ap (λ n. max 1 n) (same_left x))
 
   live_rooms : (kids : List TurnerState) → All (λ kid. 0 < t.left kid) kids → sum_by (room_of t) kids ≡ sum_by t.left kids
   live_rooms [] live = refl
   live_rooms (k ∷ ks) live =
       let head = All-head (λ kid. 0 < t.left kid) k ks live in
-      omega (arith, sum_of_cons (room_of t) k ks, sum_of_cons t.left k ks, head, live_rooms ks (All-tail (λ kid. 0 < t.left kid) k ks live))
+      omega (arith, sum_by-cons (room_of t) k ks, sum_by-cons t.left k ks, head, live_rooms ks (All-tail (λ kid. 0 < t.left kid) k ks live))
 
   -- a task and its children take no more room than it had
   run_room : (r : Run TurnerState) → IsRun t r → room_of t r.after + sum_by (room_of t) r.kids ≤ room_of t r.before
@@ -314,8 +313,8 @@ module _ (t : Ghosts TurnerState) (same_left : (x : TurnerState) → t.left x �
         let p = parted (room_of t) (takes_part t alone r) r.kids in
         let j = sum_by-append (room_of t) (joining t alone r) (flat_map (joining t alone) rs) in
         let s = sum_by-append (room_of t) (staying t alone r) (flat_map (staying t alone) rs) in
-        let x = sum_of_cons (room_of t) r.after (map (λ r. r.after) rs) in
-        let y = sum_of_cons (room_of t) r.before (map (λ r. r.before) rs) in
+        let x = sum_by-cons (room_of t) r.after (map (λ r. r.after) rs) in
+        let y = sum_by-cons (room_of t) r.before (map (λ r. r.before) rs) in
         omega (arith, a, b, p, j, s, x, y)
 
     pass_room : (given answer : List TurnerState) (runs : List (Run TurnerState)) → IsPass t alone given runs answer → sum_by (room_of t) answer ≤ sum_by (room_of t) given
@@ -349,4 +348,4 @@ module _ (t : Ghosts TurnerState) (same_left : (x : TurnerState) → t.left x �
 -- no list is longer than its room
 pub short : (xs : List TurnerState) → length xs ≤ sum_by task_room xs
 short [] = omega arith
-short (x ∷ xs) = omega (arith, sum_of_cons task_room x xs, short xs)
+short (x ∷ xs) = omega (arith, sum_by-cons task_room x xs, short xs)

@@ -1,12 +1,12 @@
 -- A run, from its first process on.
 use Rattle.std.proofs.Common.{◌≡◌, ◌≤◌, ◌+◌, ℕ, List, [], ◌∷◌, length, refl, ap, sym, ◌∙◌, subst, arith, sum_by}
 use Rattle.std.specs.Prelude.{Option, Some}
+use Rattle.std.proofs.lemmas.List.Sums.{sum_by-cons}
 use Rattle.pass_plain.specs.Sessions.{Session}
 use Rattle.pass_proc.specs.Procs.{ProcView}
 use Rattle.pass_progress.specs.Progress.{IsBetween, NewbornLaw}
 use Rattle.pass_replay.specs.Lines.{IsNextLine}
 use Rattle.pass_replay.proofs.Begun.{first_has_begun}
-use Rattle.pass_sched.proofs.Plays.{sum_of_cons}
 use Rattle.pass_trace.specs.TraceLines.{plain_trace}
 use Rattle.pass_trace.specs.declared.trace.TraceLine.{TraceLine}
 use Rattle.pass_turns.specs.declared.children.Children.{Children}
@@ -44,7 +44,7 @@ module _ (J : Type 0) (session : Session) (lines : List TraceLine) (newborn_law 
   pub trails_fit : (tasks : List TurnerState) (room : ℕ) → sum_by task_room tasks ≤ sum_by task_room (new_task lines first_living ∷ []) → left_in (plain_trace lines) 1 ≤ room → length tasks ≤ room
   trails_fit tasks room fewer fits =
       let a = short tasks in
-      let b = sum_of_cons task_room (new_task lines first_living) [] in
+      let b = sum_by-cons task_room (new_task lines first_living) [] in
       let d = all_left (plain_trace lines) 1 line its_first in
       let e = left_some (plain_trace lines) 1 in
       omega (arith, a, b, d, e, fewer, fits)

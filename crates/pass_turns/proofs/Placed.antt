@@ -1,28 +1,21 @@
 -- From the places of lines to the lines of a process.
 use Rattle.std.proofs.Common.{◌≡◌, ◌≢◌, ◌<◌, ◌≤◌, ◌+◌, ◌-◌, ℕ, zero, suc, List, [], ◌∷◌, ◌++◌, length, take, drop, map, refl, ap, sym, ◌∙◌, arith, inl, inr, cond, length-append}
 use Rattle.std.specs.Prelude.{Option, Some, None, slice_get}
-use Rattle.std.proofs.lemmas.List.{take_all, length-map}
+use Rattle.std.proofs.lemmas.List.{take_all, length-map, append-nil}
 use Rattle.std.proofs.lemmas.Bool.{cases_lt}
 use Rattle.pass_plain.specs.declared.request.Request.TheVariants as requests
 use Rattle.pass_plain.specs.Traces.{Line, LineCall, given, lines_of, calls_of}
-use Rattle.pass_plain.proofs.Lists.{some_is}
-use Rattle.pass_plain.proofs.Appends.{slice_get-last}
-use Rattle.pass_plain.proofs.Replays.{append-nil}
 use Rattle.pass_replay.specs.Lines.{IsNextLine, IsLineAt}
-use Rattle.pass_replay.proofs.Positions.{unequal, lines-own, lines-append, line_of_parts}
-use Rattle.pass_replay.proofs.Parts.{take_next}
+use Rattle.pass_replay.proofs.Positions.{lines-own, lines-append, line_of_parts}
 use Rattle.pass_replay.proofs.Births.{call_at_line}
+use Rattle.pass_entry.proofs.Places.{take_one_more, parted, slice_get-last}
+use Rattle.pass_entry.proofs.Lists.{different}
 
 take_past : {X : Type 0} (xs : List X) (i : ℕ) → slice_get xs i ≡ None → take (suc i) xs ≡ take i xs
 take_past [] zero at = refl
 take_past [] (suc i) at = refl
 take_past (y ∷ xs) zero at = absurd (cc)
 take_past (y ∷ xs) (suc i) at = ap (λ ys. y ∷ ys) (take_past xs i at)
-
-pub parts_at : {X : Type 0} (xs : List X) (i : ℕ) (x : X) → slice_get xs i ≡ Some x → xs ≡ take i xs ++ x ∷ drop (suc i) xs
-parts_at [] i x at = absurd (cc)
-parts_at (y ∷ xs) zero x at = ap (λ y. y ∷ xs) (some_is y x at)
-parts_at (y ∷ xs) (suc i) x at = ap (λ ys. y ∷ ys) (parts_at xs i x at)
 
 -- no line of the process stands at these places
 abbrev NoneBetween : List Line → ℕ → ℕ → ℕ → Type 0
@@ -32,9 +25,9 @@ count_at : (trace : List Line) (process i : ℕ) (o : Option Line) → slice_get
     → length (lines_of (take (suc i) trace) process) ≡ length (lines_of (take i trace) process)
 count_at trace process i None at other = ap (λ (ls : List Line). length (lines_of ls process)) (take_past trace i at)
 count_at trace process i (Some l) at other =
-    ap (λ (ls : List Line). length (lines_of ls process)) (take_next trace i l at)
+    ap (λ (ls : List Line). length (lines_of ls process)) (take_one_more trace i l at)
     ∙ ap length (lines-append (take i trace) (l ∷ []) process)
-    ∙ ap (λ b. length (lines_of (take i trace) process ++ cond b (l ∷ []) [])) (unequal l.process process (other l at))
+    ∙ ap (λ b. length (lines_of (take i trace) process ++ cond b (l ∷ []) [])) (different l.process process (other l at))
     ∙ ap length (append-nil (lines_of (take i trace) process))
 
 count_none : (trace : List Line) (process from d : ℕ) → NoneBetween trace process from (from + d)
@@ -71,14 +64,14 @@ pub next_line : (trace : List Line) (process place done : ℕ) (l : Line) (o : O
 next_line trace process place done l o at own count next =
     from_place trace process (place + 1) (done + 1) o
     (ap (λ n. length (lines_of (take n trace) process)) (let z : place + 1 ≡ suc place = omega arith in z)
-    ∙ ap (λ (ls : List Line). length (lines_of ls process)) (take_next trace place l at)
+    ∙ ap (λ (ls : List Line). length (lines_of ls process)) (take_one_more trace place l at)
     ∙ ap length (lines-own (take place trace) l process own) ∙ length-append (lines_of (take place trace) process) (l ∷ []) ∙ ap (λ n. n + 1) count) next
 
 -- the line at that place is the process's
 pub line_there : (trace : List Line) (process place done : ℕ) (l : Line) → slice_get trace place ≡ Some l → l.process ≡ process → length (lines_of (take place trace) process) ≡ done
     → slice_get (lines_of trace process) done ≡ Some l
 line_there trace process place done l at own count =
-    ap (λ (t : List Line). slice_get (lines_of t process) done) (parts_at trace place l at)
+    ap (λ (t : List Line). slice_get (lines_of t process) done) (parted trace place l at)
     ∙ ap (λ n. slice_get (lines_of (take place trace ++ l ∷ drop (suc place) trace) process) n) (sym count)
     ∙ line_of_parts (take place trace) (drop (suc place) trace) l process own
 

@@ -4,7 +4,7 @@ use Rattle.std.specs.Prelude.{Option, Some, None, slice_get, ◌&&◌, take}
 use Rattle.std.specs.Option.{option_map_or}
 use Rattle.std.specs.List.{All, list_any}
 use Rattle.std.proofs.lemmas.Bool.Decides.{nat_tests}
-use Rattle.std.proofs.lemmas.Option.{get_or_from_slice_get}
+use Rattle.std.proofs.lemmas.Option.{get_or_from_slice_get, slice_get_within}
 use Rattle.pass_plain.proofs.Lists.{same_numbers, same_itself, some_is}
 use Rattle.pass_book.specs.declared.view.FileMark.{FileMark}
 use Rattle.pass_book.specs.declared.view.VaultSync.{VaultSync}
@@ -96,13 +96,8 @@ pair_block [] i g at = absurd (cc)
 pair_block (y ∷ xs) zero g at = (y, refl, some_is (pair_of y) g at)
 pair_block (y ∷ xs) (suc i) g at = pair_block xs i g at
 
-below : (xs : List Block) (i : ℕ) (x : Block) → slice_get xs i ≡ Some x → i < length xs
-below [] i x at = absurd (cc)
-below (y ∷ xs) zero x at = omega arith
-below (y ∷ xs) (suc i) x at = let low = below xs i x at in omega (arith, low)
-
 pub number_at : (number : ℕ) (xs : List Block) (i : ℕ) (x : Block) → All (λ x. x.number ≡ number) xs → slice_get xs i ≡ Some x → x.number ≡ number
-number_at number xs i x all at = ap (λ (b : Block). b.number) (sym (get_or_from_slice_get xs i x x at)) ∙ all i x (below xs i x at)
+number_at number xs i x all at = ap (λ (b : Block). b.number) (sym (get_or_from_slice_get xs i x x at)) ∙ all i x (slice_get_within xs i x at)
 
 dirty_true : (clean : ℕ) (o : Option ℕ) → option_map_or (is_dirty_from clean) o false ≡ true → (at : ℕ) × (o ≡ Some at) × (clean ≤ at)
 dirty_true clean None is = absurd (cc)

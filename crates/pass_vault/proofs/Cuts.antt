@@ -81,6 +81,3 @@ module _ (given : List (ℕ × List ℕ)) (rising : IsRisingBy given) (block pla
   -- another one is
   pub cut_other : (x : ℕ × List ℕ) → slice_get given place ≡ Some x → (x.0 ≡ block → ⊥) → (given_in given block ≡ None) × IsCut given (block + 1) place
   cut_other x here other = cut_beside (λ y at same. other (ap (λ (g : ℕ × List ℕ). g.0) (some_is x y (sym here ∙ at)) ∙ same))
-
-pub cut_first : (given : List (ℕ × List ℕ)) → IsCut given 0 0
-cut_first given = record { below = λ i x low at. absurd (omega (arith, low)); above = λ i x from at. omega arith }

@@ -2,6 +2,7 @@
 use Rattle.std.proofs.Common.{◌≡◌, ◌⊎◌, ◌<◌, ◌≤◌, ℕ, zero, suc, Bool, true, false, List, [], ◌∷◌, ◌++◌, length, IsTrue, inl, inr, ⊎_elim, refl, sym, ◌∙◌, ap, subst, arith}
 use Rattle.std.specs.Prelude.{Option, Some, None, slice_get, cond, ◌==◌}
 use Rattle.std.proofs.lemmas.Map.Entries.{place_from_lookup}
+use Rattle.std.proofs.lemmas.Option.{none-some}
 use Rattle.pass_outside.specs.Areas.{Image}
 use Rattle.pass_outside.specs.Moments.{Moment}
 use Rattle.pass_plain.proofs.Lists.{some_is, same_numbers, same_itself}
@@ -20,9 +21,6 @@ use Rattle.pass_vault.proofs.Cleaning.{given_at, block_at, number_at}
 use Rattle.pass_vault.proofs.Pooling.{is_block_same}
 
 -- Lists that are made block by block
-
-none_here : (x : List ℕ) → None ≡ Some x → ⊥
-none_here x e = absurd (cc)
 
 -- an element of a list with at most one more behind it
 split_at : (xs : List (ℕ × List ℕ)) (n : ℕ) (o : Option (List ℕ)) (i : ℕ) (g : ℕ × List ℕ) → slice_get (xs ++ one_of n o) i ≡ Some g
@@ -96,7 +94,7 @@ given_found [] block i x at same none = absurd (cc)
 given_found (g ∷ given) block i x at same none = by_test (g.0 == block) refl i at (λ i there gone. given_found given block i x there same gone)
   where
     by_test : (b : Bool) → (g.0 == block) ≡ b → (i : ℕ) → slice_get (g ∷ given) i ≡ Some x → ((i : ℕ) → slice_get given i ≡ Some x → given_in given block ≡ None → ⊥) → ⊥
-    by_test true is i at more = none_here g.1 (sym none ∙ ap (λ (c : Bool). cond c (Some g.1) (given_in given block)) is)
+    by_test true is i at more = none-some g.1 (sym none ∙ ap (λ (c : Bool). cond c (Some g.1) (given_in given block)) is)
     by_test false is zero at more =
         let here : g.0 ≡ block = ap (λ (p : ℕ × List ℕ). p.0) (some_is g x at) ∙ same in absurd (cc (sym is ∙ ap (λ (k : ℕ). k == block) here ∙ same_itself block))
     by_test false is (suc i) at more = more i at (sym (ap (λ (c : Bool). cond c (Some g.1) (given_in given block)) is) ∙ none)
@@ -186,7 +184,7 @@ module _ (s : Story) (is : IsStory s) (noted : List Noted) (n : ℕ) (within : n
             (λ gone. inr (
               λ i x at of_file at_block.
                   let g = written_from i (pair_of x) (given_at number (to_write pool number given) blocks are i x at) in
-                  none_here x.bytes.now (sym gone.0 ∙ sym waits ∙ ap (bytes_for pool number given) (sym at_block) ∙ g.1),
+                  none-some x.bytes.now (sym gone.0 ∙ sym waits ∙ ap (bytes_for pool number given) (sym at_block) ∙ g.1),
               gone.1.seen,
             ))
             (old.handled well number block d (subst (λ (f : ℕ). Clean f block) (sym (its_file block d)) (clean block d not_given)))

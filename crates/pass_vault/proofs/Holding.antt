@@ -1,10 +1,9 @@
 -- A vault after a sync or a staging, from what its disk's keeper says.
 use Rattle.std.proofs.Common.{◌≡◌, ◌+◌, ◌*◌, ◌≤◌, ℕ, zero, suc, Bool, true, false, List, [], ◌∷◌, ◌++◌, length, map, take, refl, sym, ◌∙◌, ap, subst, arith}
 use Rattle.std.specs.List.{All}
-use Rattle.std.proofs.lemmas.List.{map-append, append-nil}
+use Rattle.std.proofs.lemmas.List.{map-append}
 use Rattle.std.proofs.lemmas.List.Elements.{All-append}
 use Rattle.lru.specs.LruCache.{lru_cache}
-use Rattle.pass_entry.specs.declared.record.Record.{Record}
 use Rattle.pass_outside.specs.Moments.{Moment}
 use Rattle.pass_book.specs.declared.view.VaultSync.{VaultSync}
 use Rattle.pass_book.specs.Syncs.{durable, called, called_from}
@@ -12,14 +11,13 @@ use Rattle.pass_book.specs.Tokens.{VaultState}
 use Rattle.pass_book.proofs.Backed.{durable_last}
 use Rattle.pass_clean.specs.Cleaned.{is_dirty}
 use Rattle.pass_keep.specs.declared.keeper.Keeper.{Keeper}
-use Rattle.pass_keep.specs.Kept.{Story, Noted, Every, IsKeptSince, records_to, AreParts}
+use Rattle.pass_keep.specs.Kept.{Story, Noted, Every, IsKeptSince, records_to}
 use Rattle.pass_log.specs.declared.log.Log.{Log}
 use Rattle.pass_log.specs.Log.{log_end, log_opened}
 use Rattle.pass_log.specs.Records.{spellings}
 use Rattle.pass_keep.specs.Keepers.{Past, with_sync, no_file, disk_of, log_of, durable_of, IsKeeper, GoesOn, KeptStill, KeptClean}
 use Rattle.pass_keep.proofs.Stories.{source_below}
 use Rattle.pass_keep.proofs.Writing.{dirty_source}
-use Rattle.pass_vault.specs.Batches.{parts_of}
 use Rattle.pass_vault.specs.declared.opening.Opening.{Opening}
 use Rattle.pass_vault.specs.declared.unwritten.Unwritten.{Unwritten}
 use Rattle.pass_vault.specs.Pooled.{Blocks, pool_capacity}
@@ -178,8 +176,3 @@ vault_opened view k new seat o pool empty fresh keeper none kept ready same plac
           (none_waits s (opening o.ready ∷ map noted_of (real_syncs seat.syncs)) (view (disk_of new)) (called (data_syncs seat.syncs)) (log_opened (log_of new)) (Listed (valued view new seat o nothing)));
       roomy = record { bounded = omega (arith, place); room = λ healthy going. omega (arith, place) };
     })
-
--- a batch is one part, or none
-pub part_one : (s : Story) (from upto : ℕ) (batch : List Record) → from ≤ upto → records_to s upto ≡ records_to s from ++ batch → AreParts s from upto (parts_of batch)
-part_one s from upto [] le is = (le, is ∙ append-nil (records_to s from))
-part_one s from upto (r ∷ rs) le is = (upto, le, omega arith, is, (omega arith, refl))

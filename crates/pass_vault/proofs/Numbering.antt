@@ -1,11 +1,12 @@
 -- The number that the registry gives a file is the one that the session's list gives it.
-use Rattle.std.proofs.Common.{◌≡◌, ◌∙◌, ◌==◌, ◌+◌, ◌≤◌, ℕ, suc, Bool, true, false, cond, List, [], ◌∷◌, length, refl, sym, ap, arith}
+use Rattle.std.proofs.Common.{◌≡◌, ◌∙◌, ◌==◌, ◌+◌, ◌≤◌, ℕ, List, length, sym, ap, arith}
 use Rattle.std.specs.Prelude.{Some, slice_get}
 use Rattle.std.specs.List.{position_from}
 use Rattle.std.proofs.lemmas.List.{take_all}
 use Rattle.pass_entry.specs.declared.entry.Entry.{Entry}
+use Rattle.pass_entry.proofs.Places.{position_at}
 use Rattle.pass_plain.specs.Registries.{registry_after}
-use Rattle.pass_plain.proofs.Lists.{same_numbers, some_is}
+use Rattle.pass_plain.proofs.Lists.{some_is}
 use Rattle.pass_plain.proofs.Making.{stocked}
 use Rattle.pass_plain.specs.Records.{list_of}
 use Rattle.pass_book.specs.Numbers.{files_of, IsFileNumber}
@@ -34,21 +35,11 @@ number_same s is n p number m within at known =
 pub number_to : (s : Story) → IsStory s → (p number : ℕ) → IsFileNumber s.session s.history p number → number_of (list_to s (length s.history)) p ≡ Some number
 number_to s is p number at = ap (λ (h : List Entry). number_of (list_of s.before s.ceiling s.session h) p) (take_all (length s.history) s.history (omega arith)) ∙ number_whole s is p number at
 
-position_at : (p : ℕ) (xs : List ℕ) (n m : ℕ) → position_from (λ file. file == p) n xs ≡ Some m → (i : ℕ) × (m ≡ n + i) × (slice_get xs i ≡ Some p)
-position_at p [] n m at = absurd (cc)
-position_at p (x ∷ xs) n m at = by_test (x == p) refl at (λ here. position_at p xs (n + 1) m here)
-  where
-    by_test : (t : Bool) → (x == p) ≡ t → cond t (Some n) (position_from (λ file. file == p) (n + 1) xs) ≡ Some m
-        → (position_from (λ file. file == p) (n + 1) xs ≡ Some m → (i : ℕ) × (m ≡ n + 1 + i) × (slice_get xs i ≡ Some p))
-        → (i : ℕ) × (m ≡ n + i) × (slice_get (x ∷ xs) i ≡ Some p)
-    by_test true same at more = let z = some_is n m at in (0, omega (arith, z), ap Some (same_numbers x p same))
-    by_test false other at more = let r = more at in (suc r.0, let z = r.1 in omega (arith, z), r.2)
-
 -- and a file with a number by the whole history has it in the registry
 pub number_from : (s : Story) → IsStory s → (p number : ℕ) → number_of (list_to s (length s.history)) p ≡ Some number → IsFileNumber s.session s.history p number
 number_from s is p number at =
     let whole : number_of (list_of s.before s.ceiling s.session s.history) p ≡ Some number =
     ap (λ (h : List Entry). number_of (list_of s.before s.ceiling s.session h) p) (sym (take_all (length s.history) s.history (omega arith))) ∙ at in
     let files = files_proved s.before s.ceiling s.session is.sound is.tells s.history is.legal in
-    let r = position_at p (files_of (registry_after s.session s.history).objects) 0 number (ap (position_from (λ file. file == p) 0) (sym files) ∙ whole) in
+    let r = position_at 0 (files_of (registry_after s.session s.history).objects) p number (ap (position_from (λ file. file == p) 0) (sym files) ∙ whole) in
     ap (slice_get (files_of (registry_after s.session s.history).objects)) (let z = r.1 in omega (arith, z)) ∙ r.2

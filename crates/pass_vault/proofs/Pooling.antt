@@ -7,11 +7,14 @@ use Rattle.std.proofs.lemmas.List.{append-nil}
 use Rattle.std.proofs.lemmas.Bool.Decides.{nat_tests}
 use Rattle.std.proofs.lemmas.Map.Entries.{place_from_lookup}
 use Rattle.std.proofs.lemmas.Map.Keys.{IsDistinct-head, IsDistinct-tail}
+use Rattle.std.proofs.lemmas.Bool.{cases_Bool, and_parts}
+use Rattle.std.proofs.lemmas.Option.{none-some}
 use Rattle.pass_plain.proofs.Lists.{some_is, same_numbers, same_itself}
 use Rattle.pass_pool.specs.declared.pool.FileBlock.{FileBlock}
 use Rattle.pass_pool.specs.Pools.{is_block, is_there, pushed_out, AreOnce}
 use Rattle.pass_vault.specs.Pooled.{Blocks, staged_in, without_file, with_block, staged_all, list_of, pushed_all, Unsyncs}
 use Rattle.pass_vault.proofs.Reals.{filter_one, filter_from}
+use Rattle.pass_entry.proofs.Places.{slice_get-take, filter_agrees}
 
 abbrev pub Pair : Type 0
 Pair = FileBlock × List ℕ
@@ -21,20 +24,10 @@ Pair = FileBlock × List ℕ
 pub is_block_here : (number block : ℕ) → is_block number block (record { number = number; block = block }) ≡ true
 is_block_here number block = ap (λ (b : Bool). b && (block == block)) (same_itself number) ∙ same_itself block
 
-both_true : (a b : Bool) → a && b ≡ true → (a ≡ true) × (b ≡ true)
-both_true true true is = (refl, refl)
-both_true true false is = absurd (cc)
-both_true false b is = absurd (cc)
-
 pub is_block_same : (number block : ℕ) (k : FileBlock) → is_block number block k ≡ true → (number ≡ k.number) × (block ≡ k.block)
-is_block_same number block k is = let both = both_true (number == k.number) (block == k.block) is in (same_numbers number k.number both.0, same_numbers block k.block both.1)
+is_block_same number block k is = let both = and_parts (number == k.number) (block == k.block) is in (same_numbers number k.number both.0, same_numbers block k.block both.1)
 
 -- Lookups
-
--- which of two it is
-by_bool : (b : Bool) → (b ≡ true) ⊎ (b ≡ false)
-by_bool true = inl refl
-by_bool false = inr refl
 
 lookup_yes : (q : FileBlock → Bool) (e : Pair) (es : List Pair) → q e.0 ≡ true → lookup q (e ∷ es) ≡ Some e.1
 lookup_yes q e es is = ap (λ (b : Bool). cond b (Some e.1) (lookup q es)) is
@@ -42,27 +35,24 @@ lookup_yes q e es is = ap (λ (b : Bool). cond b (Some e.1) (lookup q es)) is
 lookup_not : (q : FileBlock → Bool) (e : Pair) (es : List Pair) → q e.0 ≡ false → lookup q (e ∷ es) ≡ lookup q es
 lookup_not q e es is = ap (λ (b : Bool). cond b (Some e.1) (lookup q es)) is
 
-no_value : (x : List ℕ) → None ≡ Some x → ⊥
-no_value x e = absurd (cc)
-
 -- an entry whose key passes is found, or one before it
 pub found : (q : FileBlock → Bool) (es : List Pair) (i : ℕ) (p : Pair) → slice_get es i ≡ Some p → q p.0 ≡ true → lookup q es ≡ None → ⊥
 found q [] i p at is none = absurd (cc)
 found q (e ∷ es) zero p at is none =
-    let here : q e.0 ≡ true = ap (λ (x : Pair). q x.0) (some_is e p at) ∙ is in no_value e.1 (sym none ∙ lookup_yes q e es here)
+    let here : q e.0 ≡ true = ap (λ (x : Pair). q x.0) (some_is e p at) ∙ is in none-some e.1 (sym none ∙ lookup_yes q e es here)
 found q (e ∷ es) (suc i) p at is none =
-    ⊎_elim (λ (yes_ : q e.0 ≡ true). no_value e.1 (sym none ∙ lookup_yes q e es yes_))
+    ⊎_elim (λ (yes_ : q e.0 ≡ true). none-some e.1 (sym none ∙ lookup_yes q e es yes_))
     (λ (not_ : q e.0 ≡ false). found q es i p at is (sym (lookup_not q e es not_) ∙ none))
-    (by_bool (q e.0))
+    (cases_Bool (q e.0))
 
 -- the first ones: what they lack
 none_take : (q : FileBlock → Bool) (k : ℕ) (es : List Pair) → lookup q es ≡ None → lookup q (take k es) ≡ None
 none_take q zero es none = refl
 none_take q (suc k) [] none = refl
 none_take q (suc k) (e ∷ es) none =
-    ⊎_elim (λ (yes_ : q e.0 ≡ true). absurd (no_value e.1 (sym none ∙ lookup_yes q e es yes_)))
+    ⊎_elim (λ (yes_ : q e.0 ≡ true). absurd (none-some e.1 (sym none ∙ lookup_yes q e es yes_)))
     (λ (not_ : q e.0 ≡ false). lookup_not q e (take k es) not_ ∙ none_take q k es (sym (lookup_not q e es not_) ∙ none))
-    (by_bool (q e.0))
+    (cases_Bool (q e.0))
 
 -- the last one, with this value and a key that passes, is all that they lack
 pub record IsLast (q : FileBlock → Bool) (k : ℕ) (es : List Pair) (x : List ℕ) : Type 0 where
@@ -73,12 +63,12 @@ pub record IsLast (q : FileBlock → Bool) (k : ℕ) (es : List Pair) (x : List 
   pub value : e.1 ≡ x
 
 some_take : (q : FileBlock → Bool) (k : ℕ) (es : List Pair) (x : List ℕ) → length es ≤ k + 1 → lookup q es ≡ Some x → (lookup q (take k es) ≡ Some x) ⊎ IsLast q k es x
-some_take q zero [] x few is = absurd (no_value x is)
-some_take q (suc k) [] x few is = absurd (no_value x is)
+some_take q zero [] x few is = absurd (none-some x is)
+some_take q (suc k) [] x few is = absurd (none-some x is)
 some_take q zero (e ∷ []) x few is =
     ⊎_elim (λ (yes_ : q e.0 ≡ true). inr (record { gone = refl; e = e; at = refl; passes = yes_; value = some_is e.1 x (sym (lookup_yes q e [] yes_) ∙ is) }))
-    (λ (not_ : q e.0 ≡ false). absurd (no_value x (sym (lookup_not q e [] not_) ∙ is)))
-    (by_bool (q e.0))
+    (λ (not_ : q e.0 ≡ false). absurd (none-some x (sym (lookup_not q e [] not_) ∙ is)))
+    (cases_Bool (q e.0))
 some_take q zero (e ∷ f ∷ es) x few is = absurd (omega (arith, few))
 some_take q (suc k) (e ∷ es) x few is =
     ⊎_elim (λ (yes_ : q e.0 ≡ true). inl (lookup_yes q e (take k es) yes_ ∙ sym (lookup_yes q e es yes_) ∙ is))
@@ -86,7 +76,7 @@ some_take q (suc k) (e ∷ es) x few is =
     (λ (there : lookup q (take k es) ≡ Some x). inl (lookup_not q e (take k es) not_ ∙ there))
     (λ (l : IsLast q k es x). inr (record { gone = lookup_not q e (take k es) not_ ∙ l.gone; e = l.e; at = l.at; passes = l.passes; value = l.value }))
     (some_take q k es x (omega (arith, few)) (sym (lookup_not q e es not_) ∙ is)))
-    (by_bool (q e.0))
+    (cases_Bool (q e.0))
 
 -- Two keys
 
@@ -120,12 +110,6 @@ removed_from t (e ∷ es) i p at = by_test (t e.0) refl (λ i there. removed_fro
     by_test true is more = (suc i, at_cond true is)
     by_test false is more = behind i (at_cond false is) more
 
-taken_from : (k : ℕ) (es : List Pair) (i : ℕ) (p : Pair) → slice_get (take k es) i ≡ Some p → slice_get es i ≡ Some p
-taken_from zero es i p at = absurd (cc)
-taken_from (suc k) [] i p at = absurd (cc)
-taken_from (suc k) (e ∷ es) zero p at = at
-taken_from (suc k) (e ∷ es) (suc i) p at = taken_from k es i p at
-
 -- A block is put into a pool
 module _ (pool : Blocks) (number : ℕ) (b : ℕ × List ℕ) where
   abbrev key : FileBlock
@@ -148,7 +132,7 @@ module _ (pool : Blocks) (number : ℕ) (b : ℕ × List ℕ) where
     where
       by_test : (c : Bool) → there ≡ c → (j : ℕ) × (slice_get pool.entries j ≡ Some p)
       by_test true is = removed_from (is_block number b.0) pool.entries i p (ap (λ (c : Bool). slice_get (rest c) i) (sym is) ∙ at)
-      by_test false is = (i, taken_from (pool.cap - 1) pool.entries i p (ap (λ (c : Bool). slice_get (rest c) i) (sym is) ∙ at))
+      by_test false is = (i, slice_get-take (pool.cap - 1) i pool.entries p (ap (λ (c : Bool). slice_get (rest c) i) (sym is) ∙ at))
 
   -- Another block
   module _ (other block : ℕ) (apart : number ≡ other → b.0 ≡ block → ⊥) where
@@ -159,7 +143,7 @@ module _ (pool : Blocks) (number : ℕ) (b : ℕ × List ℕ) where
     q_apart k one two = let x = is_block_same other block k one in let y = is_block_same number b.0 k two in apart (y.0 ∙ sym x.0) (y.1 ∙ sym x.1)
 
     not_key : q key ≡ false
-    not_key = ⊎_elim (λ (yes_ : q key ≡ true). absurd (q_apart key yes_ (is_block_here number b.0))) (λ (not_ : q key ≡ false). not_) (by_bool (q key))
+    not_key = ⊎_elim (λ (yes_ : q key ≡ true). absurd (q_apart key yes_ (is_block_here number b.0))) (λ (not_ : q key ≡ false). not_) (cases_Bool (q key))
 
     behind_key : staged_in (with_block pool number b) other block ≡ lookup q (rest there)
     behind_key = lookup_not q (key, b.1) (rest there) not_key
@@ -242,10 +226,6 @@ is_taken number n k = (number == k.number) && nat_lt k.block n
 abbrev pub without_below : ℕ → ℕ → List Pair → List Pair
 without_below number n es = filter (λ (p : Pair). not (is_taken number n p.0)) es
 
-filter_same : (f g : Pair → Bool) (es : List Pair) → ((i : ℕ) (p : Pair) → slice_get es i ≡ Some p → f p ≡ g p) → filter f es ≡ filter g es
-filter_same f g [] same = refl
-filter_same f g (e ∷ es) same = ap (λ (b : Bool). cond b (e ∷ filter f es) (filter f es)) (same 0 e refl) ∙ ap (λ (l : List Pair). cond (g e) (e ∷ l) l) (filter_same f g es (λ i p at. same (suc i) p at))
-
 filter_all : (f : Pair → Bool) (es : List Pair) → ((p : Pair) → f p ≡ true) → filter f es ≡ es
 filter_all f [] all = refl
 filter_all f (e ∷ es) all = ap (λ (b : Bool). cond b (e ∷ filter f es) (filter f es)) (all e) ∙ ap (λ (l : List Pair). e ∷ l) (filter_all f es all)
@@ -299,7 +279,7 @@ without_more number n es now is once =
     ∙ filter_two (λ (p : Pair). not (is_block number n p.0)) (λ (p : Pair). not (is_taken number n p.0)) (λ (p : Pair). not (is_taken number (n + 1) p.0)) es (λ p. taken_more (number == p.0.number) p.0.block n)
 
 pub without_all : (number n : ℕ) (es : List Pair) → ((i : ℕ) (p : Pair) → slice_get es i ≡ Some p → p.0.block < n) → without_below number n es ≡ filter (λ (p : Pair). not (number == p.0.number)) es
-without_all number n es low = filter_same (λ (p : Pair). not (is_taken number n p.0)) (λ (p : Pair). not (number == p.0.number)) es (λ i p at. all_low (number == p.0.number) p.0.block (low i p at))
+without_all number n es low = filter_agrees (λ (p : Pair). not (is_taken number n p.0)) (λ (p : Pair). not (number == p.0.number)) es (λ i p at. all_low (number == p.0.number) p.0.block (low i p at))
   where
     all_low : (mine : Bool) (b : ℕ) → b < n → not (mine && nat_lt b n) ≡ not mine
     all_low true b less = grind (arith, nat_tests)
@@ -356,7 +336,7 @@ pub is_waiting : (unsynced result : Bool) (number : ℕ) (pool : Blocks) → uns
 is_waiting unsynced true number pool synced none waits = refl
 is_waiting unsynced false number pool synced none waits = absurd (⊎_elim
     (λ (un : unsynced ≡ true). not_both unsynced synced un)
-    (λ (w : (block : ℕ) × (bytes : List ℕ) × (staged_in pool number block ≡ Some bytes)). no_value w.1 (sym (none refl w.0) ∙ w.2))
+    (λ (w : (block : ℕ) × (bytes : List ℕ) × (staged_in pool number block ≡ Some bytes)). none-some w.1 (sym (none refl w.0) ∙ w.2))
     waits)
   where
     not_both : (b : Bool) → b ≡ false → b ≡ true → ⊥

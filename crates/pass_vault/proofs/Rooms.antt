@@ -11,18 +11,15 @@ use Rattle.pass_outside.specs.Moments.{Moment, IsAtEnd}
 use Rattle.pass_record.specs.Spelling.{spelling}
 use Rattle.pass_record.proofs.Spellings.{spelling-length}
 use Rattle.pass_log.specs.Records.{spellings}
+use Rattle.pass_log.proofs.Append.{at_end_or}
 use Rattle.pass_bounds.specs.Lawful.{LengthLaw}
 use Rattle.pass_bounds.proofs.Images.{spellings-append}
+use Rattle.pass_bounds.proofs.Lengths.{size as spelled}
 use Rattle.pass_keep.specs.Kept.{Story, IsStory, records_to, AreParts}
 use Rattle.pass_keep.specs.Parts.{lists_of, bytes_length, AreFrames}
 use Rattle.pass_keep.proofs.Appending.{staged_length}
-use Rattle.pass_keep.proofs.Keeping.{at_end_or}
-use Rattle.pass_keep.proofs.Stories.{legal_take}
-use Rattle.pass_vault.specs.Batches.{parts_of}
 use Rattle.pass_vault.specs.Rooms.{most_entries, first_place, last_place}
-
-abbrev spelled : List Record → ℕ
-spelled batch = length (spellings batch)
+use Rattle.pass_plain.proofs.Calling.{legal_take}
 
 -- the head and the gate of a frame have no more bytes than one record
 record_long : (r : Record) → 5 ≤ record_length r
@@ -63,15 +60,6 @@ entries_fit law s is n within =
     let few = law s.session is.sound (take n s.history) (legal_take s.session s.history n is.legal) in
     let count : length (take n s.history) ≡ n = omega (arith, within, length-take n s.history) in
     omega (arith, few, count)
-
--- a batch is one part with a record, or none
-pub batch_some : (batch : List Record) → All (λ part. 0 < length part) (parts_of batch)
-batch_some [] = λ i d less. absurd (omega (arith, less))
-batch_some (r ∷ rs) = one
-  where
-    one : All (λ part. 0 < length part) ((r ∷ rs) ∷ [])
-    one zero d less = omega arith
-    one (suc i) d less = absurd (omega (arith, less))
 
 -- parts with records, as lists
 pub lists_some : (parts : List (Vec Record Global)) → All (λ part. 0 < length part.items) parts → All (λ part. 0 < length part) (lists_of parts)

@@ -11,14 +11,10 @@ use Rattle.pass_plain.specs.Sessions.{Session, is_opened, opening_version}
 use Rattle.pass_plain.specs.Legal.{IsLegal, MayFollow}
 use Rattle.pass_plain.specs.Versions.{same_node, nodes_of, source_in, is_fresh, is_freeze, is_exec, always_freezes}
 use Rattle.pass_plain.specs.Lineages.{Lineage, IsAlike, lineage_after, has, used, frozen, linked, with_source, lineage_act, is_fresh_act, is_freeze_act}
-use Rattle.pass_plain.proofs.Lists.{true_left, true_right, not_true, same_itself}
+use Rattle.pass_plain.proofs.Lists.{true_left, true_right, not_true, same_itself, and_true}
 use Rattle.pass_plain.proofs.Lineages.{lineage_law}
 use Rattle.pass_version.specs.States.{IsStateAfter}
 use Rattle.pass_version.specs.OneObject.{OpeningLaw, StepLaw, OthersLaw}
-
-and_true : (a : Bool) → a && true ≡ a
-and_true true = refl
-and_true false = refl
 
 pub alike_then : (l m n : Lineage) → IsAlike l m → IsAlike m n → IsAlike l n
 alike_then l m n a b = record { node = a.node ∙ b.node; marked = a.marked ∙ b.marked; sources = λ node. a.sources node ∙ b.sources node }
@@ -45,6 +41,25 @@ linked_alike l m s a =
     by_tests true marked = a
     by_tests false true = source_alike (frozen l) (frozen m) s (frozen_alike l m a)
     by_tests false false = source_alike l m s a
+
+-- what an act makes of two alike lineages is alike
+pub act_alike : (l m : Lineage) (source : Option Node) (a : Act) → IsAlike l m → IsAlike (lineage_act l source a) (lineage_act m source a)
+act_alike l m source act.Freeze alike = frozen_alike l m alike
+act_alike l m (Some s) (act.Exec out name args) alike = source_alike (frozen l) (frozen m) s (frozen_alike l m alike)
+act_alike l m None (act.Exec out name args) alike = frozen_alike l m alike
+act_alike l m source (act.Show fd len) alike = used_alike l m alike
+act_alike l m source (act.Spawn child) alike = used_alike l m alike
+act_alike l m source act.Reap alike = used_alike l m alike
+act_alike l m source (act.Give at len) alike = used_alike l m alike
+act_alike l m source act.Load alike = used_alike l m alike
+act_alike l m source (act.Take len) alike = used_alike l m alike
+act_alike l m source act.Cite alike = used_alike l m alike
+act_alike l m (Some s) _ alike = linked_alike l m s alike
+act_alike l m None _ alike = alike
+
+pub alike_state : (session : Session) (h : List Entry) (m n : Lineage) → IsAlike m n → IsStateAfter session h n → IsStateAfter session h m
+alike_state session h m n a is =
+    subst (λ o. IsAlike m (lineage_after session h o)) (sym (ap (λ (n : Node). n.pnode) a.node)) (alike_then m n (lineage_after session h n.node.pnode) a is)
 
 -- acts that use their object
 use_act : (l : Lineage) (source : Option Node) (a : Act) → uses a ≡ true → lineage_act l source a ≡ used l

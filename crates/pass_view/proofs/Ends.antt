@@ -1,36 +1,23 @@
 -- The ends of edges.
-use Rattle.std.proofs.Common.{ℕ, ◌≡◌, ◌≤◌, ◌==◌, Bool, true, false, not, inl, inr, refl, sym, ap, ◌∙◌, List, [], ◌∷◌, ◌++◌, arith}
-use Rattle.std.specs.Prelude.{Contains, Option, Some, None, is_some, nat_lt, ◌||◌, if◌then◌else◌}
+use Rattle.std.proofs.Common.{◌≡◌, true, not, inl, inr, sym, ap, ◌∙◌, List, [], ◌∷◌, ◌++◌, arith, ℕ, ◌≤◌}
+use Rattle.std.specs.Prelude.{Contains, Option, Some, None, nat_lt, ◌||◌, if◌then◌else◌}
 use Rattle.pass_entry.specs.declared.objects.Node.{Node}
 use Rattle.pass_entry.specs.declared.record.Record.{Record}
 use Rattle.pass_entry.specs.declared.record.Record.TheVariants as log
 use Rattle.pass_entry.specs.declared.record.FlawReason.TheVariants as flaw
 use Rattle.pass_plain.specs.Graphs.{IsEdge, HasPath}
 use Rattle.pass_plain.specs.Graphs.HasPath.{edge, step}
-use Rattle.pass_plain.specs.WellLogged.{kind_of, current_of, is_known, is_current, flaw_of, IsWellLogged}
+use Rattle.pass_plain.specs.WellLogged.{current_of, is_known, is_current, flaw_of, IsWellLogged}
 use Rattle.pass_plain.proofs.Lists.{not_false, or_false, same_numbers, same_itself}
+use Rattle.pass_plain.proofs.Flaws.{unflawed}
 use Rattle.pass_graph.specs.ListRanks.{HasNode}
-use Rattle.pass_graph.proofs.Logging.{edge_cases, kind_next, no_edge, unflawed, version_next}
+use Rattle.pass_graph.proofs.Logging.{edge_cases, no_edge, version_next}
 use Rattle.pass_graph.proofs.Ranking.{good_version, logged_induction, rises}
+use Rattle.pass_graph.proofs.Noding.{known_on}
 use Rattle.pass_waldo.specs.Lookups.{AreAll}
 use Rattle.pass_waldo.specs.Orders.{node_cmp}
 use Rattle.pass_waldo.proofs.Indexing.{alike}
 use Rattle.pass_view.specs.Views.{IsShown, IsShownEdge, edge_cmp}
-
--- a known object stays one
-known_on : (list : List Record) (r : Record) (o : ℕ) → is_known list o ≡ true → is_known (list ++ r ∷ []) o ≡ true
-known_on list (log.Object p k) o known = ap is_some (kind_next list (log.Object p k) o) ∙ at_test (p == o)
-  where
-    at_test : (t : Bool) → is_some (if t then Some k else kind_of list o) ≡ true
-    at_test true = refl
-    at_test false = known
-known_on list (log.Name p name) o known = ap is_some (kind_next list (log.Name p name) o) ∙ known
-known_on list (log.Attr n attr value) o known = ap is_some (kind_next list (log.Attr n attr value) o) ∙ known
-known_on list (log.Input t n) o known = ap is_some (kind_next list (log.Input t n) o) ∙ known
-known_on list (log.Version n) o known = ap is_some (kind_next list (log.Version n) o) ∙ known
-known_on list (log.Size p size) o known = ap is_some (kind_next list (log.Size p size) o) ∙ known
-known_on list (log.Digest p block sum) o known = ap is_some (kind_next list (log.Digest p block sum) o) ∙ known
-known_on list (log.Ceiling p) o known = ap is_some (kind_next list (log.Ceiling p) o) ∙ known
 
 -- an edge leads from a node, to a version of an object of the list
 record HaveEnds (list : List Record) : Type 0 where

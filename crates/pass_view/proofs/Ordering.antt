@@ -7,13 +7,14 @@ use Rattle.std.proofs.lemmas.List.Elements.{Contains-append_left, Contains-push,
 use Rattle.std.proofs.lemmas.List.Sorted.{Contains-permutation, IsPermutation-sym}
 use Rattle.std.proofs.lemmas.Map.Keys.{IsDistinct-IsPermutation, IsDistinct-push}
 use Rattle.std.proofs.lemmas.Map.Views.{Contains-from_any}
+use Rattle.std.proofs.lemmas.Bool.{false_from_ne_true}
 use Rattle.pass_entry.specs.declared.objects.Node.{Node}
 use Rattle.pass_entry.specs.declared.record.Record.{Record}
 use Rattle.pass_plain.specs.Graphs.{HasPath}
 use Rattle.pass_plain.specs.Versions.{same_node}
 use Rattle.pass_plain.specs.WellLogged.{IsWellLogged}
 use Rattle.pass_graph.proofs.Noding.{same_node_equiv, same_node_is}
-use Rattle.pass_graph.proofs.Ranking.{list_acyclic_law, not_any}
+use Rattle.pass_graph.proofs.Ranking.{list_acyclic_law}
 use Rattle.pass_waldo.specs.Lookups.{AreAll}
 use Rattle.pass_waldo.specs.Orders.{node_cmp}
 use Rattle.pass_waldo.proofs.Indexing.{alike}
@@ -35,7 +36,7 @@ module _ (list : List Record) (node : Node) (ancestors : List Node) (are : AreAl
   pub once_with : IsWellLogged list → IsDistinct same_node (ancestors ++ node ∷ [])
   once_with logged =
       IsDistinct-push same_node_equiv ancestors node (sorted_once ancestors are.ascending)
-      (not_any (list_any (same_node node) ancestors) (λ any. list_acyclic_law list logged node ((are.all node).0 (Contains-from_any same_node_is node ancestors any))))
+      (false_from_ne_true (list_any (same_node node) ancestors) (λ any. list_acyclic_law list logged node ((are.all node).0 (Contains-from_any same_node_is node ancestors any))))
 
   -- the node with its ancestors is what is shown of it
   pub shown_with : (v : List Node) → AreAll node_cmp v (λ n. Contains (ancestors ++ node ∷ []) n) → AreAll node_cmp v (IsShown list (Some node))

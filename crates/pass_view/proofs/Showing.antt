@@ -11,11 +11,12 @@ use Rattle.std.proofs.lemmas.List.Elements.{Contains-append_cases, Contains-appe
 use Rattle.std.proofs.lemmas.Map.Keys.{Less-from_sorted}
 use Rattle.pass_entry.specs.declared.objects.Node.{Node}
 use Rattle.pass_entry.specs.declared.record.Record.{Record}
+use Rattle.pass_entry.proofs.Places.{Contains-behind, contains_none}
 use Rattle.pass_plain.specs.Graphs.{IsEdge}
 use Rattle.pass_waldo.specs.Lookups.{AreAll}
 use Rattle.pass_waldo.specs.Orders.{node_cmp}
 use Rattle.pass_waldo.proofs.Indexing.{node_cmp_total}
-use Rattle.pass_query.proofs.Elements.{nothing_there, first_there, there_behind}
+use Rattle.pass_query.proofs.Elements.{first_there}
 use Rattle.pass_view.specs.Views.{edge_cmp, edges_of, ends_of}
 use Rattle.pass_view.specs.declared.picture.Link.{Link}
 
@@ -27,7 +28,7 @@ either x xs y h = elim (Contains-append_cases (x ∷ []) xs y h) [
 
 all_of : {X : Type 0} (P : X → Type 0) (xs : List X) → ((x : X) → Contains xs x → P x) → AllByRecursion P xs
 all_of P [] each = tt
-all_of P (x ∷ xs) each = (each x (first_there x xs), all_of P xs (λ y h. each y (there_behind x xs y h)))
+all_of P (x ∷ xs) each = (each x (first_there x xs), all_of P xs (λ y h. each y (Contains-behind x xs y h)))
 
 all_both : {X : Type 0} (P : X → Type 0) (xs ys : List X) → AllByRecursion P xs → AllByRecursion P ys → AllByRecursion P (xs ++ ys)
 all_both P [] ys all more = more
@@ -38,7 +39,7 @@ sorted_both : {X : Type 0} (R : X → X → Ordering) (xs ys : List X) → IsStr
 unfolding IsStrictlySortedBy
 sorted_both R [] ys up more below = more
 sorted_both R (x ∷ xs) ys up more below =
-    (all_both (λ y. R x y ≡ Less) xs ys up.0 (all_of (λ y. R x y ≡ Less) ys (λ y h. below x y (first_there x xs) h)), sorted_both R xs ys up.1 more (λ a b h g. below a b (there_behind x xs a h) g))
+    (all_both (λ y. R x y ≡ Less) xs ys up.0 (all_of (λ y. R x y ≡ Less) ys (λ y h. below x y (first_there x xs) h)), sorted_both R xs ys up.1 more (λ a b h g. below a b (Contains-behind x xs a h) g))
 
 module _ (n : Node) where
   abbrev pub from : Node → Node × Node
@@ -57,17 +58,17 @@ module _ (n : Node) where
   sorted_from (a ∷ row) up = (below_from a row up.0, sorted_from row up.1)
 
   in_from : (row : List Node) (s : Node) → Contains row s → Contains (map from row) (from s)
-  in_from [] s h = absurd (nothing_there s h)
+  in_from [] s h = absurd (contains_none s h)
   in_from (a ∷ row) s h = elim (either a row s h) [
     | inl is ↦ subst (λ x. Contains (map from (a ∷ row)) (from x)) is (first_there (from a) (map from row))
-    | inr there ↦ there_behind (from a) (map from row) (from s) (in_from row s there)
+    | inr there ↦ Contains-behind (from a) (map from row) (from s) (in_from row s there)
   ]
 
   of_from : (row : List Node) (e : Node × Node) → Contains (map from row) e → (e.0 ≡ n) × Contains row e.1
-  of_from [] e h = absurd (nothing_there e h)
+  of_from [] e h = absurd (contains_none e h)
   of_from (a ∷ row) e h = elim (either (from a) (map from row) e h) [
     | inl is ↦ (ap (λ (x : Node × Node). x.0) (sym is), subst (λ x. Contains (a ∷ row) x) (ap (λ (x : Node × Node). x.1) is) (first_there a row))
-    | inr there ↦ (let z = of_from row e there in (z.0, there_behind a row e.1 z.1))
+    | inr there ↦ (let z = of_from row e there in (z.0, Contains-behind a row e.1 z.1))
   ]
 
 module _ (list : List Record) where
@@ -100,7 +101,7 @@ module _ (list : List Record) where
 
   pub no_edges : AreAll edge_cmp [] (Leaves [])
   unfolding IsStrictlySortedBy
-  no_edges = record { ascending = tt; all = λ e. ((λ h. absurd (nothing_there e h)), (λ leaves. absurd (nothing_there e.0 leaves.0))) }
+  no_edges = record { ascending = tt; all = λ e. ((λ h. absurd (contains_none e h)), (λ leaves. absurd (contains_none e.0 leaves.0))) }
 
 -- what stands before a place of a row in ascending order is below what stands there
 pub below_place : (nodes : List Node) → IsStrictlySortedBy node_cmp nodes → (i : ℕ) (n : Node) → i < length nodes → n ≡ get_or nodes i n → (m : Node) → Contains (take i nodes) m → node_cmp m n ≡ Less

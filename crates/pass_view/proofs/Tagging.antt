@@ -1,21 +1,18 @@
 -- The tables with one more record.
-use Rattle.std.proofs.Common.{ℕ, ◌≡◌, ◌<◌, ◌+◌, Bool, true, false, refl, sym, ap, ◌∙◌, List, [], ◌∷◌, ◌++◌, take, drop, length, get_or, cond}
+use Rattle.std.proofs.Common.{ℕ, ◌≡◌, ◌+◌, Bool, true, false, refl, sym, ap, ◌∙◌, List, [], ◌∷◌, ◌++◌, cond}
 use Rattle.std.specs.Prelude.{Some, None, if◌then◌else◌}
 use Rattle.std.specs.List.{cons_option, filter_map}
 use Rattle.std.specs.Option.{option_map_or}
 use Rattle.std.specs.HashMap.{get}
 use Rattle.std.specs.declared.vec.Vec.{Vec}
 use Rattle.std.specs.declared.alloc.Global.{Global}
-use Rattle.std.proofs.lemmas.List.{drop_more}
 use Rattle.std.proofs.lemmas.List.Elements.{filter_map-append}
+use Rattle.std.proofs.lemmas.List.{append-nil}
 use Rattle.pass_entry.specs.declared.objects.Node.{Node}
 use Rattle.pass_entry.specs.declared.record.Record.{Record}
 use Rattle.pass_entry.specs.declared.record.Record.TheVariants as log
 use Rattle.pass_plain.specs.Versions.{same_node}
-use Rattle.pass_plain.specs.WellLogged.{flaw_of, first_flaw_after}
-use Rattle.pass_plain.proofs.Replays.{append-nil}
 use Rattle.pass_graph.specs.Logged.{Summarizes}
-use Rattle.pass_graph.proofs.Logging.{no_first}
 use Rattle.pass_graph.proofs.Noding.{same_node_is}
 use Rattle.pass_view.specs.Facts.{AreFacts, tag_in, tags_of}
 use Rattle.pass_view.specs.declared.facts.Facts.{Facts}
@@ -66,11 +63,3 @@ module _ (list : List Record) (old new : Facts) where
       → AreFacts list old → AreFacts (list ++ r ∷ []) new
   other_noted r other logged tags are =
       noted r logged (λ n. tags n ∙ sym (ap (λ o. tags_of old n ++ cons_option o []) (quiet r other n) ∙ append-nil (tags_of old n))) are
-
--- the record at a place of well logged ones has no flaw
-pub fine_at : (xs : List Record) (k : ℕ) (r : Record) → k < length xs → r ≡ get_or xs k r → first_flaw_after (take k xs) (drop k xs) ≡ None
-    → (flaw_of (take k xs) r ≡ None) × (first_flaw_after (take k xs ++ r ∷ []) (drop (k + 1) xs) ≡ None)
-fine_at xs k r within at rest =
-    let back : drop k xs ≡ r ∷ drop (k + 1) xs = drop_more xs k r within ∙ ap (λ x. x ∷ drop (k + 1) xs) (sym at) in
-    no_first (λ reason. (length (take k xs), reason)) (flaw_of (take k xs) r) (first_flaw_after (take k xs ++ r ∷ []) (drop (k + 1) xs))
-    (sym (ap (first_flaw_after (take k xs)) back) ∙ rest)

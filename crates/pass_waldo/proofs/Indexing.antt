@@ -11,14 +11,15 @@ use Rattle.std.proofs.lemmas.Cmp.{nat_cmp_total, on_total, then_total}
 use Rattle.std.proofs.lemmas.Map.Lookups.{exact_unsigned}
 use Rattle.std.proofs.lemmas.List.Elements.{Contains-push, Contains-push_cases, Contains-append_left, filter_map-append}
 use Rattle.std.proofs.lemmas.Slice.Eq.{bytes_eq-Decides}
+use Rattle.std.proofs.lemmas.List.{append-nil}
 use Rattle.pass_entry.specs.declared.objects.Node.{Node}
 use Rattle.pass_entry.specs.declared.record.Record.{Record}
 use Rattle.pass_entry.specs.declared.record.Record.TheVariants as log
+use Rattle.pass_entry.proofs.Places.{contains_none}
 use Rattle.pass_plain.specs.Versions.{same_node}
 use Rattle.pass_plain.specs.Graphs.{IsEdge}
 use Rattle.pass_plain.specs.Graphs.IsEdge.{input as by_input, version as by_version}
-use Rattle.pass_plain.proofs.Replays.{append-nil}
-use Rattle.pass_graph.proofs.Logging.{no_edge, nothing_in, edge_cases}
+use Rattle.pass_graph.proofs.Logging.{no_edge, edge_cases}
 use Rattle.pass_graph.proofs.Noding.{same_node_is, same_node_equiv}
 use Rattle.pass_waldo.specs.Orders.{node_cmp}
 use Rattle.pass_waldo.specs.Lookups.{AreAll, value_in, values_in}
@@ -65,9 +66,6 @@ module _ {X : Type 0} {cmp : X → X → Ordering} where
   unfolding IsStrictlySortedBy
   nothing row P is none = subst (λ r. AreAll cmp r P) (sym is) (record { ascending = tt; all = λ x. ((λ h. let z = h.1 in absurd (omega (arith, z))), (λ p. absurd (none x p))) })
 
-none_logged : (r : Record) → Contains [] r → ⊥
-none_logged r h = nothing_in r h
-
 pub none_edges : (edges : Edges) → ((n : Node) → parents_of edges n ≡ []) → ((n : Node) → children_of edges n ≡ []) → AreEdges [] edges
 none_edges edges parents children = record {
   parents = λ n. nothing (parents_of edges n) (λ s. IsEdge [] n s) (parents n) (λ s e. no_edge n s e);
@@ -76,7 +74,7 @@ none_edges edges parents children = record {
 
 pub none_texts : (texts : Texts) → ((n : List ℕ) → files_named texts n ≡ []) → ((n : List ℕ) → values_of texts n ≡ []) → AreTexts [] texts
 none_texts texts files values = record {
-  files = λ name. nothing (files_named texts name) (λ p. Contains [] (log.Name p name)) (files name) (λ p h. none_logged (log.Name p name) h);
+  files = λ name. nothing (files_named texts name) (λ p. Contains [] (log.Name p name)) (files name) (λ p h. contains_none (log.Name p name) h);
   values = values;
 }
 

@@ -2,4 +2,4 @@ pub mod Sorting
 mod Edging
 pub mod Texting
 pub mod Indexing
-mod Loading
+pub mod Loading

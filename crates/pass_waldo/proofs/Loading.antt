@@ -1,8 +1,7 @@
 -- Records that are indexed after they were judged.
 use Rattle.std.proofs.Common.{ℕ, ◌≡◌, ◌≤◌, ◌<◌, ◌+◌, ◌==◌, ◌∙◌, Bool, true, false, not, refl, sym, ap, List, [], ◌∷◌, ◌++◌, take, drop, length, get_or, arith}
-use Rattle.std.specs.Prelude.{Option, Some, None, Result, Ok, Err}
+use Rattle.std.specs.Prelude.{Option, Some, None}
 use Rattle.std.specs.Option.{option_map_or}
-use Rattle.std.specs.Result.{OnOk}
 use Rattle.std.proofs.lemmas.List.{drop_more}
 use Rattle.pass_entry.specs.declared.record.Record.{Record}
 use Rattle.pass_entry.specs.declared.record.Record.TheVariants as log
@@ -36,8 +35,3 @@ fine_numbered list (log.Version node) fine = low (is_known list node.pnode) (nod
     low true false is none = absurd (cc)
     low true true is none = let same = same_numbers node.version (current_of list node.pnode + 1) is in omega (arith, same)
 fine_numbered list _ fine = tt
-
--- what holds where two things hold after an Ok
-pub on_both : {A E P Q R : Type 0} (r : Result A E) → (P → Q → R) → OnOk r P → OnOk r Q → OnOk r R
-on_both (Ok a) f p q = f p q
-on_both (Err e) f p q = tt

@@ -1,6 +1,6 @@
 -- What texts name after one row was written.
 use Rattle.std.proofs.Common.{ℕ, ◌≡◌, Bool, true, false, refl, sym, ap, ◌∙◌, List, [], cond}
-use Rattle.std.specs.Prelude.{Option, Some, None, is_some, Result, Ok, Err, IsOk, OnOk, bytes_eq, if◌then◌else◌}
+use Rattle.std.specs.Prelude.{Option, Some, None, is_some, bytes_eq, if◌then◌else◌}
 use Rattle.std.specs.Option.{option_map_or}
 use Rattle.std.specs.Cmp.Lexicographic.{nat_list_eq_equiv}
 use Rattle.std.specs.Map.{KeepsOthers}
@@ -14,14 +14,7 @@ use Rattle.pass_entry.specs.declared.objects.Node.{Node}
 use Rattle.pass_waldo.specs.declared.texts.Texts.{Texts}
 use Rattle.pass_waldo.specs.declared.texts.Row.{Row}
 use Rattle.pass_waldo.specs.Texts.{is_text, files_named, values_of, NameTheSame}
-
-abbrev pub same_key : Vec ℕ Global → Vec ℕ Global → Bool
-same_key a b = bytes_eq a.items b.items
-
--- what follows where a call succeeds
-pub on_ok : {A E : Type 0} {P : Type 0} (r : Result A E) → IsOk r → OnOk r P → P
-on_ok (Ok a) ok p = p
-on_ok (Err e) ok p = absurd (cc)
+use Rattle.pass_graph.proofs.Adding.{same_key}
 
 -- the text's row is now this one, and every other row is as before
 pub text_written : {X : Type 0} (old new : HashMap (Vec ℕ Global) X (BuildHasherDefault FoldHasher)) (name : List ℕ) (w : X) → UpdatesBy same_key (is_text name) old new (Some w)

@@ -4,15 +4,16 @@ use Rattle.pass_book.specs.declared.view.Name.{Name}
 use Rattle.pass_book.specs.Openings.{known_desk, AreApart, AwayApart}
 use Rattle.pass_book.specs.Tokens.{id_of}
 use Rattle.pass_book.specs.Views.{book_view}
-use Rattle.pass_book.proofs.Opened.{apart_free, apart_more, next_known, known_more}
+use Rattle.pass_book.proofs.Opened.{apart_free, apart_more, known_more}
 use Rattle.pass_book.proofs.open.open_known.Goals as goal
+use Rattle.pass_entry.proofs.Places.{drop_known}
 
 pub desk_alone-requires-clause-free : goal.desk_alone-requires-clause-free
 desk_alone-requires-clause-free c =
     let i = c.loop-number.number-index in
     let rest = drop (i + 1) c.args.numbers.now in
     let last = c.args.book.now.me.0.opened.start.ceiling in
-    let next = next_known c.args.numbers.now i c.number-item.result c.loop-number-test.true c.number-item.is in
+    let next = drop_known c.args.numbers.now i c.number-item.result c.loop-number-test.true c.number-item.is in
     apart_free c.number-item.result rest c.loop-number.book.me.0.away last (subst (λ ns. AwayApart c.loop-number.book.me.0.away ns last) next c.loop-number.invariant.3)
 
 pub loop-number-preserved : goal.loop-number-preserved
@@ -24,7 +25,7 @@ loop-number-preserved c =
     let last = c.args.book.now.me.0.opened.start.ceiling in
     let k = c.loop-number.invariant in
     let before = c.loop-number.book.me.0 in
-    let next = next_known numbers i n c.loop-number-test.true c.number-item.is in
+    let next = drop_known numbers i n c.loop-number-test.true c.number-item.is in
     let apart = subst (λ ns. AreApart ns last) next k.2 in
     let away = subst (λ ns. AwayApart before.away ns last) next k.3 in
     let left = c.in_ok-desk_alone.ensures.book in

@@ -3,8 +3,8 @@ use Rattle.std.proofs.lemmas.List.{append-nil}
 use Rattle.pass_book.specs.Openings.{new_desk, AwayBelow}
 use Rattle.pass_book.specs.Tokens.{id_of}
 use Rattle.pass_book.specs.Views.{book_view}
-use Rattle.pass_book.proofs.Opened.{new_more}
 use Rattle.pass_book.proofs.open.open_new.Goals as goal
+use Rattle.pass_entry.proofs.Places.{range_more}
 
 pub loop-made-init : goal.loop-made-init
 loop-made-init c =
@@ -24,6 +24,6 @@ loop-made-preserved c =
     let id = ap (λ t. id_of t before) k.0 ∙ ap (λ m. id_of c.args.book.now.table_id m.0) k.1 in
     let desk = c.in_ok-desk_of_new.ensures.desk ∙ ap (λ b. new_desk b (first + made)) id in
     let next : (first + made) + 1 ≡ first + (made + 1) = omega arith in
-    let all = new_more (new_desk (id_of c.args.book.now.table_id c.args.book.now.me.0)) first made (first + made) c.args.desks.now.items c.loop-made.desks.items c.push.new.self.items c.in_ok-desk_of_new.field-0
+    let all = range_more (new_desk (id_of c.args.book.now.table_id c.args.book.now.me.0)) first made (first + made) c.args.desks.now.items c.loop-made.desks.items c.push.new.self.items c.in_ok-desk_of_new.field-0
     refl k.3 c.in_ok-push.ensures.items desk in
     (left.0 ∙ k.0, view, subst (AwayBelow c.desk_of_new.new.book.me.0.away) next c.in_ok-desk_of_new.ensures.below, all)

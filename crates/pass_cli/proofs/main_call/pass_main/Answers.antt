@@ -178,7 +178,7 @@ returns-in-Ok-Gen-clause-unrecorded g c = λ other undrawn. absurd (undrawn (dra
 -- the two numbers are those that were read
 drawn_same : (o : Option (ℕ × ℕ)) (a b n l : ℕ) → o ≡ Some (a, b) → o ≡ Some (n, l) → (P : ℕ → ℕ → Type 0) → P a b → P n l
 drawn_same o a b n l one other P p =
-    let same : ◌≡◌ {A = ℕ × ℕ} (a, b) (n, l) = some_is {X = ℕ × ℕ} (a, b) (n, l) (sym one ∙ other) in subst (λ (x : ℕ × ℕ). P x.0 x.1) same p
+    let same : ◌≡◌ {A = ℕ × ℕ} (a, b) (n, l) = some_is {A = ℕ × ℕ} (a, b) (n, l) (sym one ∙ other) in subst (λ (x : ℕ × ℕ). P x.0 x.1) same p
 
 pub returns-in-Ok-Gen-clause-drawn : goal.returns-in-Ok-Gen-clause-drawn
 returns-in-Ok-Gen-clause-drawn g c = λ number lines is known.

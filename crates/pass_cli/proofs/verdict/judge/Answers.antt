@@ -6,8 +6,9 @@ use Rattle.pass_run.specs.declared.status.Status.TheVariants as status
 use Rattle.pass_run.specs.Stored.{HasBegun, IsHeldBack, IsOverStore}
 use Rattle.pass_run.proofs.Moved.{none_backed}
 use Rattle.pass_cli.specs.Answers.{IsRefusal, IsRefused, HasRun, outcome_of_run}
-use Rattle.pass_cli.proofs.Judging.{ran_run, refusal_run, same_error, no_write, still_unwritten}
+use Rattle.pass_cli.proofs.Judging.{ran_run, refusal_run, no_write, still_unwritten}
 use Rattle.pass_cli.proofs.verdict.judge.Goals as goal
+use Rattle.pass_entry.proofs.Variants.{err_inside}
 
 pub returns-in-Ok-clause-judged : goal.returns-in-Ok-clause-judged
 returns-in-Ok-clause-judged g c = λ known.
@@ -81,7 +82,7 @@ returns-in-Err-clause-no_write g c = λ is.
     subst (λ (s : Status). IsRefusal bytes (g.S.Source.fault_count c.args.source.now) (g.S.Source.fault_count c.read_trace.new.source) s) (sym c.unopened.ensures.status ∙ is) refusal
 
 pub returns-in-Err-clause-stops : goal.returns-in-Err-clause-stops
-returns-in-Err-clause-stops g c = λ t known. c.in-Err.ensures.stops t (λ is. known (c.unopened.ensures.status ∙ same_error _ _ is))
+returns-in-Err-clause-stops g c = λ t known. c.in-Err.ensures.stops t (λ is. known (c.unopened.ensures.status ∙ err_inside _ _ is))
 
 pub returns-in-Err-clause-backed : goal.returns-in-Err-clause-backed
 returns-in-Err-clause-backed g c = none_backed c.unopened.result.history.items c.unopened.result.syncs.items c.unopened.ensures.history

@@ -1,10 +1,10 @@
 use Rattle.std.proofs.Common.{◌≡◌, ◌∙◌, ◌+◌, ◌-◌, ◌++◌, ◌∷◌, [], ℕ, map, ap, sym, arith, append_assoc}
 use Rattle.std.specs.List.{range_with_len}
 use Rattle.std.proofs.lemmas.List.FromFn.{map-range_with_len_more}
+use Rattle.std.proofs.lemmas.List.{append-nil}
 use Rattle.pass_entry.specs.declared.record.Record.{Record}
 use Rattle.pass_plain.specs.Files.{file_act}
 use Rattle.pass_plain.specs.Records.{digest_of}
-use Rattle.pass_plain.proofs.Replays.{append-nil}
 use Rattle.pass_file.proofs.digests.add_all.Goals as goal
 
 pub loop-block-init : goal.loop-block-init

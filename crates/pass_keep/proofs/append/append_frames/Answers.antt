@@ -2,9 +2,11 @@ use Rattle.std.proofs.Common.{◌≡◌, ◌∙◌, ◌+◌, ◌≤◌, ℕ, Lis
 use Rattle.std.specs.declared.alloc.Global.{Global}
 use Rattle.pass_outside.specs.Moments.{IsAtEnd}
 use Rattle.pass_log.specs.Log.{IsFrameOf}
+use Rattle.pass_log.proofs.Append.{leaves_more}
 use Rattle.pass_keep.specs.Parts.{bytes_length, KeepsStill}
-use Rattle.pass_keep.proofs.Appending.{partly_more, partly_failed, partly_all, place_more, leaves_more, on_err}
+use Rattle.pass_keep.proofs.Appending.{partly_more, partly_failed, partly_all, place_more}
 use Rattle.pass_keep.proofs.append.append_frames.Goals as goal
+use Rattle.pass_entry.proofs.Variants.{err_always}
 
 pub returns-in_err-append_frame-clause-err : goal.returns-in_err-append_frame-clause-err
 returns-in_err-append_frame-clause-err g c =
@@ -24,7 +26,7 @@ returns-in_err-append_frame-clause-err g c =
     (λ x may. g.met.D.Disk.counts_now c.loop-frame.disk mid.calls x (omega arith) may) (λ t u x le left. g.met.D.Disk.counts_more disk t u x le left)
     e.work.tells e.store.moments e.settled (λ batch is told. e.any_moment batch (subst (IsFrameOf batch) same is) told)
     c.in_err-append_frame.ensures.err healthy (λ ended. ap view (e.stands ended)) (c.in_err-append_frame.ensures.unbroken healthy).1 in
-    on_err (KeepsStill frames old c.args.log.now (view disk) c.append_frame.new.self) c.from_residual.result whole
+    err_always c.from_residual.result (KeepsStill frames old c.args.log.now (view disk) c.append_frame.new.self) whole
 
 pub returns-in_err-append_frame-clause-store : goal.returns-in_err-append_frame-clause-store
 returns-in_err-append_frame-clause-store g c =

@@ -1,8 +1,9 @@
 use Rattle.std.proofs.Common.{◌≡◌, ◌≤◌, ◌<◌, ◌∙◌, ◌++◌, List, ℕ, length, take, drop, arith, ap, sym, rules, refl, subst, IsTrue}
+use Rattle.std.proofs.lemmas.List.{take_at}
 use Rattle.pass_outside.specs.Areas.{Image}
 use Rattle.pass_outside.specs.Moments.{Moment, IsAtEnd}
 use Rattle.pass_outside.specs.Runs.{adds_both}
-use Rattle.pass_log.proofs.Pieces.{more_piece, put_back, size_more}
+use Rattle.pass_log.proofs.Pieces.{more_piece, size_more}
 use Rattle.pass_log.proofs.area.read_area.Goals as goal
 
 pub pieces-preserved : goal.pieces-preserved
@@ -16,7 +17,7 @@ pieces-preserved g c =
     let rest = drop (length into) c.pieces.piece.items in
     let whole : length into ≡ c.pieces.piece.len = search rules in
     let long : c.pieces.piece.len ≡ length c.pieces.piece.items = search rules in
-    let back : take c.pieces.piece.len (into ++ rest) ≡ into = put_back c.pieces.piece.len into rest whole in
+    let back : take c.pieces.piece.len (into ++ rest) ≡ into = take_at into rest c.pieces.piece.len whole in
     let pushed : c.extend_from_slice.new.self.items ≡ bytes ++ take count (take c.pieces.piece.len (into ++ rest)) = c.in_ok-extend_from_slice.ensures.items ∙ ap (λ (l : List ℕ). bytes ++ take count l) c.deref.ensures.value in
     let put : c.extend_from_slice.new.self.items ≡ bytes ++ take count into = pushed ∙ ap (λ (l : List ℕ). bytes ++ take count l) back in
     let place : c.len-in-pieces.result ≡ length bytes = search rules in

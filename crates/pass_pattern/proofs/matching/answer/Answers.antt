@@ -5,6 +5,7 @@ use Rattle.std.specs.declared.alloc.Global.{Global}
 use Rattle.std.specs.declared.vec.Vec.{Vec}
 use Rattle.std.proofs.lemmas.Result.{err_from_is_err_and}
 use Rattle.pass_entry.specs.declared.objects.Node.{Node}
+use Rattle.pass_entry.proofs.Variants.{err_inside, ok_not_err}
 use Rattle.pass_graph.specs.ListRanks.{HasNode}
 use Rattle.pass_query.specs.declared.fault.QueryFault.{QueryFault}
 use Rattle.pass_query.specs.declared.fault.QueryFault.TheVariants.{NoObject, NoMemory}
@@ -16,18 +17,6 @@ Nodes = Result (Vec Node Global) QueryFault
 abbrev Text : Type 0
 Text = Result (Vec ℕ Global) QueryFault
 
-text_fault : (a b : QueryFault) → ◌≡◌ {A = Text} (Err a) (Err b) → a ≡ b
-text_fault a b is = cc
-
-node_fault : (a b : QueryFault) → ◌≡◌ {A = Nodes} (Err a) (Err b) → a ≡ b
-node_fault a b is = cc
-
-no_nodes : (v : Vec Node Global) (fault : QueryFault) → ◌≡◌ {A = Nodes} (Ok v) (Err fault) → ⊥
-no_nodes v fault is = cc
-
-no_text : (v : Vec ℕ Global) (fault : QueryFault) → ◌≡◌ {A = Text} (Ok v) (Err fault) → ⊥
-no_text v fault is = cc
-
 other_fault : (n : Node) → NoMemory ≡ NoObject n → ⊥
 other_fault n is = cc
 
@@ -35,21 +24,21 @@ other_fault n is = cc
 handed_on : (fault : QueryFault) (r : Text) (P : Node → Type 0) → IsErrAnd r (λ e. e ≡ fault) → ((n : Node) → (◌≡◌ {A = Nodes} (Err fault) (Err (NoObject n))) ↔ P n) → (n : Node) → (r ≡ Err (NoObject n)) ↔ P n
 handed_on fault r P is each n =
     let p = err_from_is_err_and r is in (
-      λ same. (each n).0 (ap Err (sym p.2 ∙ text_fault p.0 (NoObject n) (sym p.1 ∙ same))),
-      λ holds. p.1 ∙ ap Err (p.2 ∙ node_fault fault (NoObject n) ((each n).1 holds)),
+      λ same. (each n).0 (ap Err (sym p.2 ∙ err_inside p.0 (NoObject n) (sym p.1 ∙ same))),
+      λ holds. p.1 ∙ ap Err (p.2 ∙ err_inside fault (NoObject n) ((each n).1 holds)),
     )
 
 -- nodes were found, and memory was refused
 refused : (v : Vec Node Global) (r : Text) (P : Node → Type 0) → IsErrAnd r (λ e. e ≡ NoMemory) → ((n : Node) → (◌≡◌ {A = Nodes} (Ok v) (Err (NoObject n))) ↔ P n) → (n : Node) → (r ≡ Err (NoObject n)) ↔ P n
 refused v r P is each n =
     let p = err_from_is_err_and r is in (
-      λ same. absurd (other_fault n (sym p.2 ∙ text_fault p.0 (NoObject n) (sym p.1 ∙ same))),
-      λ holds. absurd (no_nodes v (NoObject n) ((each n).1 holds)),
+      λ same. absurd (other_fault n (sym p.2 ∙ err_inside p.0 (NoObject n) (sym p.1 ∙ same))),
+      λ holds. absurd (ok_not_err v (NoObject n) ((each n).1 holds)),
     )
 
 -- they were written
 written : (v : Vec Node Global) (text : Vec ℕ Global) (P : Node → Type 0) → ((n : Node) → (◌≡◌ {A = Nodes} (Ok v) (Err (NoObject n))) ↔ P n) → (n : Node) → (◌≡◌ {A = Text} (Ok text) (Err (NoObject n))) ↔ P n
-written v text P each n = (λ same. absurd (no_text text (NoObject n) same), λ holds. absurd (no_nodes v (NoObject n) ((each n).1 holds)))
+written v text P each n = (λ same. absurd (ok_not_err text (NoObject n) same), λ holds. absurd (ok_not_err v (NoObject n) ((each n).1 holds)))
 
 pub returns-in_err-nodes-clause-absent : goal.returns-in_err-nodes-clause-absent
 returns-in_err-nodes-clause-absent c =

@@ -1,25 +1,20 @@
 use Rattle.std.proofs.Common.{◌≡◌, length, sym, ◌∙◌, subst, arith}
-use Rattle.std.specs.Prelude.{Result, Err}
-use Rattle.pass_pattern.specs.declared.pattern.Pattern.{Pattern}
-use Rattle.pass_pattern.specs.declared.fault.PatternFault.{PatternFault}
 use Rattle.pass_pattern.specs.declared.fault.PatternFault.TheVariants as fault
 use Rattle.pass_pattern.specs.Patterns.{shape_of}
 use Rattle.pass_pattern.specs.Reading.{state_of}
 use Rattle.pass_pattern.proofs.Judging.{HasRead, more_read, refused_long, refused_bad, read_pattern, ended_bad}
 use Rattle.pass_pattern.proofs.parsing.parse_pattern.Goals as goal
-
-same_fault : (a b : PatternFault) → ◌≡◌ {A = Result Pattern PatternFault} (Err a) (Err b) → a ≡ b
-same_fault a b is = cc
+use Rattle.pass_entry.proofs.Variants.{err_inside}
 
 pub returns-in-Err-clause-long : goal.returns-in-Err-clause-long
 returns-in-Err-clause-long c =
     λ is. refused_long c.args.text.now c.loop-at.at (state_of c.loop-at.reader) c.in-Err.refusal (omega (arith, c.if-text-gt-TEXT_LIMIT.false)) c.loop-at.invariant c.loop-at-test.true c.in-Err.ensures
-    (sym c.fault_at.ensures ∙ same_fault c.fault_at.result fault.Long is)
+    (sym c.fault_at.ensures ∙ err_inside c.fault_at.result fault.Long is)
 
 pub returns-in-Err-clause-bad : goal.returns-in-Err-clause-bad
 returns-in-Err-clause-bad c =
     λ place is. refused_bad c.args.text.now c.loop-at.at (state_of c.loop-at.reader) c.in-Err.refusal (omega (arith, c.if-text-gt-TEXT_LIMIT.false)) c.loop-at.invariant c.loop-at-test.true c.in-Err.ensures place
-    (sym c.fault_at.ensures ∙ same_fault c.fault_at.result (fault.Bad place) is)
+    (sym c.fault_at.ensures ∙ err_inside c.fault_at.result (fault.Bad place) is)
 
 pub loop-at-preserved : goal.loop-at-preserved
 loop-at-preserved c = more_read c.args.text.now c.loop-at.at (state_of c.loop-at.reader) c.in-Ok.next c.loop-at.invariant c.loop-at-test.true c.in-Ok.ensures
@@ -34,4 +29,4 @@ pub returns-in-Err-finish-clause-bad : goal.returns-in-Err-finish-clause-bad
 returns-in-Err-finish-clause-bad c =
     let whole : c.loop-at.at ≡ length c.args.text.now = omega (arith, c.loop-at-test.false, c.loop-at.auto.at-end) in
     λ place is. ended_bad c.args.text.now (state_of c.loop-at.reader) c.in-Err-finish.refusal (omega (arith, c.if-text-gt-TEXT_LIMIT.false)) (subst (λ n. HasRead c.args.text.now n (state_of c.loop-at.reader)) whole c.loop-at.invariant)
-    c.in-Err-finish.ensures place (sym c.fault_at-in-Err-finish.ensures ∙ same_fault c.fault_at-in-Err-finish.result (fault.Bad place) is)
+    c.in-Err-finish.ensures place (sym c.fault_at-in-Err-finish.ensures ∙ err_inside c.fault_at-in-Err-finish.result (fault.Bad place) is)

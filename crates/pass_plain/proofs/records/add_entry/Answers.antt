@@ -1,9 +1,9 @@
 use Rattle.std.proofs.Common.{[], ◌++◌, ap, sym, ◌∙◌, append_assoc, cond}
+use Rattle.std.proofs.lemmas.List.{append-nil}
 use Rattle.pass_entry.specs.declared.entry.Entry.{Entry}
 use Rattle.pass_plain.specs.Legal.{session_of}
 use Rattle.pass_plain.specs.Records.{content_records}
 use Rattle.pass_plain.specs.Recording.{plain_records}
-use Rattle.pass_plain.proofs.Replays.{append-nil}
 use Rattle.pass_plain.proofs.KeptFiles.{fault_kept, quiet_kept}
 use Rattle.pass_plain.proofs.Walking.{content_is, entry_split}
 use Rattle.pass_plain.proofs.records.add_entry.Goals as goal

@@ -1,10 +1,9 @@
 use Rattle.std.proofs.Common.{◌≡◌, List, [], ◌∷◌, ◌++◌, take, sym, ap, ◌∙◌, subst, arith}
 use Rattle.std.specs.Prelude.{Some, option_map, Contains}
 use Rattle.std.specs.List.{cons_option, filter_map}
-use Rattle.std.proofs.lemmas.List.{take_all}
+use Rattle.std.proofs.lemmas.List.{take_all, append-nil}
 use Rattle.pass_entry.specs.declared.objects.Node.{Node}
 use Rattle.pass_entry.specs.declared.record.Record.TheVariants as log
-use Rattle.pass_plain.proofs.Replays.{append-nil}
 use Rattle.pass_waldo.specs.Lookups.{AreAll, current_in}
 use Rattle.pass_waldo.specs.Orders.{node_cmp}
 use Rattle.pass_query.proofs.Holders.{node_now, one_more, all_named}

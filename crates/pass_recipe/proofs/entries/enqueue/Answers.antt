@@ -7,11 +7,11 @@ use Rattle.std.proofs.lemmas.List.{take_more, take_all}
 use Rattle.std.proofs.lemmas.List.Elements.{Contains-push_cases}
 use Rattle.pass_entry.specs.declared.objects.Node.{Node}
 use Rattle.pass_entry.specs.declared.record.Record.{Record}
+use Rattle.pass_entry.proofs.Places.{contains_none}
 use Rattle.pass_plain.specs.Versions.{same_node}
 use Rattle.pass_plain.specs.Graphs.{IsEdge}
 use Rattle.pass_waldo.specs.Orders.{node_cmp}
 use Rattle.pass_waldo.specs.Lookups.{AreAll}
-use Rattle.pass_query.proofs.Elements.{nothing_there}
 use Rattle.pass_recipe.specs.declared.waiters.Waiting.{Waiting}
 use Rattle.pass_recipe.specs.declared.queue.Queue.{Queue}
 use Rattle.pass_recipe.specs.Queues.{Nodes, IsFit, IsHeld}
@@ -26,7 +26,7 @@ pub loop-node-init : goal.loop-node-init
 loop-node-init g c = record {
   made = c.new-queue.ensures.made;
   queue = c.new-queue.ensures.queue c.args.index.now c.args.nodes.now;
-  held = λ n there. absurd (nothing_there n there);
+  held = λ n there. absurd (contains_none n there);
   steps = counted_none c.args.index.now c.args.steps.now;
 }
 

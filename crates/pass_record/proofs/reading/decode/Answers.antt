@@ -1,5 +1,5 @@
 -- What was read stands at the front, and what stands there was read.
-use Rattle.std.proofs.Common.{◌<◌, ◌≤◌, length, List, ℕ, Ok, Result, drop, ap, ap₂, ◌∙◌, sym, arith}
+use Rattle.std.proofs.Common.{◌<◌, ◌≤◌, length, ℕ, Ok, Result, drop, ap, ap₂, ◌∙◌, sym, arith}
 use Rattle.std.proofs.lemmas.Result.{err_from_is_err_and}
 use Rattle.pass_entry.specs.declared.record.Record.{Record}
 use Rattle.pass_entry.specs.Lengths.{record_length}
@@ -7,12 +7,10 @@ use Rattle.pass_record.specs.declared.fault.RecordFault.{RecordFault}
 use Rattle.pass_record.specs.Reading.{record_at}
 use Rattle.pass_record.proofs.Spellings.{stands, only_read, only_fails, record_length-some, at_front-within}
 use Rattle.pass_record.proofs.reading.decode.Goals as goal
+use Rattle.pass_record.proofs.Records.{done}
 
 abbrev answer : Record → ℕ → Result (Record × ℕ) RecordFault
 answer one len = Ok (one, len)
-
-abbrev read : Record → List ℕ → Result (Record × List ℕ) RecordFault
-read one rest = Ok (one, rest)
 
 pub returns-in_err-one-clause-only : goal.returns-in_err-one-clause-only
 returns-in_err-one-clause-only c = λ one h.
@@ -43,4 +41,4 @@ pub returns-clause-exact : goal.returns-clause-exact
 returns-clause-exact c =
     let found = ap record_at (sym c.new-cursor.ensures) ∙ c.in_ok-one.ensures in
     let rest = (stands c.args.bytes.now c.in_ok-one.one c.record_of.new.cursor (λ i. omega (arith, c.type_inv.bytes i)) found).1 in
-    found ∙ ap (read c.in_ok-one.one) (rest ∙ ap (λ (n : ℕ). drop n c.args.bytes.now) (sym c.length-len.ensures))
+    found ∙ ap (done c.in_ok-one.one) (rest ∙ ap (λ (n : ℕ). drop n c.args.bytes.now) (sym c.length-len.ensures))

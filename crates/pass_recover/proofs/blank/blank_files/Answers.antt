@@ -2,12 +2,12 @@ use Rattle.std.proofs.Common.{ℕ, Vec, Global, ◌≡◌, ◌∙◌, ◌+◌, �
 use Rattle.std.specs.Prelude.{Option, Some, filter_map, slice_get}
 use Rattle.std.specs.List.{cons_option}
 use Rattle.std.proofs.lemmas.Option.{slice_get_read}
-use Rattle.std.proofs.lemmas.List.{map-append}
+use Rattle.std.proofs.lemmas.List.{map-append, append-nil}
 use Rattle.std.proofs.lemmas.List.Elements.{filter_map-append}
 use Rattle.pass_entry.specs.declared.objects.Node.{Node}
 use Rattle.pass_plain.specs.declared.start.StartFile.{StartFile}
 use Rattle.pass_plain.specs.WellLogged.{current_of, last_name_of}
-use Rattle.pass_plain.proofs.Replays.{take-next, append-nil}
+use Rattle.pass_plain.proofs.Replays.{take-next}
 use Rattle.pass_range.specs.Rows.{file_made, files_of}
 use Rattle.pass_graph.specs.Logged.{name_in}
 use Rattle.pass_recover.proofs.Blanks.{made_number, blank_filled, filled_more}

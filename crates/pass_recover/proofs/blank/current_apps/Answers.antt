@@ -1,11 +1,11 @@
 use Rattle.std.proofs.Common.{ℕ, ◌≡◌, ◌∙◌, ◌+◌, Vec, Global, ◌++◌, ◌∷◌, [], List, take, map, ap, sym}
 use Rattle.std.specs.Prelude.{Option, filter_map}
 use Rattle.std.specs.List.{cons_option}
-use Rattle.std.proofs.lemmas.List.{map-append}
+use Rattle.std.proofs.lemmas.List.{map-append, append-nil}
 use Rattle.std.proofs.lemmas.List.Elements.{filter_map-append}
 use Rattle.pass_entry.specs.declared.objects.Node.{Node}
 use Rattle.pass_plain.specs.WellLogged.{current_of}
-use Rattle.pass_plain.proofs.Replays.{take-next, append-nil}
+use Rattle.pass_plain.proofs.Replays.{take-next}
 use Rattle.pass_recover.specs.Starts.{apps_of, app_made, current_node}
 use Rattle.pass_recover.proofs.blank.current_apps.Goals as goal
 use Rattle.pass_recover.proofs.blank.current_apps.Goals.{in-Some+in_ok-push, in_default}

@@ -1,11 +1,11 @@
 use Rattle.std.proofs.Common.{ℕ, ◌≡◌, ◌∙◌, ◌++◌, ◌∷◌, ◌<◌, [], Bool, List, Vec, Global, get_or, take, length, ap, sym, refl, subst, arith, IsTrue}
 use Rattle.std.specs.Prelude.{Some, slice_get, if◌then◌else◌}
 use Rattle.std.proofs.lemmas.Option.{slice_get_read}
+use Rattle.std.proofs.lemmas.List.{append-nil}
 use Rattle.pass_outside.specs.Areas.{Image}
 use Rattle.pass_outside.specs.Runs.{adds_both}
 use Rattle.pass_plain.specs.Records.{range_len}
 use Rattle.pass_plain.specs.WellLogged.{size_of}
-use Rattle.pass_plain.proofs.Replays.{append-nil}
 use Rattle.pass_range.specs.declared.range.Range.{Range}
 use Rattle.pass_range.specs.Places.{place, found_there}
 use Rattle.pass_range.specs.Tables.{Row}

@@ -1,7 +1,9 @@
 use Rattle.std.proofs.Common.{length, ap, refl, ◌∙◌, arith, length-drop}
 use Rattle.std.proofs.lemmas.List.{take_rest}
-use Rattle.pass_run.proofs.Pieces.{one_piece_more, is_part, on_err}
+use Rattle.pass_run.proofs.Pieces.{is_part}
 use Rattle.pass_run.proofs.writing.write_text.Goals as goal
+use Rattle.pass_entry.proofs.Variants.{err_always}
+use Rattle.pass_entry.proofs.Places.{one_piece_more}
 
 pub pieces-preserved : goal.pieces-preserved
 pieces-preserved g c = record {
@@ -14,4 +16,4 @@ pieces-preserved g c = record {
 
 pub returns-in_err-count-clause-part : goal.returns-in_err-count-clause-part
 returns-in_err-count-clause-part g c =
-    on_err c.from_residual.result (λ tells. is_part c.args.text.now _ _ c.pieces.written (c.in_err-count.ensures.err tells ∙ c.pieces.invariant.taken tells))
+    err_always c.from_residual.result _ (λ tells. is_part c.args.text.now _ _ c.pieces.written (c.in_err-count.ensures.err tells ∙ c.pieces.invariant.taken tells))

@@ -2,13 +2,14 @@ use Rattle.std.proofs.Common.{◌≡◌, ◌∙◌, ◌<◌, ℕ, false, List, a
 use Rattle.std.proofs.lemmas.Result.{on_ok_weaker}
 use Rattle.pass_entry.specs.Limits.{block_count}
 use Rattle.pass_entry.specs.declared.entry.Entry.{Entry}
+use Rattle.pass_entry.proofs.Variants.{on_each_ok}
 use Rattle.pass_plain.specs.Legal.{IsLegal}
 use Rattle.pass_book.specs.Syncs.{IsBacked}
 use Rattle.pass_book.specs.Tokens.{BookState, NoteState}
 use Rattle.pass_book.specs.declared.view.VaultSync.{VaultSync}
 use Rattle.pass_clean.specs.Cleaned.{is_dirty}
 use Rattle.pass_vault.specs.Vaulted.{Vaulted}
-use Rattle.pass_safe.proofs.Leaving.{healthy_after, on_each_ok}
+use Rattle.pass_safe.proofs.Leaving.{healthy_after}
 use Rattle.pass_safe.proofs.Settles.{settled_all}
 use Rattle.pass_safe.proofs.finishing.finish.Goals as goal
 

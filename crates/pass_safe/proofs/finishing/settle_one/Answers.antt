@@ -1,5 +1,6 @@
 use Rattle.std.proofs.Common.{◌≡◌, ◌∙◌, List, [], ◌∷◌, ap, sym, subst, length}
 use Rattle.std.specs.Prelude.{Option, IfSome}
+use Rattle.std.proofs.lemmas.Result.{IfOk-at_ok}
 use mathlib.Core.List.{IsPrefix}
 use Rattle.pass_entry.specs.declared.entry.Entry.{Entry}
 use Rattle.pass_book.proofs.Prefixes.{prefix_self}
@@ -10,7 +11,7 @@ use Rattle.pass_vault.specs.declared.vault.Receipt.{Receipt}
 use Rattle.pass_safe.specs.Safes.{Leaves, SafeView}
 use Rattle.pass_safe.specs.Settled.{AreSettled, IsClean, settled_to}
 use Rattle.pass_safe.proofs.Leaving.{leaves_err, leaves_ok}
-use Rattle.pass_safe.proofs.Lent.{err_on, ok_of, ok_on}
+use Rattle.pass_safe.proofs.Lent.{err_on, ok_on}
 use Rattle.pass_safe.proofs.Settles.{grown_one, settled_one, settled_same, settled_seen, unsaved_same}
 use Rattle.pass_safe.proofs.finishing.settle_one.Goals as goal
 
@@ -20,7 +21,7 @@ returns-in-Ok-clause-grows g c =
     let v = c.join-file.new.self.vault in
     let w = c.settle-file.new.self.vault in
     let o = c.in-Ok._receipt in
-    let done = ok_of (λ (o : Option Receipt). w ≡ settled_to v w f.what f.number o) c.settle-file.result.1 o c.in-Ok.is c.settle-file.ensures.done in
+    let done = IfOk-at_ok (λ (o : Option Receipt). w ≡ settled_to v w f.what f.number o) c.in-Ok.is c.settle-file.ensures.done in
     let file = c.join-file.ensures.file in
     subst (λ (s : SafeView _). IsPrefix s.vault.syncs w.syncs) c.join-file.ensures.safe
     (grown_one (length f.seen) c.args.file f v w (ap (λ (f : FileDeskView). f.what) file) (ap (λ (f : FileDeskView). f.number) file) o done)
@@ -31,8 +32,8 @@ returns-in-Ok-clause-done g c =
     let v = c.join-file.new.self.vault in
     let w = c.settle-file.new.self.vault in
     let o = c.in-Ok._receipt in
-    let done = ok_of (λ (o : Option Receipt). w ≡ settled_to v w f.what f.number o) c.settle-file.result.1 o c.in-Ok.is c.settle-file.ensures.done in
-    let told = ok_of (λ (o : Option Receipt). IfSome o (λ r. r ≡ record { calls = (g.D.Disk.view w.disk).calls; entries = length f.seen })) c.settle-file.result.1 o c.in-Ok.is c.settle-file.ensures.receipt in
+    let done = IfOk-at_ok (λ (o : Option Receipt). w ≡ settled_to v w f.what f.number o) c.in-Ok.is c.settle-file.ensures.done in
+    let told = IfOk-at_ok (λ (o : Option Receipt). IfSome o (λ r. r ≡ record { calls = (g.D.Disk.view w.disk).calls; entries = length f.seen })) c.in-Ok.is c.settle-file.ensures.receipt in
     let file = c.join-file.ensures.file in
     subst (λ (s : SafeView _). AreSettled (length c.args.shelf.now.history) (c.args.file ∷ []) s.vault.syncs w.syncs) c.join-file.ensures.safe
     (settled_one (length c.args.shelf.now.history) c.args.file f v w (ap (λ (f : FileDeskView). f.what) file) (ap (λ (f : FileDeskView). f.number) file) o (g.D.Disk.view w.disk).calls
@@ -45,7 +46,7 @@ returns-in-Ok-clause-clean g c =
     let v = c.join-file.new.self.vault in
     let w = c.settle-file.new.self.vault in
     let o = c.in-Ok._receipt in
-    let done = ok_of (λ (o : Option Receipt). w ≡ settled_to v w f.what f.number o) c.settle-file.result.1 o c.in-Ok.is c.settle-file.ensures.done in
+    let done = IfOk-at_ok (λ (o : Option Receipt). w ≡ settled_to v w f.what f.number o) c.in-Ok.is c.settle-file.ensures.done in
     let safe = c.join-file.ensures.safe in
     let listed = subst (λ (s : SafeView _). IsPrefix f.syncs s.vault.syncs) (sym safe) c.join-file.ensures.listed in
     let clean : IsClean S w.seen w.syncs f.what = ok_on c.settle-file.result.1 o c.in-Ok.is c.settle-file.ensures.clean listed in
@@ -80,7 +81,7 @@ returns-in-Ok-clause-vault g c =
     let v = c.join-file.new.self.vault in
     let w = c.settle-file.new.self.vault in
     let o = c.in-Ok._receipt in
-    let done = ok_of (λ (o : Option Receipt). w ≡ settled_to v w f.what f.number o) c.settle-file.result.1 o c.in-Ok.is c.settle-file.ensures.done in
+    let done = IfOk-at_ok (λ (o : Option Receipt). w ≡ settled_to v w f.what f.number o) c.in-Ok.is c.settle-file.ensures.done in
     subst (λ (s : SafeView _). w ≡ record s.vault { disk = w.disk; pool = w.pool; unsynced = w.unsynced; syncs = w.syncs }) c.join-file.ensures.safe (settled_same v w f o done)
 
 pub returns-clause-vault : goal.returns-clause-vault

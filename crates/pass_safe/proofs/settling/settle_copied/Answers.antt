@@ -1,5 +1,6 @@
 use Rattle.std.proofs.Common.{◌≡◌, List, ap, subst}
 use Rattle.std.specs.Prelude.{Option}
+use Rattle.std.proofs.lemmas.Result.{IfOk-weaker}
 use Rattle.pass_entry.specs.declared.entry.Entry.{Entry}
 use Rattle.pass_vault.specs.Vaulted.{Vaulted}
 use Rattle.pass_vault.specs.declared.vault.Receipt.{Receipt}
@@ -7,7 +8,6 @@ use Rattle.pass_safe.specs.Commits.{flushed_to}
 use Rattle.pass_safe.specs.Safes.{Leaves}
 use Rattle.pass_safe.specs.Settled.{HasSettled, settled_to}
 use Rattle.pass_safe.proofs.Leaving.{leaves_then}
-use Rattle.pass_safe.proofs.Lent.{ok_map}
 use Rattle.pass_safe.proofs.Settles.{has_settled}
 use Rattle.pass_safe.proofs.settling.settle_copied.Goals as goal
 
@@ -19,7 +19,7 @@ returns-clause-done g c =
     let w = c.settle.new.self.vault in
     let calls = c.in_default.field-0.calls in
     let flush = subst (λ (h : List Entry). m ≡ flushed_to v m h calls) c.requires.copied.whole c.in_default.ensures.done in
-    ok_map (λ (o : Option Receipt). w ≡ settled_to m w f.what f.number o) (λ (o : Option Receipt). HasSettled f v w o) (has_settled v m w f calls flush) c.settle.result.1 c.settle.ensures.done
+    IfOk-weaker c.settle.result.1 (λ (o : Option Receipt). w ≡ settled_to m w f.what f.number o) (λ (o : Option Receipt). HasSettled f v w o) (has_settled v m w f calls flush) c.settle.ensures.done
 
 pub returns-clause-safe : goal.returns-clause-safe
 returns-clause-safe g c =

@@ -1,13 +1,15 @@
 use Rattle.std.proofs.Common.{◌≡◌, ◌⊎◌, ℕ, false, List, refl, sym, ◌∙◌, subst, arith, length}
 use Rattle.std.specs.Vec.{vec_len}
+use Rattle.std.proofs.lemmas.Result.{IfOk-at_ok}
 use Rattle.pass_entry.specs.declared.entry.Entry.{Entry}
+use Rattle.pass_entry.proofs.Lists.{same_numbers}
 use Rattle.pass_clean.specs.Blocks.{IsRisingBy}
 use Rattle.pass_vault.specs.Vaulted.{HasWaiting}
 use Rattle.pass_safe.specs.Settled.{HasDirty, HasUnwritten, IsClean}
-use Rattle.pass_safe.proofs.Clean.{is_zero, none_dirty, none_unwritten, not_zero, some_dirty, some_unwritten, stays_clean}
+use Rattle.pass_safe.proofs.Clean.{none_dirty, none_unwritten, not_zero, some_dirty, some_unwritten, stays_clean}
 use Rattle.pass_safe.specs.Commits.{saved_to}
 use Rattle.pass_vault.specs.declared.vault.Receipt.{Receipt}
-use Rattle.pass_safe.proofs.Lent.{ok_of, ok_on}
+use Rattle.pass_safe.proofs.Lent.{ok_on}
 use Rattle.pass_safe.proofs.Settles.{receipt_of}
 use Rattle.pass_safe.proofs.working.settle_file.Goals as goal
 
@@ -19,7 +21,7 @@ returns-then-is_settled-clause-clean g c =
     let S = g.J.Whose.book.session in
     let v = c.args.vault.now in
     let f = c.args.file in
-    let empty = is_zero (vec_len c.in-Ok.blocks) (sym c.is_empty.ensures ∙ (c.is_settled.ensures.none c.if-is_settled.true).0) in
+    let empty = same_numbers (vec_len c.in-Ok.blocks) 0 (sym c.is_empty.ensures ∙ (c.is_settled.ensures.none c.if-is_settled.true).0) in
     let long = c.in-Ok.blocks.ok.0 in
     let none : length c.in-Ok.blocks.items ≡ 0 = omega (arith, empty, long) in
     λ listed.
@@ -32,7 +34,7 @@ returns-then-is_settled-clause-dirty g c =
     let v = c.args.vault.now in
     let f = c.args.file in
     let settled = c.is_settled.ensures.none c.if-is_settled.true in
-    let empty = is_zero (vec_len c.in-Ok.blocks) (sym c.is_empty.ensures ∙ settled.0) in
+    let empty = same_numbers (vec_len c.in-Ok.blocks) 0 (sym c.is_empty.ensures ∙ settled.0) in
     let long = c.in-Ok.blocks.ok.0 in
     let none : length c.in-Ok.blocks.items ≡ 0 = omega (arith, empty, long) in
     let clean = none_dirty S f.seen f.syncs f.what c.in-Ok.blocks.items c.in-Ok.ensures.dirty none in
@@ -60,5 +62,5 @@ returns-in-Ok-result-clause-synced g c =
     let calls = (g.D.Disk.view w.disk).calls in
     let e = c.save_blocks-file.ensures in
     receipt_of v w f r calls c.requires.seen
-    (ok_of (λ (r : Receipt). w ≡ saved_to v w f.what f.number r) c.save_blocks-file.result.1 r c.in-Ok-result.is e.done)
-    (ok_of (λ (r : Receipt). r ≡ record { calls = calls; entries = length f.seen }) c.save_blocks-file.result.1 r c.in-Ok-result.is e.receipt)
+    (IfOk-at_ok (λ (r : Receipt). w ≡ saved_to v w f.what f.number r) c.in-Ok-result.is e.done)
+    (IfOk-at_ok (λ (r : Receipt). r ≡ record { calls = calls; entries = length f.seen }) c.in-Ok-result.is e.receipt)

@@ -2,9 +2,9 @@ use Rattle.std.proofs.Common.{◌≡◌, ◌+◌, ◌∷◌, sum_by, true, IsPer
 use Rattle.std.specs.BinaryHeap.{heap_items}
 use Rattle.std.proofs.lemmas.List.{length-map}
 use Rattle.std.proofs.lemmas.List.Sorted.{IsPermutation-map, sum_by-IsPermutation}
+use Rattle.std.proofs.lemmas.List.Sums.{sum_by-cons}
 use Rattle.pass_sched.specs.Heaps.{tasks_of}
 use Rattle.pass_sched.specs.Passes.{room_of}
-use Rattle.pass_sched.proofs.Plays.{sum_of_cons}
 use Rattle.pass_sched.proofs.Underway.{short, reorder}
 use Rattle.pass_sched.proofs.alone.play_all.Goals as goal
 use Rattle.pass_sched.proofs.alone.play_all.Goals.{In-Some}
@@ -13,7 +13,7 @@ popped : (g : _) (c : In-Some g) → IsPermutation (tasks_of c.loop-task.bench.p
 popped g c = IsPermutation-map (λ r. r.task) _ _ c.in-Some.ensures.permutation
 
 total : (g : _) (c : In-Some g) → room_of g.T.Task c.in-Some.field-0.task + sum_by (room_of g.T.Task) (tasks_of c.pop.new.self) ≡ sum_by (room_of g.T.Task) (tasks_of c.loop-task.bench.pending)
-total g c = omega (arith, sum_by-IsPermutation (room_of g.T.Task) _ _ (popped g c), sum_of_cons (room_of g.T.Task) c.in-Some.field-0.task (tasks_of c.pop.new.self))
+total g c = omega (arith, sum_by-IsPermutation (room_of g.T.Task) _ _ (popped g c), sum_by-cons (room_of g.T.Task) c.in-Some.field-0.task (tasks_of c.pop.new.self))
 
 pub take_part-requires-clause-pending : goal.take_part-requires-clause-pending
 take_part-requires-clause-pending g c =

@@ -1,7 +1,8 @@
 use Rattle.std.proofs.Common.{IsTrue, sym, subst}
 use Rattle.pass_standby.proofs.Begins.{store_read, moments_both}
-use Rattle.pass_standby.proofs.Keeping.{store_then, work_then}
+use Rattle.pass_standby.proofs.Keeping.{work_then}
 use Rattle.pass_standby.proofs.opening.prepare.Goals as goal
+use Rattle.pass_log.proofs.Append.{leaves_more}
 
 pub returns-clause-any_moment : goal.returns-clause-any_moment
 returns-clause-any_moment g c = λ told.
@@ -14,7 +15,7 @@ returns-clause-store g c =
     let old = g.D.Disk.view c.args.disk.now in
     let mid = g.D.Disk.view c.read_synced.new.disk in
     let e = c.in_ok-found.ensures in
-    store_then old mid (g.D.Disk.view c.open_found.new.disk) e.work.tells (store_read old mid e.store e.crash e.run) c.open_found.ensures.store
+    leaves_more old mid (g.D.Disk.view c.open_found.new.disk) e.work.tells (store_read old mid e.store e.crash e.run) c.open_found.ensures.store
 
 pub returns-clause-work : goal.returns-clause-work
 returns-clause-work g c =

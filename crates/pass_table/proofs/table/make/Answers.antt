@@ -1,14 +1,15 @@
 use Rattle.std.proofs.Common.{◌∙◌, ap, sym, subst, List, Vec, Global, ℕ}
 use Rattle.std.specs.Prelude.{Option}
 use Rattle.pass_table.specs.Tables.{flat, AreWhole, AreZero}
-use Rattle.pass_table.proofs.Flats.{not_some, flat_made, whole_made, zero_front}
+use Rattle.pass_table.proofs.Flats.{flat_made, whole_made, zero_front}
 use Rattle.pass_table.proofs.table.make.Goals as goal
+use Rattle.pass_entry.proofs.Variants.{none_of}
 
 pub returns-clause-flat : goal.returns-clause-flat
 returns-clause-flat c =
     let a = c.args in
     let zero = zero_front c.pop.new.self.items c.in-Some.own (subst AreZero c.in-Some.ensures.items c.requires.zero) in
-    ap flat c.put_back.ensures ∙ flat_made a.table.now a.block c.in-Some.own c.requires.low (not_some _ (sym c.is_made.ensures ∙ c.if-is_made.false)) zero.1
+    ap flat c.put_back.ensures ∙ flat_made a.table.now a.block c.in-Some.own c.requires.low (none_of _ (sym c.is_made.ensures ∙ c.if-is_made.false)) zero.1
 
 pub returns-clause-whole : goal.returns-clause-whole
 returns-clause-whole c =

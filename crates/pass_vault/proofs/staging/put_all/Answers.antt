@@ -1,17 +1,16 @@
 use Rattle.std.proofs.Common.{◌≡◌, ◌∙◌, ◌∷◌, [], ℕ, List, get_or, sym, ap, subst}
 use Rattle.std.proofs.lemmas.List.{take_all}
 use Rattle.pass_keep.specs.Keepers.{disk_of}
-use Rattle.pass_keep.proofs.Appending.{on_err}
 use Rattle.pass_vault.specs.Saves.{IsStageable, Stages, StagesNone}
 use Rattle.pass_vault.proofs.Putting.{loop_still, loop_known, loop_more, loop_failed, goes_more, pool_more, unsyncs_more, made_more}
 use Rattle.pass_vault.proofs.staging.put_all.Goals as goal
+use Rattle.pass_entry.proofs.Variants.{err_always}
 
 pub returns-in_err-bytes-clause-still : goal.returns-in_err-bytes-clause-still
 returns-in_err-bytes-clause-still g c =
     let k = c.args.keeper.now in
     let u = c.args.unwritten.now in
-    on_err (StagesNone g.D.Disk.view c.args.number c.args.blocks.now k u c.loop-one.keeper c.loop-one.unwritten) c.from_residual.result
-    (loop_still g.D.Disk.view c.args.number k u c.args.blocks.now c.loop-one.one-index c.loop-one.keeper c.loop-one.unwritten c.loop-one.invariant.staged)
+    err_always c.from_residual.result (StagesNone g.D.Disk.view c.args.number c.args.blocks.now k u c.loop-one.keeper c.loop-one.unwritten) (loop_still g.D.Disk.view c.args.number k u c.args.blocks.now c.loop-one.one-index c.loop-one.keeper c.loop-one.unwritten c.loop-one.invariant.staged)
 
 pub put_one-requires : goal.put_one-requires
 put_one-requires g c =
@@ -31,8 +30,7 @@ returns-in_err-put_one-clause-still g c =
     let new = c.put_one.new in
     let item : ℕ × List ℕ = c.one-item.result in
     let same : get_or c.args.blocks.now l.one-index item ≡ (item.0, c.in_ok-bytes.bytes) = sym c.one-item.is ∙ ap (λ (bytes : List ℕ). (item.0, bytes)) (sym c.in_ok-bytes.ensures.cases) in
-    on_err (StagesNone g.D.Disk.view c.args.number c.args.blocks.now k u new.keeper new.unwritten) c.from_residual-in_err-put_one.result
-    (loop_failed g.D.Disk.view c.args.number k u c.args.blocks.now l.one-index l.keeper l.unwritten l.invariant.staged item c.loop-one-test.true l.invariant.durable new.keeper new.unwritten
+    err_always c.from_residual-in_err-put_one.result (StagesNone g.D.Disk.view c.args.number c.args.blocks.now k u new.keeper new.unwritten) (loop_failed g.D.Disk.view c.args.number k u c.args.blocks.now l.one-index l.keeper l.unwritten l.invariant.staged item c.loop-one-test.true l.invariant.durable new.keeper new.unwritten
     (subst (λ (b : ℕ × List ℕ). StagesNone g.D.Disk.view c.args.number (b ∷ []) l.keeper l.unwritten new.keeper new.unwritten) (sym same) c.in_err-put_one.ensures.still))
 
 pub loop-one-preserved : goal.loop-one-preserved

@@ -7,9 +7,10 @@ use Rattle.pass_keep.specs.Keepers.{disk_of, log_of, Failed}
 use Rattle.pass_log.specs.Log.{log_opened}
 use Rattle.pass_vault.specs.Pooled.{Blocks}
 use Rattle.pass_vault.specs.Saves.{Stages, StagesNone}
-use Rattle.pass_vault.proofs.Handing.{on_both, on_failed, evicted_none, evicted_some}
+use Rattle.pass_vault.proofs.Handing.{on_failed, evicted_none, evicted_some}
 use Rattle.pass_vault.proofs.Putting.{stages_kept, out_sized, stages_pushed, stages_lost}
 use Rattle.pass_vault.proofs.staging.put_one.Goals as goal
+use Rattle.pass_entry.proofs.Variants.{on_both}
 
 pub returns-in_default-clause-kept : goal.returns-in_default-clause-kept
 returns-in_default-clause-kept g c =
@@ -39,12 +40,10 @@ returns-clause-kept g c =
     let x : Block = record { number = c.in-Some.out.number; block = c.in-Some.out.block; bytes = c.as_bytes.result } in
     let e = evicted_some (pushed_out u.pool key) c.in-Some.out (sym c.in_ok-out.ensures.evicted ∙ c.in-Some.is) in
     let r = c.put-2.ensures in
-    on_both _ _ (Stages g.D.Disk.view c.args.number ((c.args.block, c.args.bytes) ∷ []) k u new (record { pool = c.put.new.self; unsynced = true })) c.put-2.result
-    (λ held seen. subst (λ (p : Blocks). Stages g.D.Disk.view c.args.number ((c.args.block, c.args.bytes) ∷ []) k u new (record { pool = p; unsynced = true })) (sym c.in_ok-out.ensures.pairs)
+    on_both c.put-2.result (λ held seen. subst (λ (p : Blocks). Stages g.D.Disk.view c.args.number ((c.args.block, c.args.bytes) ∷ []) k u new (record { pool = p; unsynced = true })) (sym c.in_ok-out.ensures.pairs)
     (stages_pushed g.D.Disk.view k u c.args.number (c.args.block, c.args.bytes) c.len-len.ensures.fits e.0 e.1 x
     (ap (λ (o : Evicted). o.number) (sym e.2)) (ap (λ (o : Evicted). o.block) (sym e.2)) (c.as_bytes.ensures.bytes ∙ ap (λ (o : Evicted). o.bytes) (sym e.2))
-    new r.kept r.goes_on r.log r.durable held seen))
-    r.held r.seen
+    new r.kept r.goes_on r.log r.durable held seen)) r.held r.seen
 
 pub returns-clause-still : goal.returns-clause-still
 returns-clause-still g c =

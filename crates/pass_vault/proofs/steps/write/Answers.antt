@@ -1,10 +1,12 @@
 use Rattle.std.proofs.Common.{◌+◌, ◌∙◌, ℕ, Bool, false, length, sym, ap, subst, arith}
+use Rattle.std.proofs.lemmas.Result.{on_ok_weaker}
 use Rattle.pass_keep.specs.Keepers.{disk_of}
 use Rattle.pass_vault.specs.Pooled.{sync_calls}
 use Rattle.pass_vault.specs.Waiting.{IsLanded}
-use Rattle.pass_vault.proofs.Handing.{on_ok, on_both, sync_count}
+use Rattle.pass_vault.proofs.Handing.{sync_count}
 use Rattle.pass_vault.proofs.Waiting.{lands_beside, lands_idle}
 use Rattle.pass_vault.proofs.steps.write.Goals as goal
+use Rattle.pass_entry.proofs.Variants.{on_both}
 
 pub returns-then-is_idle-clause-kept : goal.returns-then-is_idle-clause-kept
 returns-then-is_idle-clause-kept g c = let idle = c.is_idle.ensures.idle c.if-is_idle.true in λ past files keeper written none. c.clean.ensures.kept past files keeper (none idle.0 idle.1)
@@ -27,18 +29,17 @@ returns-then-is_idle-clause-made g c =
     (omega (arith, none, same), ap (λ d. (g.D.Disk.view d).faults) c.clean.ensures.disk)
 
 pub returns-clause-kept : goal.returns-clause-kept
-returns-clause-kept g c = on_ok _ _ c.write.result (λ synced past files keeper written none. synced past files keeper written) c.write.ensures.kept
+returns-clause-kept g c = on_ok_weaker c.write.result (λ synced past files keeper written none. synced past files keeper written) c.write.ensures.kept
 
 pub returns-clause-lands : goal.returns-clause-lands
 returns-clause-lands g c =
     let view = g.D.Disk.view in
-    on_both _ _ _ c.write.result (λ seen whole number since other block bytes own low apart limited short was.
-    lands_beside (view (disk_of c.args.keeper.now)) (view (disk_of c.write.new.self)) c.args.blocks.now number own c.requires.sized c.write.ensures.goes_on.0 seen whole c.args.unsynced since other block bytes apart limited short was)
-    c.write.ensures.seen c.write.ensures.whole
+    on_both c.write.result (λ seen whole number since other block bytes own low apart limited short was.
+    lands_beside (view (disk_of c.args.keeper.now)) (view (disk_of c.write.new.self)) c.args.blocks.now number own c.requires.sized c.write.ensures.goes_on.0 seen whole c.args.unsynced since other block bytes apart limited short was) c.write.ensures.seen c.write.ensures.whole
 
 pub returns-clause-made : goal.returns-clause-made
 returns-clause-made g c =
-    on_ok _ _ c.write.result (λ made. (
+    on_ok_weaker c.write.result (λ made. (
       made.0 ∙ ap (λ (n : ℕ). (g.D.Disk.view (disk_of c.args.keeper.now)).calls + n) (sym (sync_count c.args.unsynced (length c.args.blocks.now) (c.is_idle.ensures.busy c.if-is_idle.false))),
       made.1,
     )) c.write.ensures.made

@@ -1,7 +1,7 @@
 use Rattle.std.proofs.Common.{length, ap, refl, ◌∙◌, arith, length-drop}
 use Rattle.std.proofs.lemmas.List.{take_rest}
-use Rattle.passtrace.proofs.Pieces.{one_piece_more}
 use Rattle.passtrace.proofs.passing.write_all.Goals as goal
+use Rattle.pass_entry.proofs.Places.{one_piece_more}
 
 pub pieces-preserved : goal.pieces-preserved
 pieces-preserved g c = record {

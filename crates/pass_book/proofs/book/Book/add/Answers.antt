@@ -13,13 +13,14 @@ use Rattle.pass_book.specs.declared.view.Role.TheVariants as role
 use Rattle.pass_book.specs.declared.view.VaultSync.{VaultSync}
 use Rattle.pass_book.specs.Names.{name}
 use Rattle.pass_entry.specs.declared.record.Record.{Record}
+use Rattle.pass_entry.proofs.Lists.{some_is}
 use Rattle.pass_book.specs.Records.{entry_lists}
 use Rattle.pass_book.specs.Shedding.{AreKept}
 use Rattle.pass_book.specs.Syncs.{Backs}
 use Rattle.pass_book.specs.Tokens.{BookState, DeskState, LineState, At, IsPast, line_of}
 use Rattle.pass_book.specs.Views.{session_in}
 use Rattle.pass_book.proofs.Badges.{past_legal, past_unlisted}
-use Rattle.pass_book.proofs.Recording.{lists-length, some_same}
+use Rattle.pass_book.proofs.Recording.{lists-length}
 use Rattle.pass_book.proofs.Shedding.{length-shed, kept_later, kept_more}
 use Rattle.pass_book.proofs.book.Book.add.Goals as goal
 
@@ -90,7 +91,7 @@ pub returns-clause-caller : goal.returns-clause-caller
 returns-clause-caller c l is =
     let P : List Entry → List VaultSync → List Entry → Type 0 = λ s ss h. IsPrefix s h × AgreeBy c.args.entry.who s h × IsPrefix ss c.enter.new.book.me.0.syncs in
     let Q : LineState → Type 0 = λ d. P d.seen d.syncs c.args.self.now.history in
-    let same : c.in-Some.line ≡ l = some_same _ _ (sym (line c) ∙ is) in
+    let same : c.in-Some.line ≡ l = some_is _ _ (sym (line c) ∙ is) in
     subst Q same (subst Q c.line.view_is (subst (P c.line.inside.sight.seen c.line.inside.sight.syncs) (history c) c.enter.ensures.caller))
 
 pub returns-clause-syncs : goal.returns-clause-syncs

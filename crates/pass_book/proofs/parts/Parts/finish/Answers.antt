@@ -1,10 +1,10 @@
 use Rattle.std.proofs.Common.{rules, ◌≡◌, [], ◌∷◌, ◌++◌, All, length, List, ◌<◌, subst, sym, ap, ◌∙◌, ◌⊎◌, inl, inr, Vec, Global}
-use Rattle.std.proofs.lemmas.List.{map-append}
+use Rattle.std.proofs.lemmas.List.{map-append, nil_from_length}
 use Rattle.std.proofs.lemmas.List.Elements.{All-push}
 use Rattle.pass_entry.specs.declared.record.Record.{Record}
 use Rattle.pass_book.specs.Records.{IsCrowded, IsPart}
 use Rattle.pass_book.specs.Parting.{PartsState, IsParted, IsGrowing, lists_of}
-use Rattle.pass_book.proofs.Parting.{parted_closed, crowded_front, nothing, part_within}
+use Rattle.pass_book.proofs.Parting.{parted_closed, crowded_front, part_within}
 use Rattle.pass_book.proofs.parts.Parts.finish.Goals as goal
 use Rattle.pass_book.proofs.parts.Parts.finish.Goals.{then-not-is_empty+in_ok-push, else-not-is_empty}
 
@@ -24,7 +24,7 @@ closed c =
           )
       | else-not-is_empty w ↦
           let zero : length c.self.inside.part.items ≡ 0 = search rules in
-          let none = nothing c.self.inside.part.items zero in
+          let none = nil_from_length c.self.inside.part.items zero in
           inr (ap (λ v. lists_of v.items) w.full-is ∙ full, sym part ∙ none)
     ]
 

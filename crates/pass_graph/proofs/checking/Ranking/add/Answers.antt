@@ -1,7 +1,7 @@
 use Rattle.std.proofs.Common.{sym, ap, ◌∙◌, [], ◌∷◌, ◌++◌}
 use Rattle.std.specs.List.{cons_option}
 use Rattle.std.proofs.lemmas.List.Elements.{filter_map-append}
-use Rattle.pass_plain.proofs.Replays.{append-nil}
+use Rattle.std.proofs.lemmas.List.{append-nil}
 use Rattle.pass_graph.specs.ListRanks.{made_node, graph_nodes}
 use Rattle.pass_graph.proofs.checking.Ranking.add.Goals as goal
 

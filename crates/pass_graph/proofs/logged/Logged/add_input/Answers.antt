@@ -1,13 +1,9 @@
 use Rattle.std.proofs.Common.{◌<◌, arith}
-use Rattle.std.specs.Prelude.{Result, Ok, Err, OnOk, IsOk}
 use Rattle.std.specs.HashSet.{spare}
 use Rattle.std.proofs.lemmas.Result.{err_from_is_err_and}
 use Rattle.pass_graph.proofs.Adding.{input_added, sources_reserved}
 use Rattle.pass_graph.proofs.logged.Logged.add_input.Goals as goal
-
-on_ok : {A E : Type 0} {P : Type 0} (r : Result A E) → IsOk r → OnOk r P → P
-on_ok (Ok a) ok p = p
-on_ok (Err e) ok p = absurd (cc)
+use Rattle.pass_entry.proofs.Variants.{on_ok}
 
 pub returns-in_err-insert-clause-err : goal.returns-in_err-insert-clause-err
 returns-in_err-insert-clause-err c =

@@ -1,8 +1,9 @@
-use Rattle.std.proofs.Common.{◌≡◌, ◌+◌, ◌≤◌, ◌++◌, ◌∷◌, [], ap, sym, ◌∙◌, subst, refl, List, length, ℕ, arith, length-append, Bool, true, false}
+use Rattle.std.proofs.Common.{◌≡◌, ◌+◌, ◌≤◌, ◌++◌, ◌∷◌, [], ap, sym, ◌∙◌, subst, refl, List, length, ℕ, arith, length-append}
 use Rattle.std.specs.Option.{option_map_or}
-use Rattle.std.specs.Prelude.{Option, Some, None, IsSomeAnd, if◌then◌else◌}
+use Rattle.std.specs.Prelude.{Option, Some, IsSomeAnd}
 use mathlib.Core.List.{IsPrefix}
 use Rattle.pass_entry.specs.declared.entry.Entry.{Entry}
+use Rattle.pass_entry.proofs.Variants.{none_if}
 use Rattle.pass_plain.specs.Legal.{IsLegal, MayFollow}
 use Rattle.pass_plain.specs.Lawful.{AgreeBy}
 use Rattle.pass_plain.specs.Places.{held_places, keeps, exit_step}
@@ -10,7 +11,7 @@ use Rattle.pass_plain.specs.Recorded.{entry_records_by}
 use Rattle.pass_plain.specs.Versions.{nodes_of, source_in}
 use Rattle.pass_book.specs.Syncs.{durable, IsRising, Backs}
 use Rattle.pass_book.specs.declared.view.VaultSync.{VaultSync}
-use Rattle.pass_book.specs.Tokens.{BookId, BookState, LineState, LastState, ClaimState}
+use Rattle.pass_book.specs.Tokens.{BookId, BookState, LineState, ClaimState}
 use Rattle.pass_hold.specs.Callers.{CallerState, caller_with, nobody}
 use Rattle.pass_hold.specs.Callings.{IsEntered}
 use Rattle.pass_hold.specs.Places.{IsKept}
@@ -50,10 +51,6 @@ add-place-requires-clause-slip g c = λ x is.
     ap (λ (k : ClaimState). k.slip) c.with_slip.ensures
     ∙ subst (λ (b : BookId). c.args.slip ≡ entry_records_by b.session c.args.desk.now.seen (source_in (nodes_of b.session x.seen) e) e) (sym book)
     (subst (λ (h : List Entry). c.args.slip ≡ entry_records_by g.J.Whose.book.session c.args.desk.now.seen (source_in (nodes_of g.J.Whose.book.session h) e) e) mine c.requires.slip)
-
-none_if : (b : Bool) (o : Option LastState) → o ≡ None → (if b then None else o) ≡ None
-none_if true o is = refl
-none_if false o is = is
 
 -- what is known once the entry is made
 record Now (book : BookId) (old : List Entry) (desk : List Entry) (own keep : ℕ) (e : Entry) (claim : ClaimState) (shelf : BookState) (places : ℕ) : Type 0 where

@@ -2,8 +2,9 @@ use Rattle.std.proofs.Common.{◌∙◌, ◌++◌, ◌<◌, ap, sym, take, arith
 use Rattle.std.specs.Prelude.{filter_map, Option, option_map}
 use Rattle.std.proofs.lemmas.List.Elements.{filter_map-append}
 use Rattle.std.specs.List.{cons_option}
+use Rattle.std.proofs.lemmas.List.{append-nil}
 use Rattle.pass_plain.specs.Registries.{named_file}
-use Rattle.pass_plain.proofs.Replays.{take-next, append-nil}
+use Rattle.pass_plain.proofs.Replays.{take-next}
 use Rattle.pass_plain.proofs.names.Names.of_files.Goals as goal
 use Rattle.pass_plain.proofs.names.Names.of_files.Goals.{in-Some+in_ok-clone-in-Some+in_ok-push_back-in-Some, in-None}
 

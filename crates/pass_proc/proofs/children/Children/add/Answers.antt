@@ -1,14 +1,10 @@
 use Rattle.std.proofs.Common.{◌<◌, ◌-◌, ap, ◌∙◌, arith}
-use Rattle.std.specs.Prelude.{Result, Ok, Err, OnOk, IsOk}
 use Rattle.std.specs.FinSet.{insert}
 use Rattle.std.specs.HashSet.{spare}
 use Rattle.pass_proc.specs.Views.{ChildrenView}
 use Rattle.pass_proc.proofs.Sets.{children_with, set-insert}
 use Rattle.pass_proc.proofs.children.Children.add.Goals as goal
-
-on_ok : {A E : Type 0} {P : Type 0} (r : Result A E) → IsOk r → OnOk r P → P
-on_ok (Ok a) ok p = p
-on_ok (Err e) ok p = absurd (cc)
+use Rattle.pass_entry.proofs.Variants.{on_ok}
 
 pub returns : goal.returns
 returns c =

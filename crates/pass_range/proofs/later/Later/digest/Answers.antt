@@ -4,8 +4,9 @@ use Rattle.std.specs.BTreeMap.{get}
 use Rattle.pass_plain.specs.Records.{block_size}
 use Rattle.pass_range.specs.Laters.{has_size, range_cmp}
 use Rattle.pass_range.specs.Tables.{range_at}
-use Rattle.pass_range.proofs.Noting.{digest_noted, is_eq-range_cmp, at_same, none_of}
+use Rattle.pass_range.proofs.Noting.{digest_noted, is_eq-range_cmp, at_same}
 use Rattle.pass_range.proofs.later.Later.digest.Goals as goal
+use Rattle.pass_entry.proofs.Variants.{none_of}
 
 pub returns : goal.returns
 returns c = λ p block.

@@ -4,9 +4,9 @@ use Rattle.std.specs.List.{cons_option}
 use Rattle.std.specs.Ordering.{nat_cmp}
 use Rattle.std.specs.Cmp.Lexicographic.{slice_cmp, nat_list_cmp_total}
 use Rattle.std.specs.FinMap.{find, from_entries, get-from_entries, same_map, slice_cmp-IsAntisymmetric, nat_cmp-IsAntisymmetric}
+use Rattle.std.proofs.lemmas.List.{append-nil}
 use Rattle.pass_plain.specs.declared.start.StartFile.{StartFile}
 use Rattle.pass_plain.specs.Registries.{named_file}
-use Rattle.pass_plain.proofs.Replays.{append-nil}
 use Rattle.pass_registry.specs.Places.{Entries, IsAscending, map_of}
 use Rattle.pass_registry.proofs.NameMaps.{ascending_put, longer}
 use Rattle.pass_registry.proofs.OpenNames.{free_name, names-next, found_next}

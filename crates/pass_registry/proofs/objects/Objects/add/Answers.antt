@@ -1,20 +1,17 @@
 use Rattle.std.proofs.Common.{◌≡◌, ◌<◌, ◌+◌, ◌-◌, ℕ, [], ◌∷◌, ◌++◌, ap, sym, ◌∙◌, subst, cond, arith, nat_eq, false}
 use Rattle.std.specs.List.{list_any}
-use Rattle.std.specs.Prelude.{◌==◌, Result, Ok, Err, OnOk, IsOk, None}
+use Rattle.std.specs.Prelude.{◌==◌, IsOk, None}
 use Rattle.std.specs.HashMap.{spare, get}
 use Rattle.indexmap.proofs.CallerLemmas.{insert_entry-new}
 use Rattle.pass_entry.specs.declared.objects.Kind.{Kind}
 use Rattle.pass_entry.specs.declared.objects.Kind.TheVariants as kind
+use Rattle.pass_entry.proofs.Variants.{on_ok}
 use Rattle.pass_plain.specs.Registries.{same_kind}
 use Rattle.pass_registry.specs.declared.objects.Objects.TheInside.{Inside}
 use Rattle.pass_registry.specs.Tables.{ObjectState, IsTable, kinds_of, object_of}
 use Rattle.pass_registry.proofs.TableLemmas.{Table, kinds_of-push, table-push, absent}
 use Rattle.pass_registry.proofs.objects.Objects.add.Goals as goal
 use Rattle.pass_registry.proofs.objects.Objects.add.Goals.{in-File, in-App, in-Process, in-Pipe}
-
-on_ok : {A E : Type 0} {P : Type 0} (r : Result A E) → IsOk r → OnOk r P → P
-on_ok (Ok a) ok p = p
-on_ok (Err e) ok p = absurd (cc)
 
 add_none : (n : ℕ) → n ≡ n + 0
 add_none n = omega arith

@@ -1,17 +1,10 @@
-use Rattle.std.proofs.Common.{◌≡◌, ◌||◌, true, false, ℕ, Bool, refl, sym, ap, ◌∙◌, arith}
+use Rattle.std.proofs.Common.{◌≡◌, ◌||◌, true, false, ℕ, Bool, sym, ap, ◌∙◌, arith}
+use Rattle.std.proofs.lemmas.Bool.{or_right, or_from}
 use Rattle.pass_plain.specs.Records.{touches}
 use Rattle.pass_report.specs.Digests.{gets_digest, is_stretched, row_at}
 use Rattle.pass_report.proofs.Digesting.{passing-none, counted, skipped}
 use Rattle.pass_report.proofs.blocks.Blocks.digests.Goals as goal
 use Rattle.pass_report.proofs.blocks.Blocks.digests.Goals.{then-touches, then-touches-via-then-touches, then-touches-via-else-touches+then-is_stretched, else-touches+else-is_stretched}
-
-either : (a b : Bool) → b ≡ true → a || b ≡ true
-either true b is = refl
-either false b is = is
-
-neither : (a b : Bool) → a ≡ false → b ≡ false → a || b ≡ false
-neither true b none is = absurd (cc)
-neither false b none is = is
 
 pub loop-block-init : goal.loop-block-init
 loop-block-init c = record {
@@ -27,10 +20,10 @@ loop-block-preserved c =
       | then-touches w ↦
           let passes : test n ≡ true = elim w.then-touches.branch [
             | then-touches-via-then-touches v ↦ ap (λ b. b || is_stretched (row_at c.args.self.now.rows.items) c.args.self.now.size c.args.size n) (sym c.touches.ensures ∙ v.if-touches.true)
-            | then-touches-via-else-touches+then-is_stretched v ↦ either (touches c.args.at c.args.len n) _ (sym v.is_stretched.ensures ∙ v.if-is_stretched.true)
+            | then-touches-via-else-touches+then-is_stretched v ↦ or_right (touches c.args.at c.args.len n) _ (sym v.is_stretched.ensures ∙ v.if-is_stretched.true)
           ] in
           record { count = w.digests-is ∙ counted test n c.loop-block.digests passes c.loop-block.invariant.count; few = omega arith }
       | else-touches+else-is_stretched w ↦
-          let fails : test n ≡ false = neither (touches c.args.at c.args.len n) _ (sym c.touches.ensures ∙ w.if-touches.false) (sym w.is_stretched.ensures ∙ w.if-is_stretched.false) in
+          let fails : test n ≡ false = or_from (touches c.args.at c.args.len n) _ (sym c.touches.ensures ∙ w.if-touches.false) (sym w.is_stretched.ensures ∙ w.if-is_stretched.false) in
           record { count = w.digests-is ∙ skipped test n c.loop-block.digests fails c.loop-block.invariant.count; few = omega arith }
     ]

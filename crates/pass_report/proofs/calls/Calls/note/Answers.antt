@@ -3,12 +3,13 @@ use Rattle.std.specs.Prelude.{Some}
 use Rattle.std.specs.Ordering.{nat_cmp}
 use Rattle.std.specs.BTreeMap.{BTreeMap, Updates}
 use Rattle.pass_report.specs.declared.calls.LastCall.{LastCall}
-use Rattle.pass_report.proofs.Answering.{on_each, on_at}
+use Rattle.pass_report.proofs.Answering.{on_at}
 use Rattle.pass_report.proofs.Tabling.{table_next}
 use Rattle.pass_report.proofs.calls.Calls.note.Goals as goal
+use Rattle.pass_entry.proofs.Variants.{on_each_ok}
 
 pub returns : goal.returns
-returns c = on_each c.note_child.result _ (λ x ok. λ past ends table.
+returns c = on_each_ok c.note_child.result _ (λ x ok. λ past ends table.
     let e = c.args.entry.now in
     let call : LastCall = record { number = e.number; ended = c.args.ended } in
     let known : BTreeMap ℕ LastCall → Type 0 = λ m. Updates nat_cmp c.args.self.now.last m e.who (Some call) in

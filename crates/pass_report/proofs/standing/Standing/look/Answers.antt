@@ -1,15 +1,10 @@
-use Rattle.std.proofs.Common.{◌≡◌, ◌+◌, ◌≤◌, ◌==◌, ℕ, Bool, true, false, List, take, sym, subst, arith}
-use Rattle.std.specs.Prelude.{if◌then◌else◌}
+use Rattle.std.proofs.Common.{◌==◌, List, take, sym, subst, arith}
 use Rattle.std.proofs.lemmas.List.{take_all, length-map}
 use Rattle.pass_plain.specs.Traces.{Line}
 use Rattle.pass_trace.specs.TraceLines.{plain_line, plain_trace}
 use Rattle.pass_report.specs.Standings.{lines_in, HasLooked}
-use Rattle.pass_report.proofs.Reading.{look_next, line_at, one_line}
+use Rattle.pass_report.proofs.Reading.{look_next, line_at, one_line, more_or_same}
 use Rattle.pass_report.proofs.standing.Standing.look.Goals as goal
-
-more_or_same : (b : Bool) (n m i : ℕ) → m ≡ (if b then n + 1 else n) → n ≤ i → m ≤ i + 1
-more_or_same true n m i is few = omega (arith, is, few)
-more_or_same false n m i is few = omega (arith, is, few)
 
 pub loop-line-preserved : goal.loop-line-preserved
 loop-line-preserved c =

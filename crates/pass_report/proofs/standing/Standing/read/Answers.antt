@@ -1,15 +1,11 @@
-use Rattle.std.proofs.Common.{◌≡◌, ◌+◌, ◌≤◌, ◌==◌, ℕ, suc, Bool, true, false, List, take, drop, sym, subst, ◌∙◌, arith}
-use Rattle.std.specs.Prelude.{if◌then◌else◌}
+use Rattle.std.proofs.Common.{◌==◌, suc, List, take, drop, sym, subst, ◌∙◌, arith}
 use Rattle.std.proofs.lemmas.List.{take_all, length-map}
 use Rattle.pass_plain.specs.Traces.{Line}
 use Rattle.pass_trace.specs.TraceLines.{plain_line, plain_trace}
 use Rattle.pass_report.specs.Standings.{lines_in, HasRead}
-use Rattle.pass_report.proofs.Reading.{read_next, line_at, parted, one_line}
+use Rattle.pass_report.proofs.Reading.{read_next, line_at, one_line, more_or_same}
 use Rattle.pass_report.proofs.standing.Standing.read.Goals as goal
-
-more_or_same : (b : Bool) (n m i : ℕ) → m ≡ (if b then n + 1 else n) → n ≤ i → m ≤ i + 1
-more_or_same true n m i is few = omega (arith, is, few)
-more_or_same false n m i is few = omega (arith, is, few)
+use Rattle.pass_entry.proofs.Places.{parted}
 
 pub loop-line-preserved : goal.loop-line-preserved
 loop-line-preserved c =

@@ -1,7 +1,7 @@
 use Rattle.std.proofs.Common.{ℕ, [], ◌∷◌, ◌++◌, sym, ◌∙◌, ap, subst, arith}
 use Rattle.pass_plain.specs.Lineages.{Lineage, IsAlike, lineage_after}
+use Rattle.pass_plain.proofs.LastNodes.{versions_low}
 use Rattle.pass_report.specs.Trails.{lineage_in}
-use Rattle.pass_report.proofs.Openings.{versions_low}
 use Rattle.pass_report.proofs.Trailing.{objects_next, nodes_next, turn_next}
 use Rattle.pass_report.proofs.trail.Trail.note.Goals as goal
 

@@ -7,8 +7,9 @@ use Rattle.pass_standby.specs.declared.frame.Judgement.TheVariants.{Whole}
 use Rattle.pass_standby.specs.Logs.{IsBatch}
 use Rattle.pass_standby.specs.Streams.{head, batch_in, judged}
 use Rattle.pass_standby.specs.Standing.{told_so_far, IsKept}
-use Rattle.pass_standby.proofs.Keeping.{IsNotRead, store_same, work_none, work_as, moments_with, stopped_with, kept_with, told_with, undone_with, undone_before, undone_unread, unread_no_fault}
+use Rattle.pass_standby.proofs.Keeping.{IsNotRead, work_none, work_as, moments_with, stopped_with, kept_with, told_with, undone_with, undone_before, undone_unread, unread_no_fault}
 use Rattle.pass_standby.proofs.following.Following.keep.Goals as goal
+use Rattle.pass_log.proofs.Append.{leaves_none}
 
 pub returns-in-Err-clause-err : goal.returns-in-Err-clause-err
 returns-in-Err-clause-err g c =
@@ -21,7 +22,7 @@ pub returns-in-Err-clause-any_moment : goal.returns-in-Err-clause-any_moment
 returns-in-Err-clause-any_moment g c = λ told. adds_nothing _ _
 
 pub returns-in-Err-clause-store : goal.returns-in-Err-clause-store
-returns-in-Err-clause-store g c = store_same _
+returns-in-Err-clause-store g c = leaves_none _
 
 pub returns-in-Err-clause-work : goal.returns-in-Err-clause-work
 returns-in-Err-clause-work g c =

@@ -1,8 +1,10 @@
 use Rattle.std.proofs.Common.{rules, ◌≡◌, ◌⊎◌, refl, sym, subst, ap}
 use Rattle.std.specs.Prelude.{OnOk, IfErr, IsTrue}
+use Rattle.std.proofs.lemmas.Result.{on_ok_weaker}
 use Rattle.pass_outside.specs.Moments.{Adds}
 use Rattle.pass_outside.specs.Runs.{adds_nothing}
 use Rattle.pass_log.specs.Log.{log_end}
+use Rattle.pass_log.proofs.Append.{leaves_none}
 use Rattle.pass_standby.specs.declared.fault.StandbyFault.TheVariants as faults
 use Rattle.pass_standby.specs.declared.frame.Judgement.{Judgement}
 use Rattle.pass_standby.specs.declared.frame.Judgement.TheVariants.{Begun, Bad, Whole}
@@ -10,7 +12,6 @@ use Rattle.pass_standby.specs.Streams.{judgement, judged, IsBegun, HasFrames}
 use Rattle.pass_standby.specs.Standing.{told_so_far, Undone}
 use Rattle.pass_standby.proofs.Coming.{begun_is}
 use Rattle.pass_standby.proofs.Feeding.{begun_none}
-use Rattle.pass_standby.proofs.Keeping.{store_same, ok_so}
 use Rattle.pass_standby.proofs.following.Following.settle.Goals as goal
 
 pub returns-in-Begun-clause-told : goal.returns-in-Begun-clause-told
@@ -29,13 +30,13 @@ pub returns-in-Begun-clause-any_moment : goal.returns-in-Begun-clause-any_moment
 returns-in-Begun-clause-any_moment g c = λ told. adds_nothing _ _
 
 pub returns-in-Begun-clause-store : goal.returns-in-Begun-clause-store
-returns-in-Begun-clause-store g c = store_same _
+returns-in-Begun-clause-store g c = leaves_none _
 
 pub returns-in-Bad-clause-any_moment : goal.returns-in-Bad-clause-any_moment
 returns-in-Bad-clause-any_moment g c = λ told. adds_nothing _ _
 
 pub returns-in-Bad-clause-store : goal.returns-in-Bad-clause-store
-returns-in-Bad-clause-store g c = store_same _
+returns-in-Bad-clause-store g c = leaves_none _
 
 pub returns-in-Bad-clause-err : goal.returns-in-Bad-clause-err
 returns-in-Bad-clause-err g c =
@@ -59,7 +60,7 @@ returns-in-Whole-clause-told g c =
 
 pub returns-in-Whole-clause-begun : goal.returns-in-Whole-clause-begun
 returns-in-Whole-clause-begun g c =
-    ok_so _ _ c.keep.result (λ none. subst (IsBegun (log_end c.keep.new.self.log)) (sym none) (begun_none (log_end c.keep.new.self.log))) c.keep.ensures.begun
+    on_ok_weaker c.keep.result (λ none. subst (IsBegun (log_end c.keep.new.self.log)) (sym none) (begun_none (log_end c.keep.new.self.log))) c.keep.ensures.begun
 
 pub returns-in-Whole-clause-err : goal.returns-in-Whole-clause-err
 returns-in-Whole-clause-err g c =

@@ -1,11 +1,12 @@
 use Rattle.std.proofs.Common.{refl, sym, ◌∙◌, arith}
 use Rattle.pass_outside.specs.Runs.{adds_nothing, adds_weaker}
 use Rattle.pass_log.specs.Log.{log_end}
+use Rattle.pass_log.proofs.Append.{leaves_none}
 use Rattle.pass_standby.specs.declared.fault.StandbyFault.TheVariants as faults
 use Rattle.pass_standby.specs.Streams.{HasSomeFrames}
 use Rattle.pass_standby.specs.Standing.{told_so_far}
 use Rattle.pass_standby.proofs.Feeding.{taken_so, before_so, whole_so, some_so, used_within, used_some, undone_ends, starves_none, some_of_both}
-use Rattle.pass_standby.proofs.Keeping.{store_same, work_none, work_as, work_err}
+use Rattle.pass_standby.proofs.Keeping.{work_none, work_as, work_err}
 use Rattle.pass_standby.proofs.following.Following.take.Goals as goal
 
 pub returns-in_default-clause-err : goal.returns-in_default-clause-err
@@ -18,7 +19,7 @@ pub returns-in_default-clause-any_moment : goal.returns-in_default-clause-any_mo
 returns-in_default-clause-any_moment g c = λ told. adds_nothing _ _
 
 pub returns-in_default-clause-store : goal.returns-in_default-clause-store
-returns-in_default-clause-store g c = store_same _
+returns-in_default-clause-store g c = leaves_none _
 
 pub settle-requires-clause-some : goal.settle-requires-clause-some
 settle-requires-clause-some g c =

@@ -1,8 +1,9 @@
 use Rattle.std.proofs.Common.{◌∙◌, ⊎_elim, ℕ, List, length, ap, arith}
 use Rattle.pass_table.specs.Tables.{BlocksView, flat}
 use Rattle.pass_table.proofs.Flats.{starts, flat_length}
-use Rattle.pass_table.proofs.Growing.{zero_more, seen_more, on_err}
+use Rattle.pass_table.proofs.Growing.{zero_more, seen_more}
 use Rattle.pass_table.proofs.blocks.Blocks.reserve.Goals as goal
+use Rattle.pass_entry.proofs.Variants.{err_always}
 
 pub returns-in_err-lengthen-clause-bytes : goal.returns-in_err-lengthen-clause-bytes
 returns-in_err-lengthen-clause-bytes c =
@@ -19,7 +20,7 @@ returns-in_err-lengthen-clause-err c =
     let low = v.low in
     let long = flat_length 4096 i.table.items v.whole ∙ starts (length i.table.items) in
     let seen = seen_more (flat i.table.items) (flat c.lengthen.new.table.items) i.size (omega (arith, low, long)) c.lengthen.ensures.flat in
-    on_err c.from_residual-in_err-lengthen.result (ap (λ (bytes : List ℕ). let w : BlocksView = record { bytes = bytes; room = i.room } in w) seen ∙ c.self.view_is)
+    err_always c.from_residual-in_err-lengthen.result _ (ap (λ (bytes : List ℕ). let w : BlocksView = record { bytes = bytes; room = i.room } in w) seen ∙ c.self.view_is)
 
 pub invariant_of-self-2 : goal.invariant_of-self-2
 invariant_of-self-2 c =

@@ -3,8 +3,8 @@ use Rattle.std.proofs.lemmas.List.{take_more}
 use Rattle.pass_entry.specs.declared.record.Record.{Record}
 use Rattle.pass_plain.specs.WellLogged.{first_flaw_after}
 use Rattle.pass_view.specs.Facts.{AreFacts}
-use Rattle.pass_view.proofs.Tagging.{fine_at}
 use Rattle.pass_view.proofs.facts.Facts.of.Goals as goal
+use Rattle.pass_waldo.proofs.Loading.{fine_at}
 
 pub loop-one-init : goal.loop-one-init
 loop-one-init c = record { facts = c.new-facts.ensures; rest = c.requires }

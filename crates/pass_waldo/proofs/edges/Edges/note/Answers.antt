@@ -1,8 +1,8 @@
 use Rattle.std.proofs.Common.{◌≤◌, ◌-◌, inl, inr, refl, subst, arith}
 use Rattle.pass_entry.specs.declared.objects.Node.{Node}
+use Rattle.pass_entry.proofs.Variants.{on_both}
 use Rattle.pass_waldo.specs.Index.{IsNumbered}
 use Rattle.pass_waldo.proofs.Indexing.{edge_added, edges_stay}
-use Rattle.pass_waldo.proofs.Loading.{on_both}
 use Rattle.pass_waldo.proofs.edges.Edges.note.Goals as goal
 
 pub returns-in-Input : goal.returns-in-Input

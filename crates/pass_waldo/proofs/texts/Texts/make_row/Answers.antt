@@ -4,8 +4,9 @@ use Rattle.std.specs.HashMap.{UpdatesBy}
 use Rattle.pass_waldo.specs.declared.texts.Texts.{Texts}
 use Rattle.pass_waldo.specs.declared.texts.Row.{Row}
 use Rattle.pass_waldo.specs.Texts.{is_text}
-use Rattle.pass_waldo.proofs.Texting.{same_key, row_made}
+use Rattle.pass_waldo.proofs.Texting.{row_made}
 use Rattle.pass_waldo.proofs.texts.Texts.make_row.Goals as goal
+use Rattle.pass_graph.proofs.Adding.{same_key}
 
 pub returns-in_ok-insert-clause-same : goal.returns-in_ok-insert-clause-same
 returns-in_ok-insert-clause-same c =

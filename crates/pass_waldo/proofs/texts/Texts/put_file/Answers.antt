@@ -4,8 +4,9 @@ use Rattle.std.specs.Ordering.{nat_cmp}
 use Rattle.std.specs.BTreeSet.{insert_key}
 use Rattle.pass_waldo.specs.declared.texts.Texts.{Texts}
 use Rattle.pass_waldo.specs.declared.texts.Row.{Row}
-use Rattle.pass_waldo.proofs.Texting.{on_ok, files_change, values_stay}
+use Rattle.pass_waldo.proofs.Texting.{files_change, values_stay}
 use Rattle.pass_waldo.proofs.texts.Texts.put_file.Goals as goal
+use Rattle.pass_entry.proofs.Variants.{on_ok}
 
 pub returns-in-Some-clause-files : goal.returns-in-Some-clause-files
 returns-in-Some-clause-files c =

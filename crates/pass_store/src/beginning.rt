@@ -20,7 +20,7 @@ use pass_proc::{Living, Proc};
 use pass_safe::Safe;
 use pass_session::{Blank, Held, Opened};
 use std::alloc::{AllocError, Global};
-use std::collections::HashMap;
+use std::collections::{BTreeSet, HashMap};
 use std::sync::Mutex;
 
 /// Where the objects of a session lie, each in a lock of its own.
@@ -156,6 +156,7 @@ impl<'g, J: Opening, D: Disk, G: Gate> Store<'g, J, D, G> {
             opened,
             locks,
             vault: Mutex::new(Cellar::new(safe)),
+            changed: Mutex::new(BTreeSet::new(alloc)),
             gate,
         };
         Ok((store, first))

@@ -135,8 +135,10 @@ impl<'g, J: Opening, D: Disk, G: Gate> Store<'g, J, D, G> {
             list,
             locks,
             vault,
+            changed,
             ..
         } = self;
+        drop(changed);
         let Locks {
             slots,
             opened: places,
@@ -174,8 +176,10 @@ impl<'g, J: Opening, D: Disk, G: Gate> Store<'g, J, D, G> {
             list,
             locks,
             vault,
+            changed,
             ..
         } = self;
+        drop(changed);
         let Locks {
             slots,
             opened: places,

@@ -93,7 +93,7 @@ impl<J: Whose> Locks<J> {
     }
 
     /// The lock of an object.
-    fn slot(&self, object: Pnode) -> Option<&Mutex<Slot<J>>> {
+    pub(crate) fn slot(&self, object: Pnode) -> Option<&Mutex<Slot<J>>> {
         self.slots.get(self.index(object)?)
     }
 

@@ -12,11 +12,12 @@ use crate::cellar::Cellar;
 use crate::ground::Opening;
 use crate::locks::Locks;
 use pass_calls::{CallEnd, refused};
-use pass_entry::{Ask, CallFault, CallName, Record};
+use pass_entry::{Ask, CallFault, CallName, Pnode, Record};
 use pass_outside::{Disk, Gate};
 use pass_plain::Start;
 use pass_proc::Proc;
 use std::alloc::Global;
+use std::collections::BTreeSet;
 use std::sync::{Mutex, Wait};
 
 /// A store that threads share. Each call is made for a process that one thread drives.
@@ -30,6 +31,8 @@ pub struct Store<'g, J: Opening, D: Disk, G: Gate> {
     pub opened: u64,
     pub(crate) locks: Locks<J>,
     pub(crate) vault: Mutex<Cellar<J, D>>,
+    /// The files that may have changed blocks which no `trickle` has looked for yet. Nothing else is locked while this is held.
+    pub(crate) changed: Mutex<BTreeSet<Pnode>>,
     pub(crate) gate: &'g G,
 }
 
@@ -52,5 +55,11 @@ impl<'g, J: Opening, D: Disk, G: Gate> Store<'g, J, D, G> {
     {
         let mut shelf = self.locks.book.lock(rt);
         refused(alloc, &mut shelf, proc, call, ask, fault)
+    }
+
+    /// Notes a file that is about to change. One that memory has no room to note is looked for after its next change, or at the end.
+    pub(crate) fn note_changed<R: Wait>(&self, rt: &R, file: Pnode) {
+        let mut changed = self.changed.lock(rt);
+        drop(changed.insert(file));
     }
 }

@@ -17,6 +17,7 @@ use crate::store::Store;
 use pass_calls::{CallEnd, Moved};
 use pass_entry::{Ask, Bytes, CallName};
 use pass_file::FileDesk;
+use pass_flow::Versioned;
 use pass_outside::{Disk, Gate};
 use pass_pipe::PipeDesk;
 use pass_proc::Proc;
@@ -174,6 +175,7 @@ impl<'g, J: Opening, D: Disk, G: Gate> Store<'g, J, D, G> {
         ensures call { Answers J.book.session J.places proc.old proc.new (requests.Write fd bytes.now) result }
         ensures what { file.new.what ≡ file.old.what }
     {
+        self.note_changed(rt, file.what());
         let ready = pass_calls::ready_write(alloc, file, proc, fd, bytes)?;
         let mut shelf = self.locks.book.lock(rt);
         pass_calls::write_file(alloc, file, &mut shelf, proc, fd, ready)
@@ -195,6 +197,7 @@ impl<'g, J: Opening, D: Disk, G: Gate> Store<'g, J, D, G> {
         ensures call { Answers J.book.session J.places proc.old proc.new (requests.Truncate fd size) result }
         ensures what { file.new.what ≡ file.old.what }
     {
+        self.note_changed(rt, file.what());
         let list = pass_calls::ready_cut(alloc, file, size)?;
         let mut shelf = self.locks.book.lock(rt);
         pass_calls::truncate(alloc, file, &mut shelf, proc, fd, size, list)

@@ -8,12 +8,14 @@ use crate::ground::Opening;
 use crate::slot::Slot;
 use crate::store::Store;
 use pass_calls::CallEnd;
+use pass_entry::Pnode;
 use pass_file::FileDesk;
 use pass_hold::Shelf;
 use pass_outside::{Disk, Gate};
 use pass_safe::SafeFault;
 use pass_vault::Receipt;
-use std::alloc::Global;
+use std::alloc::{AllocError, Global};
+use std::collections::BTreeSet;
 use std::mem;
 use std::sync::{Mutex, Wait};
 
@@ -61,6 +63,12 @@ fn stage_in<R: Wait, J: Opening, D: Disk>(
     }
 }
 
+/// Adds a file to a list.
+fn list(files: &mut BTreeSet<Pnode>, file: Pnode) -> Result<(), AllocError> {
+    files.insert(file)?;
+    Ok(())
+}
+
 impl<'g, J: Opening, D: Disk, G: Gate> Store<'g, J, D, G> {
     /// Makes the entries durable that were made before. Registry and book are free while the disk is at work.
     fn flush_entries<R: Wait>(&self, rt: &R, alloc: Global) -> Result<Receipt, SafeFault>
@@ -71,19 +79,57 @@ impl<'g, J: Opening, D: Disk, G: Gate> Store<'g, J, D, G> {
         vault.flush_history(rt, alloc, &self.locks.book, registry)
     }
 
-    /// Lets changed blocks of the file that lies in a lock wait in memory.
-    fn stage_lock<R: Wait>(
+    /// Lets changed blocks of a file wait in memory.
+    fn stage_object<R: Wait>(
         &self,
         rt: &R,
         alloc: Global,
-        lock: &Mutex<Slot<J>>,
+        file: Pnode,
         limit: u32,
     ) -> Result<u32, SafeFault>
         ensures few { IfOk result (λ n. n ≤ limit) }
         ensures fault { IfErr result (IsFaultSince D.view J.ground.opened) }
     {
+        let Some(lock) = self.locks.slot(file) else {
+            return Ok(0);
+        };
         let mut slot = lock.lock(rt);
         stage_in(rt, alloc, &mut slot, &self.vault, &self.locks.book, limit)
+    }
+
+    /// Takes the list of changed files, which is empty then.
+    fn take_changed<R: Wait>(&self, rt: &R, alloc: Global) -> BTreeSet<Pnode> {
+        let mut changed = self.changed.lock(rt);
+        mem::replace(&mut *changed, BTreeSet::new(alloc))
+    }
+
+    /// Lists these files again.
+    fn keep_changed<R: Wait>(&self, rt: &R, files: BTreeSet<Pnode>) -> Result<(), AllocError> {
+        let mut files = files;
+        let mut changed = self.changed.lock(rt);
+        changed.append(&mut files)
+    }
+
+    /// Lets changed blocks of these files wait in memory, until they are so many in all. It takes those from the list that have no more.
+    fn stage_listed<R: Wait>(
+        &self,
+        rt: &R,
+        alloc: Global,
+        files: &mut BTreeSet<Pnode>,
+        limit: u32,
+    ) -> Result<u32, SafeFault>
+        ensures few { IfOk result (λ n. n ≤ limit) }
+        ensures fault { IfErr result (IsFaultSince D.view J.ground.opened) }
+    {
+        let mut staged = 0;
+        while let Some(file) = files.pop_first() {
+            staged += self.stage_object(rt, alloc, file, limit - staged)?;
+            if staged == limit {
+                list(files, file)?;
+                return Ok(staged);
+            }
+        }
+        Ok(staged)
     }
 
     /// Lets changed blocks wait in memory, by ascending numbers of the files, until they are so many in all.
@@ -91,14 +137,10 @@ impl<'g, J: Opening, D: Disk, G: Gate> Store<'g, J, D, G> {
         ensures few { IfOk result (λ n. n ≤ limit) }
         ensures fault { IfErr result (IsFaultSince D.view J.ground.opened) }
     {
-        let mut staged = 0;
-        for lock in self.locks.slots.iter() {
-            if staged == limit {
-                return Ok(staged);
-            }
-            staged += self.stage_lock(rt, alloc, lock, limit - staged)?;
-        }
-        Ok(staged)
+        let mut files = self.take_changed(rt, alloc);
+        let staged = self.stage_listed(rt, alloc, &mut files, limit);
+        self.keep_changed(rt, files)?;
+        staged
     }
 
     /// Makes the entries durable, and then lets changed blocks wait.

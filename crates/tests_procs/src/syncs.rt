@@ -56,23 +56,28 @@ fn a_needless_sync_has_no_device_call(rt: HostRuntime) -> Result<(), Fail> {
     Ok(())
 }
 
-/// A block that is changed is put aside once.
-fn aside() -> [Row; 4] {
+/// Blocks that have changed are put aside once, and no more at a time than are asked for.
+fn aside() -> [Row; 8] {
     [
         (0, Call::Creat(3, b'a'), Answer::Made(2)),
+        (0, Call::Creat(4, b'b'), Answer::Made(3)),
+        (0, Call::Write(3, b'x', 4_096), Answer::Wrote(4_096, 2, 1)),
         (0, Call::Write(3, b'x', 3), Answer::Wrote(3, 2, 1)),
-        (0, Call::Trickle(8), Answer::Number(1)),
+        (0, Call::Write(4, b'y', 3), Answer::Wrote(3, 3, 1)),
+        (0, Call::Trickle(1), Answer::Number(1)),
+        (0, Call::Trickle(8), Answer::Number(2)),
         (0, Call::Trickle(8), Answer::Number(0)),
     ]
 }
 
-/// The device has nine calls before the first call of a process, four for the frame, and two for the block as the store is settled.
+/// The device has nine calls before the first call of a process, four for the frame, and one for each block and each file as the store
+/// is settled.
 #[test]
 fn a_block_that_was_put_aside_is_written_at_the_end(rt: HostRuntime) -> Result<(), Fail> {
     let alloc = rt.alloc();
-    let told = told_of(&rt, alloc, new_disk(alloc)?, 2, 1_000, &aside())?;
+    let told = told_of(&rt, alloc, new_disk(alloc)?, 3, 1_000, &aside())?;
     compare(&rt, &told.answers, &aside());
     assert!(rt; told.finished.settled.is_ok());
-    assert!(rt; told.finished.closed.disk.calls() == 15);
+    assert!(rt; told.finished.closed.disk.calls() == 18);
     Ok(())
 }

@@ -94,7 +94,7 @@ impl Claim {
 }
 
 /// Fewer places are left than are needed.
-#[derive(Clone, Copy, Debug, PartialEq, Eq)]
+#[derive(Clone, Copy, PartialEq, Eq)]
 pub struct Full {
     pub left: u32,
     pub need: u32,

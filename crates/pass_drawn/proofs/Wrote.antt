@@ -10,7 +10,8 @@ use Rattle.pass_plain.specs.Histories.{call_entries, is_fault}
 use Rattle.pass_plain.specs.Sessions.{Session}
 use Rattle.pass_plain.specs.Traces.{Line, LineCall, given, write_last, fork_as, wait_for, name_of_call, calls_of}
 use Rattle.pass_plain.specs.Runs.{IsRun}
-use Rattle.pass_report.specs.Reports.{is_answered, outline}
+use Rattle.pass_plain.specs.Outlines.{outline}
+use Rattle.pass_report.specs.Reports.{is_answered}
 use Rattle.pass_replay.specs.Ends.{NoneOpen}
 use Rattle.pass_trace.specs.declared.trace.Command.{Command}
 use Rattle.pass_trace.specs.declared.trace.Command.TheVariants as command

@@ -4,7 +4,7 @@ use Rattle.pass_entry.specs.declared.entry.Entry.{Entry}
 use Rattle.pass_plain.specs.declared.start.Start.{Start}
 use Rattle.pass_plain.specs.Sessions.{Session}
 use Rattle.pass_plain.specs.Runs.{IsRun}
-use Rattle.pass_report.specs.Reports.{SameButBytes}
+use Rattle.pass_plain.specs.Outlines.{SameButBytes}
 use Rattle.pass_replay.specs.Ends.{NoneOpen, IsStuck}
 use Rattle.pass_drawn.specs.Runs.{drawn_trace}
 use Rattle.pass_trace.specs.TraceLines.{session_of_trace}

@@ -1,4 +1,10 @@
 //! Traces that are drawn from a number, so that anybody can make the same work again.
+//!
+//! `generate` gives exactly the trace of its number and its count of lines, line by line (`trace`): the file, the seven forks, for
+//! each drawn line the next word of the generator PCG XSH RR 64/32, which the number seeds, and the seven waits. What that
+//! generator draws is `rand_pcg`'s contract. With 15 to 100,000 lines it is the trace of the text that is written of it
+//! (`laws::generated_is_read`), so a run may take it as a trace that was read. Beside the proof the first hundred lines for 0, 1
+//! and 2^64 - 1 are compared with what a short program draws that shares no code with this crate (`crates/tests_gen/draw.py`).
 #![tactic(auto)]
 
 ghost use Rattle.std.specs.Prelude.{◌≡◌, ◌+◌, ◌-◌, ◌≤◌, ◌<◌, ◌++◌, IfOk, OnOk, codes, replicate};

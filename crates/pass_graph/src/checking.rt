@@ -17,13 +17,13 @@ use std::collections::HashMap;
 
 /// The versions of a list's objects in the order in which the list makes them, each with a number that is greater than
 /// those of all versions to which it has an edge.
-#[derive(Debug, Drop)]
+#[derive(Drop)]
 pub struct Ranks {
     pub places: Vec<(Node, u64)>,
 }
 
 /// Why a list got no ranks.
-#[derive(Clone, Copy, Debug, PartialEq, Eq, Drop)]
+#[derive(Clone, Copy, PartialEq, Eq, Drop)]
 pub enum CheckFault {
     /// The list isn't well logged: the place of the first record that may not stand there, and its first reason.
     Flaw { place: u64, reason: FlawReason },

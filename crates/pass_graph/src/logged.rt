@@ -18,7 +18,7 @@ use std::collections::{HashMap, HashSet};
 const CEILING_STEP: u64 = 8192;
 
 /// What a list of records says of one object.
-#[derive(Clone, Copy, Debug, PartialEq, Eq)]
+#[derive(Clone, Copy, PartialEq, Eq)]
 pub struct Told {
     pub kind: Kind,
     /// The current version.

@@ -4,6 +4,7 @@
 //! processes hold. A [`Caller`] is a process at work. It makes an entry with the shelf and the desk of the entry's object in hand.
 #![tactic(auto)]
 
+mod blank;
 mod caller;
 mod claims;
 mod entering;
@@ -11,6 +12,7 @@ pub mod laws;
 mod shelf;
 pub mod whose;
 
+pub use blank::Blank;
 pub use caller::Caller;
 pub use shelf::Shelf;
 pub use whose::Whose;

@@ -6,7 +6,7 @@ use pass_outside::Failed;
 use std::io;
 
 /// How many device calls there were, and how many of them failed.
-#[derive(Debug, Drop)]
+#[derive(Drop)]
 pub struct Counts {
     pub calls: u64,
     pub faults: u64,

@@ -8,7 +8,7 @@ use std::fs::TryLockError;
 use std::io;
 
 /// The folder or one of its files can't be opened, or memory was refused.
-#[derive(Clone, Copy, Debug, PartialEq, Eq, Drop)]
+#[derive(Clone, Copy, PartialEq, Eq, Drop)]
 pub enum HostFault {
     Failed,
     NoMemory,

@@ -5,11 +5,11 @@ ghost use Rattle.std.specs.Int.{w16, w32, w64, to_be_bytes};
 use std::marker::Model;
 
 /// Fewer bytes are left than a field has.
-#[derive(Clone, Copy, Debug, PartialEq, Eq)]
+#[derive(Clone, Copy, PartialEq, Eq)]
 pub struct Short;
 
 /// The bytes that are left to read, seen as a list of bytes.
-#[derive(Debug, Drop)]
+#[derive(Drop)]
 pub struct Cursor<'a> {
     left: &'a [u8],
 }

@@ -5,7 +5,7 @@ use std::alloc::{AllocError, Global};
 use std::marker::Model;
 
 /// Both areas of a disk in memory.
-#[derive(Debug, Drop)]
+#[derive(Drop)]
 pub struct Areas {
     log: Content,
     store: Content,

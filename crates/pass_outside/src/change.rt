@@ -2,7 +2,7 @@
 use crate::Area;
 
 /// What a device call made of an area.
-#[derive(Debug, Drop)]
+#[derive(Drop)]
 pub enum Change {
     Wrote { at: u64, bytes: Vec<u8> },
     Cut { len: u64 },
@@ -10,7 +10,7 @@ pub enum Change {
 }
 
 /// A change, and the number of the device call that made it.
-#[derive(Debug, Drop)]
+#[derive(Drop)]
 pub struct Event {
     pub call: u64,
     pub area: Area,

@@ -6,7 +6,7 @@ use std::alloc::{AllocError, Global};
 use std::marker::Model;
 
 /// The bytes of an area, in blocks, so that gaps take no memory.
-#[derive(Debug, Drop)]
+#[derive(Drop)]
 pub struct Content {
     blocks: Vec<Vec<u8>>,
     len: usize,

@@ -11,7 +11,7 @@ pub trait Gate {
 }
 
 /// Returns at once, and so holds nobody back.
-#[derive(Clone, Copy, Debug)]
+#[derive(Clone, Copy)]
 pub struct OpenGate;
 
 impl Gate for OpenGate {

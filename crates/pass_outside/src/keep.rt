@@ -9,7 +9,7 @@ use crate::change::{Change, Event};
 use std::alloc::{AllocError, Global};
 
 /// What a crash leaves of the changes since the last sync of their area.
-#[derive(Clone, Copy, Debug, PartialEq, Eq)]
+#[derive(Clone, Copy, PartialEq, Eq)]
 pub enum Keep {
     /// Nothing: the area stays as it was last synced.
     Old,

@@ -11,7 +11,7 @@ use crate::{Area, Disk, Failed};
 use std::alloc::{AllocError, Global};
 
 /// Two areas in memory, in blocks, and a list of all writes, cuts and syncs, from which a crash image is made.
-#[derive(Debug, Drop)]
+#[derive(Drop)]
 pub struct MemDisk {
     alloc: Global,
     first: Areas,

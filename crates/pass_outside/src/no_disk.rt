@@ -5,7 +5,7 @@ ghost use Rattle.pass_outside.specs.Faults.{count_end};
 use crate::{Area, Disk, Failed};
 
 /// Stands where a call takes a disk and there is none: every device call fails.
-#[derive(Debug, Drop)]
+#[derive(Drop)]
 pub struct NoDisk {
     calls: u64,
 }

@@ -4,7 +4,7 @@ use crate::due::is_to_fail;
 use std::marker::Model;
 
 /// The listed calls and the stop, and the counts of calls, of faults and of calls that found no memory.
-#[derive(Debug, Drop)]
+#[derive(Drop)]
 pub struct Plan {
     fail: Vec<u64>,
     stop: Option<u64>,

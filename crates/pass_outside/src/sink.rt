@@ -10,7 +10,7 @@ use crate::{Failed, Sink};
 use std::alloc::Global;
 
 /// Keeps the bytes that it takes. The calls whose numbers, from 1, are listed fail and change nothing.
-#[derive(Debug, Drop)]
+#[derive(Drop)]
 pub struct MemSink {
     taken: Vec<u8>,
     step: Option<u32>,

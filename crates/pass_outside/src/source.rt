@@ -9,7 +9,7 @@ use crate::step::of_step;
 use crate::{Failed, Source};
 
 /// Gives its bytes from the front. The calls whose numbers, from 1, are listed fail and change nothing.
-#[derive(Debug, Drop)]
+#[derive(Drop)]
 pub struct MemSource {
     bytes: Vec<u8>,
     at: usize,

@@ -10,7 +10,7 @@ pub trait Watch {
 }
 
 /// A disk that hands each call on to another, and tells a watch of each write before.
-#[derive(Debug, Drop)]
+#[derive(Drop)]
 pub struct WatchDisk<D, W> {
     inner: D,
     watch: W,

@@ -8,7 +8,7 @@ use pass_entry::Text;
 use std::alloc::{AllocError, Global};
 
 /// What a search does at a place of the code.
-#[derive(Debug, Drop)]
+#[derive(Drop)]
 pub(crate) enum Instruction {
     /// A path of the shape ends here.
     Found,
@@ -24,7 +24,7 @@ pub(crate) enum Instruction {
 }
 
 /// The code of a pattern.
-#[derive(Debug, Drop)]
+#[derive(Drop)]
 pub(crate) struct Code {
     pub(crate) instructions: Vec<Instruction>,
     /// Where a path begins.

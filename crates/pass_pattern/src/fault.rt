@@ -2,7 +2,7 @@
 use std::alloc::AllocError;
 
 /// Why a text is no pattern.
-#[derive(Clone, Copy, Debug, PartialEq, Eq, Drop)]
+#[derive(Clone, Copy, PartialEq, Eq, Drop)]
 pub enum PatternFault {
     /// It has more than 255 bytes, or more than 64 nested parentheses.
     Long,

@@ -2,7 +2,7 @@
 use pass_entry::Text;
 
 /// Which edges a step of a path may take.
-#[derive(Clone, Copy, Debug, PartialEq, Eq)]
+#[derive(Clone, Copy, PartialEq, Eq)]
 pub enum EdgeTest {
     /// To a node of another object; written `i`.
     Other,
@@ -15,7 +15,7 @@ pub enum EdgeTest {
 /// The shape of a path.
 ///
 /// A drop goes down the tree, and so does what compiles it: a pattern that was read from a text is at most 255 deep.
-#[derive(Debug, Drop)]
+#[derive(Drop)]
 pub enum Pattern {
     /// One edge that passes the test, where there is a name to a node whose object a record gave it.
     One { edge: EdgeTest, name: Option<Text> },

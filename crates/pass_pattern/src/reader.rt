@@ -14,7 +14,7 @@ use std::alloc::{AllocError, Global};
 const DEPTH_LIMIT: usize = 64;
 
 /// What a byte means outside a name.
-#[derive(Clone, Copy, Debug, PartialEq, Eq)]
+#[derive(Clone, Copy, PartialEq, Eq)]
 pub(crate) enum Mark {
     Letter(EdgeTest),
     Brace,
@@ -27,7 +27,7 @@ pub(crate) enum Mark {
 }
 
 /// Why reading ends early.
-#[derive(Clone, Copy, Debug, PartialEq, Eq, Drop)]
+#[derive(Clone, Copy, PartialEq, Eq, Drop)]
 pub(crate) enum Refusal {
     /// No pattern goes on so.
     Bad,
@@ -49,7 +49,7 @@ impl From<AllocError> for Refusal {
 }
 
 /// What stands between a parenthesis and the place to which it was read.
-#[derive(Debug, Drop)]
+#[derive(Drop)]
 pub(crate) struct Frame {
     /// The alternatives that were closed by a bar.
     alternatives: Option<Pattern>,
@@ -58,7 +58,7 @@ pub(crate) struct Frame {
 }
 
 /// What was read last.
-#[derive(Debug, Drop)]
+#[derive(Drop)]
 pub(crate) enum Place {
     /// Nothing of the next step.
     Start,
@@ -73,7 +73,7 @@ pub(crate) enum Place {
 }
 
 /// What was read of a text.
-#[derive(Debug, Drop)]
+#[derive(Drop)]
 pub(crate) struct Reader {
     place: Place,
     frame: Frame,

@@ -20,7 +20,7 @@ use std::alloc::{AllocError, Global};
 use std::sync::ledger::Ledger;
 
 /// A node with the place of the code at which a search came to it.
-#[derive(Clone, Copy, Debug, PartialEq, Eq, Hash)]
+#[derive(Clone, Copy, PartialEq, Eq, Hash)]
 pub(crate) struct Visit {
     pub(crate) node: Node,
     pub(crate) place: usize,

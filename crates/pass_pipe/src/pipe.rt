@@ -14,7 +14,7 @@ use std::alloc::{AllocError, Global};
 use std::marker::Model;
 
 /// Why a transfer didn't come about.
-#[derive(Clone, Copy, Debug, PartialEq, Eq)]
+#[derive(Clone, Copy, PartialEq, Eq)]
 pub enum PipeEnd {
     /// Nobody can read what would be given, as POSIX's EPIPE.
     BrokenPipe,

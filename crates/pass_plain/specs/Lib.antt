@@ -1,5 +1,6 @@
 pub mod Histories
 pub mod Sessions
+pub mod Outlines
 pub mod Files
 pub mod Pipes
 pub mod Registries

@@ -222,7 +222,8 @@ fn passes_limit(d: &Descriptor, len: u32) -> bool
     d.kind == Kind::File && (d.offset > FILE_LIMIT || d.offset + u64::from(len) > FILE_LIMIT)
 }
 
-fn pipe_end(pnode: Pnode, mode: Mode) -> Descriptor
+/// The descriptor of an end of a new pipe.
+pub fn pipe_end(pnode: Pnode, mode: Mode) -> Descriptor
     ensures { result ≡ pipe_end_of pnode mode }
 {
     Descriptor {
@@ -233,7 +234,8 @@ fn pipe_end(pnode: Pnode, mode: Mode) -> Descriptor
     }
 }
 
-fn move_to(descriptors: &mut Descriptors, fd: u8, at: u64)
+/// Sets the offset of a descriptor, where it is held.
+pub fn move_to(descriptors: &mut Descriptors, fd: u8, at: u64)
     requires { fd < 64 }
     ensures { descriptors.new ≡ changed_at descriptors.old fd (λ d. record d { offset = at }) }
 {
@@ -243,7 +245,7 @@ fn move_to(descriptors: &mut Descriptors, fd: u8, at: u64)
 }
 
 /// A transfer of so many bytes by the descriptor moves the offset of a file.
-fn raise(descriptors: &mut Descriptors, fd: u8, by: u64)
+pub fn raise(descriptors: &mut Descriptors, fd: u8, by: u64)
     requires fits { OffsetsFit descriptors.old }
     requires number { fd < 64 }
     requires short { by < 2 ^ 32 }

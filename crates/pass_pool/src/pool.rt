@@ -11,14 +11,14 @@ use std::marker::Model;
 use std::num::NonZeroUsize;
 
 /// A block of a file, by the file's number.
-#[derive(Clone, Copy, Debug, PartialEq, Eq, Hash)]
+#[derive(Clone, Copy, PartialEq, Eq, Hash)]
 pub struct FileBlock {
     pub number: u32,
     pub block: u32,
 }
 
 /// A block that has left a pool, with its bytes.
-#[derive(Debug, Drop)]
+#[derive(Drop)]
 pub struct Evicted {
     pub number: u32,
     pub block: u32,

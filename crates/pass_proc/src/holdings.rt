@@ -4,12 +4,13 @@ ghost use Rattle.std.specs.FinMap as finite_map;
 ghost use Rattle.std.specs.FinSet as finite_set;
 ghost use Rattle.pass_entry.specs.declared.entry.Ask.TheVariants as ask;
 ghost use Rattle.pass_entry.specs.declared.entry.Entry.{Entry};
-ghost use Rattle.pass_plain.specs.Processes.{new_process, process_act, changed_at, risen, OffsetsFit, AllBelow64, Gains, is_held, pipe_end as pipe_end_of, refusal as refusal_of};
+ghost use Rattle.pass_plain.specs.Processes.{new_process, process_act, OffsetsFit, AllBelow64, Gains, is_held, refusal as refusal_of};
 ghost use Rattle.pass_proc.specs.Acts.{bytes_in, is_of_living, room_needed};
 
 use crate::children::Children;
 use crate::refusals::{cut_fault, fault_if, read_fault, seek_fault, write_fault};
-use pass_entry::{Act, Ask, Bytes, CallFault, Descriptor, Descriptors, Kind, Mode, Pnode};
+use pass_entry::{Act, Ask, Bytes, CallFault, Descriptor, Descriptors, Mode, Pnode};
+use pass_plain::process::{move_to, pipe_end, raise};
 use std::alloc::{AllocError, Global};
 use std::marker::Model;
 
@@ -214,47 +215,5 @@ fn length_of(gained: &Option<Bytes>) -> u64
     match gained {
         Some(bytes) => bytes.as_bytes().len() as u64,
         None => 0,
-    }
-}
-
-fn pipe_end(pnode: Pnode, mode: Mode) -> Descriptor
-    ensures { result ≡ pipe_end_of pnode mode }
-{
-    Descriptor {
-        pnode,
-        kind: Kind::Pipe,
-        mode,
-        offset: 0,
-    }
-}
-
-fn move_to(descriptors: &mut Descriptors, fd: u8, at: u64)
-    requires { fd < 64 }
-    ensures { descriptors.new ≡ changed_at descriptors.old fd (λ d. record d { offset = at }) }
-{
-    if let Some(d) = descriptors.get(fd) {
-        descriptors.put(fd, Descriptor { offset: at, ..d });
-    }
-}
-
-/// A transfer of so many bytes by the descriptor moves the offset of a file.
-fn raise(descriptors: &mut Descriptors, fd: u8, by: u64)
-    requires fits { OffsetsFit descriptors.old }
-    requires number { fd < 64 }
-    requires short { by < 2 ^ 32 }
-    ensures { descriptors.new ≡ changed_at descriptors.old fd (risen by) }
-{
-    if let Some(d) = descriptors.get(fd) {
-        if d.kind == Kind::File {
-            descriptors.put(
-                fd,
-                Descriptor {
-                    offset: d.offset + by,
-                    ..d
-                },
-            );
-        } else {
-            descriptors.put(fd, d);
-        }
     }
 }

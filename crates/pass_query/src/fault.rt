@@ -3,7 +3,7 @@ use pass_entry::Node;
 use std::alloc::AllocError;
 
 /// Why a query on nodes has no answer.
-#[derive(Clone, Copy, Debug, PartialEq, Eq, Drop)]
+#[derive(Clone, Copy, PartialEq, Eq, Drop)]
 pub enum QueryFault {
     /// The first given node that is no version of an object of the log.
     NoObject(Node),

@@ -17,7 +17,7 @@ use std::marker::Brand;
 use std::sync::ledger::{Blank, Ledger};
 
 /// A question to the graph of versions.
-#[derive(Debug, Drop)]
+#[derive(Drop)]
 pub enum Query {
     /// What the node came from.
     Ancestors(Node),
@@ -30,7 +30,7 @@ pub enum Query {
 }
 
 /// How an answer is written.
-#[derive(Clone, Copy, Debug, PartialEq, Eq)]
+#[derive(Clone, Copy, PartialEq, Eq)]
 pub enum Form {
     /// Each node on a line.
     Lines,

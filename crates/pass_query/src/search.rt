@@ -14,7 +14,7 @@ use std::collections::HashSet;
 use std::sync::ledger::Ledger;
 
 /// A node that a search has come to, and the place of the one from which it came there first; 0 for the first node.
-#[derive(Clone, Copy, Debug, PartialEq, Eq)]
+#[derive(Clone, Copy, PartialEq, Eq)]
 pub(crate) struct Reached {
     pub(crate) node: Node,
     pub(crate) before: usize,

@@ -10,7 +10,7 @@ use pass_waldo::Index;
 use std::sync::ledger::Ledger;
 
 /// Which way a walk goes along the edges.
-#[derive(Clone, Copy, Debug, PartialEq, Eq)]
+#[derive(Clone, Copy, PartialEq, Eq)]
 pub(crate) enum Way {
     /// To what a node came from.
     Back,

@@ -6,7 +6,7 @@ use pass_outside::Failed;
 use std::alloc::{AllocError, AllocFailed};
 
 /// The faults of comparing.
-#[derive(Clone, Copy, Debug, PartialEq, Eq, Drop)]
+#[derive(Clone, Copy, PartialEq, Eq, Drop)]
 pub enum RangeFault {
     /// A device call failed.
     DiskFault,

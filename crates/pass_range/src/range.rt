@@ -16,7 +16,7 @@ use pass_plain::bytes_in;
 use std::alloc::{AllocError, Global};
 
 /// A block of a file. Its range is what of the file's bytes lies in it.
-#[derive(Clone, Copy, Debug, PartialEq, Eq, PartialOrd, Ord)]
+#[derive(Clone, Copy, PartialEq, Eq, PartialOrd, Ord)]
 pub struct Range {
     pub pnode: Pnode,
     pub block: u32,

@@ -23,7 +23,7 @@ use std::alloc::{AllocError, Global};
 use std::sync::ledger::Ledger;
 
 /// A node with what made it.
-#[derive(Debug, Drop)]
+#[derive(Drop)]
 pub struct Made {
     /// The node.
     pub node: Node,

@@ -8,7 +8,7 @@ use std::alloc::{AllocError, Global};
 use std::collections::HashMap;
 
 /// A node that isn't listed yet, with its sources, and the place of the next of these at which to look.
-#[derive(Debug, Drop)]
+#[derive(Drop)]
 pub(crate) struct Waiting {
     pub(crate) node: Node,
     pub(crate) sources: Vec<Node>,

@@ -6,7 +6,7 @@ use pass_num::Short;
 use std::alloc::AllocError;
 
 /// The first fault of the bytes: the tag is judged first, then the fields in order.
-#[derive(Clone, Copy, Debug, PartialEq, Eq, Drop)]
+#[derive(Clone, Copy, PartialEq, Eq, Drop)]
 pub enum RecordFault {
     /// A field has fewer bytes left than it has, or there are no bytes at all.
     Short = 1,

@@ -8,6 +8,7 @@ ghost use Rattle.pass_plain.specs.Legal.{CallerAllows, is_start as is_start_of, 
 ghost use Rattle.pass_plain.specs.States.{noted, IsBlank, IsLawful};
 ghost use Rattle.pass_reference.specs.States.{call_of, may_go as may_go_of, IsCaller};
 
+use crate::copying::copied_entry;
 use crate::next::is_next_step;
 use crate::steps::{ends_call, leaves_call};
 use pass_entry::{Act, CallName, Entry, Pnode, Reply};
@@ -37,7 +38,7 @@ fn copied_entries(alloc: Global, made: &[(u64, Entry)]) -> Result<Vec<(u64, Entr
 {
     let mut copies = Vec::new(alloc);
     for (place, entry) in made {
-        copies.push((*place, entry.clone()?))?;
+        copies.push((*place, copied_entry(entry)?))?;
     }
     Ok(copies)
 }
@@ -71,11 +72,11 @@ impl LastCall {
             return Ok(());
         }
         if e.number == self.number {
-            self.made.push((place as u64, e.clone()?))?;
+            self.made.push((place as u64, copied_entry(e)?))?;
             return Ok(());
         }
         let mut made = Vec::new(alloc);
-        made.push((place as u64, e.clone()?))?;
+        made.push((place as u64, copied_entry(e)?))?;
         self.number = e.number;
         self.before = state.clone()?;
         self.made = made;

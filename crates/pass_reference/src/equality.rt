@@ -1,7 +1,7 @@
 //! Whether two acts are the same.
 ghost use Rattle.std.specs.Prelude.{◌≡◌, ◌↔◌, IsTrue};
 
-use pass_entry::{Act, Ask, Bytes, Descriptor, Text};
+use pass_entry::{Act, Ask, Bytes, Descriptor, Reply, Text};
 
 fn same_text(a: &Text, b: &Text) -> bool
     ensures { IsTrue result ↔ (a.now ≡ b.now) }
@@ -18,7 +18,71 @@ fn same_bytes(a: &Bytes, b: &Bytes) -> bool
 fn same_ask(a: Ask, b: Ask) -> bool
     ensures { IsTrue result ↔ (a ≡ b) }
 {
-    a == b
+    match a {
+        Ask::Free { fd } => match b {
+            Ask::Free { fd: other } => fd == other,
+            _ => false,
+        },
+        Ask::FreeTwo { first, second } => match b {
+            Ask::FreeTwo {
+                first: f,
+                second: s,
+            } => first == f && second == s,
+            _ => false,
+        },
+        Ask::Held { fd } => match b {
+            Ask::Held { fd: other } => fd == other,
+            _ => false,
+        },
+        Ask::HeldTwo { first, second } => match b {
+            Ask::HeldTwo {
+                first: f,
+                second: s,
+            } => first == f && second == s,
+            _ => false,
+        },
+        Ask::ToRead { fd } => match b {
+            Ask::ToRead { fd: other } => fd == other,
+            _ => false,
+        },
+        Ask::ToWrite { fd, len } => match b {
+            Ask::ToWrite { fd: f, len: l } => fd == f && len == l,
+            _ => false,
+        },
+        Ask::ToCut { fd, size } => match b {
+            Ask::ToCut { fd: f, size: s } => fd == f && size == s,
+            _ => false,
+        },
+        Ask::ToSeek { fd, at } => match b {
+            Ask::ToSeek { fd: f, at: a } => fd == f && at == a,
+            _ => false,
+        },
+        Ask::Child { pnode } => match b {
+            Ask::Child { pnode: other } => pnode == other,
+            _ => false,
+        },
+    }
+}
+
+/// Both are the same reply.
+pub fn same_reply(a: &Reply, b: &Reply) -> bool
+    ensures { IsTrue result ↔ (a.now ≡ b.now) }
+{
+    match a {
+        Reply::Done => matches!(b, Reply::Done),
+        Reply::Made(pnode) => match b {
+            Reply::Made(other) => *pnode == *other,
+            _ => false,
+        },
+        Reply::Took(bytes) => match b {
+            Reply::Took(other) => same_bytes(bytes, other),
+            _ => false,
+        },
+        Reply::Fault(fault) => match b {
+            Reply::Fault(other) => *fault == *other,
+            _ => false,
+        },
+    }
 }
 
 fn same_descriptor(a: Descriptor, b: Descriptor) -> bool

@@ -4,6 +4,7 @@
 
 mod cache;
 mod callers;
+mod copying;
 mod equality;
 mod file;
 mod judge;
@@ -17,4 +18,5 @@ pub mod steps;
 mod walk;
 
 pub use callers::LastCall;
+pub use equality::same_reply;
 pub use reference::Plain;

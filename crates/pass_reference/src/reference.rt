@@ -10,6 +10,7 @@ ghost use Rattle.pass_reference.specs.States.{call_of};
 
 use crate::cache::StateCache;
 use crate::callers::LastCall;
+use crate::copying::with_reply;
 use crate::walk::records_of;
 use pass_entry::{Entry, Pnode, Record, Reply};
 use pass_plain::{ProcessState, Start};
@@ -125,20 +126,4 @@ impl<'a> Plain<'a> {
         let Plain { history, .. } = self;
         history
     }
-}
-
-/// A copy of the entry with this reply.
-fn with_reply(entry: &Entry, reply: &Reply) -> Result<Entry, AllocError>
-    ensures { IfOk result (λ e. e ≡ record entry.now { reply = reply.now }) }
-{
-    let act = entry.act.clone()?;
-    let reply = reply.clone()?;
-    Ok(Entry {
-        who: entry.who,
-        number: entry.number,
-        call: entry.call,
-        what: entry.what,
-        act,
-        reply,
-    })
 }

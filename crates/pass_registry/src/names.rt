@@ -75,7 +75,8 @@ fn take_out(entries: &mut Vec<(Text, Pnode)>, name: &Text) -> Option<Pnode>
 {
     match place_of(entries, name) {
         Ok(place) => {
-            let (_name, file) = entries.remove(place);
+            let (name, file) = entries.remove(place);
+            drop(name);
             Some(file)
         }
         Err(_) => None,

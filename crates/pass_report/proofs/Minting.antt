@@ -26,7 +26,8 @@ use Rattle.pass_plain.proofs.Replays.{own_step-own, own_step-other, own_step-fau
 use Rattle.pass_plain.proofs.Rows.{Row}
 use Rattle.pass_plain.proofs.Calling.{row}
 use Rattle.pass_plain.proofs.Making.{registry-append, made_reply}
-use Rattle.pass_report.specs.Reports.{SameButBytes, ascending, touched, kind_of}
+use Rattle.pass_plain.specs.Outlines.{SameButBytes}
+use Rattle.pass_report.specs.Reports.{ascending, touched, kind_of}
 use Rattle.pass_report.specs.declared.kinds.Kinds.{Kinds}
 use Rattle.pass_report.specs.Kinds.{made_by, opening_kind, AreKinds}
 use Rattle.pass_report.proofs.Filling.{nothing_in}

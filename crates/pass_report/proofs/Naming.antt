@@ -24,7 +24,7 @@ use Rattle.pass_plain.proofs.Replays.{own_step-own, own_step-other, own_step-fau
 use Rattle.pass_plain.proofs.Rows.{Row}
 use Rattle.pass_plain.proofs.Calling.{row}
 use Rattle.pass_plain.proofs.Making.{registry-append}
-use Rattle.pass_report.specs.Reports.{SameButBytes}
+use Rattle.pass_plain.specs.Outlines.{SameButBytes}
 use Rattle.pass_report.specs.declared.names.Names.{Names}
 use Rattle.pass_report.specs.Names.{holds, AreNames}
 use Rattle.pass_report.proofs.Openings.{same_registry}

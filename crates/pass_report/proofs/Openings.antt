@@ -13,7 +13,7 @@ use Rattle.pass_plain.specs.declared.start.StartFile.{StartFile}
 use Rattle.pass_plain.specs.Sessions.{Session, opened_file, opened_app, opening_version, is_opened, opening_size, opening_rows, opening_bytes}
 use Rattle.pass_plain.specs.Sound.{IsSound}
 use Rattle.pass_plain.specs.Registries.{named_file, opening_registry}
-use Rattle.pass_report.specs.Reports.{outline, SameButBytes}
+use Rattle.pass_plain.specs.Outlines.{outline, SameButBytes}
 
 abbrev pub Outline : Type 0
 Outline = Node × Option (List ℕ) × ℕ × List ℕ

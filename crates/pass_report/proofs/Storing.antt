@@ -25,7 +25,7 @@ use Rattle.pass_plain.specs.Legal.{before_call}
 use Rattle.pass_plain.proofs.Rows.{Row}
 use Rattle.pass_plain.proofs.Calling.{row}
 use Rattle.pass_plain.proofs.Sizes.{length-resized, length-extended}
-use Rattle.pass_report.specs.Reports.{SameButBytes}
+use Rattle.pass_plain.specs.Outlines.{SameButBytes}
 use Rattle.pass_report.specs.Passing.{IsNext}
 use Rattle.pass_report.specs.Digests.{passing, put_size, gets_digest, row_at}
 use Rattle.pass_report.specs.Contents.{size_in, row_in, IsSameFile, AreFiles, content_count}

@@ -16,7 +16,7 @@ use Rattle.pass_plain.proofs.Versioned.{nodes_of-append}
 use Rattle.pass_version.proofs.OneObject.{alike_then, alike_turned, opening_law, act_alike}
 use Rattle.pass_plain.specs.declared.nodes.VersionStep.{VersionStep}
 use Rattle.pass_plain.proofs.LastNodes.{node_in-entry}
-use Rattle.pass_report.specs.Reports.{SameButBytes}
+use Rattle.pass_plain.specs.Outlines.{SameButBytes}
 use Rattle.pass_report.specs.declared.trail.Trail.{Trail}
 use Rattle.pass_report.specs.Trails.{opening_lineage, lineage_in, IsTurn, IsTurnOf}
 use Rattle.pass_report.proofs.Filling.{nothing_in}

@@ -5,7 +5,7 @@ use Rattle.pass_plain.specs.declared.start.Start.{Start}
 use Rattle.pass_plain.specs.Sessions.{Session}
 use Rattle.pass_plain.specs.Sound.{IsSound}
 use Rattle.pass_plain.specs.Legal.{IsLegal, MayFollow}
-use Rattle.pass_report.specs.Reports.{SameButBytes}
+use Rattle.pass_plain.specs.Outlines.{SameButBytes}
 
 -- the entry may come next after a history of a session that opens with this start, which may lack the bytes of its files
 pub record IsNext (start : Start) (session : Session) (past : List Entry) (e : Entry) : Type 0 where

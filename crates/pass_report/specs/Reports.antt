@@ -24,6 +24,7 @@ use Rattle.pass_plain.specs.declared.start.Start.{Start}
 use Rattle.pass_plain.specs.declared.start.StartFile.{StartFile}
 use Rattle.pass_plain.specs.Histories.{bytes_at, made_object}
 use Rattle.pass_plain.specs.Sessions.{Session}
+use Rattle.pass_plain.specs.Outlines.{SameButBytes}
 use Rattle.pass_plain.specs.Sound.{IsSound}
 use Rattle.pass_plain.specs.Registries.{registry_after}
 use Rattle.pass_plain.specs.Calls.{is_last}
@@ -165,16 +166,6 @@ session_report session trace history =
 -- the report of a run of a trace from a start
 abbrev pub report_of : Start → List Entry → List TraceLine → List ℕ
 report_of start history lines = session_report (session_of_trace start lines) (plain_trace lines) history
-
--- what of an opened file isn't its bytes
-abbrev pub outline : StartFile → Node × Option (List ℕ) × ℕ × List ℕ
-outline f = (f.node, f.name, f.size, f.rows.items)
-
--- the two starts differ at most in the bytes of their files
-pub record SameButBytes (a b : Start) : Type 0 where
-  pub ceiling : a.ceiling ≡ b.ceiling
-  pub files : map outline a.files.items ≡ map outline b.files.items
-  pub apps : a.apps.items ≡ b.apps.items
 
 -- from `full`, which is the start but for the bytes of its files, the history is a run of the trace
 pub record IsRunFrom (start : Start) (history : List Entry) (lines : List TraceLine) (full : Start) : Type 0 where

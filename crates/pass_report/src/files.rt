@@ -8,7 +8,7 @@ ghost use Rattle.pass_plain.specs.declared.start.Start.{Start as AnyStart};
 ghost use Rattle.pass_plain.specs.Histories.{is_fault as is_fault_of};
 ghost use Rattle.pass_plain.specs.Sessions.{Session};
 ghost use Rattle.pass_plain.specs.Sound.{IsSound};
-ghost use Rattle.pass_report.specs.Reports.{SameButBytes};
+ghost use Rattle.pass_plain.specs.Outlines.{SameButBytes};
 ghost use Rattle.pass_report.specs.Passing.{IsNext};
 ghost use Rattle.pass_report.specs.Contents.{size_in, row_in, IsSameFile, AreFiles, content_count};
 ghost use Rattle.pass_report.specs.Digests.{passing, put_size, gets_digest};

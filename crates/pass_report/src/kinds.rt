@@ -7,7 +7,8 @@ ghost use Rattle.pass_entry.specs.declared.entry.Entry.{Entry as AnyEntry};
 ghost use Rattle.pass_plain.specs.declared.start.Start.{Start as AnyStart};
 ghost use Rattle.pass_plain.specs.Histories.{made_kind as made_kind_of};
 ghost use Rattle.pass_plain.specs.Sessions.{Session};
-ghost use Rattle.pass_report.specs.Reports.{SameButBytes, kind_of};
+ghost use Rattle.pass_plain.specs.Outlines.{SameButBytes};
+ghost use Rattle.pass_report.specs.Reports.{kind_of};
 ghost use Rattle.pass_report.specs.Passing.{IsNext};
 ghost use Rattle.pass_report.specs.Kinds.{made_by as made_by_entry, AreKinds};
 

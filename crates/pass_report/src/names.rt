@@ -6,7 +6,7 @@ ghost use Rattle.pass_entry.specs.declared.entry.Entry.{Entry as AnyEntry};
 ghost use Rattle.pass_plain.specs.Histories.{is_fault as is_fault_of};
 ghost use Rattle.pass_plain.specs.Sessions.{Session};
 ghost use Rattle.pass_plain.specs.Legal.{IsLegal, MayFollow};
-ghost use Rattle.pass_report.specs.Reports.{SameButBytes};
+ghost use Rattle.pass_plain.specs.Outlines.{SameButBytes};
 ghost use Rattle.pass_report.specs.Names.{holds, AreNames};
 
 use pass_entry::{Act, Entry, Text};

@@ -9,7 +9,7 @@ ghost use Rattle.pass_plain.specs.Histories.{out_of as out_of_act};
 ghost use Rattle.pass_plain.specs.Sessions.{Session};
 ghost use Rattle.pass_plain.specs.Versions.{source_in, version_after};
 ghost use Rattle.pass_plain.specs.Lineages.{IsAlike, has, frozen, with_source, linked, lineage_act, is_fresh_act, is_freeze_act};
-ghost use Rattle.pass_report.specs.Reports.{SameButBytes};
+ghost use Rattle.pass_plain.specs.Outlines.{SameButBytes};
 ghost use Rattle.pass_report.specs.Passing.{IsNext};
 ghost use Rattle.pass_report.specs.Trails.{lineage_in, IsTrail, IsTurn, IsTurnOf};
 

@@ -8,7 +8,7 @@ use crate::outcome::Outcome;
 use crate::task::Task;
 
 /// How a pass ended: the first of these that applies, in the order of `NoMemory`, `OneFailed`, `AllEnded`, `AllWaiting`, `GoOn`.
-#[derive(Clone, Copy, PartialEq, Eq, Debug)]
+#[derive(Clone, Copy, PartialEq, Eq)]
 pub enum PassEnd {
     /// No step is left.
     AllEnded,

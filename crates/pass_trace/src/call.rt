@@ -5,7 +5,7 @@ ghost use Rattle.pass_trace.specs.Calls.{forms_of};
 use pass_entry::CallName;
 
 // The form of a word behind a call.
-#[derive(Clone, Copy, Debug, PartialEq, Eq)]
+#[derive(Clone, Copy, PartialEq, Eq)]
 pub(crate) enum Form {
     Number,
     Name,

@@ -7,7 +7,7 @@ use std::alloc::AllocError;
 use std::fmt;
 
 /// What a write writes.
-#[derive(Debug, PartialEq, Drop)]
+#[derive(PartialEq, Drop)]
 pub enum Payload {
     /// The bytes that the line names.
     Given(Bytes),
@@ -20,7 +20,7 @@ pub enum Payload {
 /// In what `parse` gives, a descriptor is 0 to 63, a length 1 to 4,096 bytes, an offset or a size at
 /// most 4,294,967,295 bytes, a process 1 to 8,192, and the number of an object 1 to 2^48 - 1. A
 /// name, an attribute or a value is a name of `Text`.
-#[derive(Debug, PartialEq, Drop)]
+#[derive(PartialEq, Drop)]
 pub enum Command {
     Creat { fd: u8, name: Text },
     Open { fd: u8, name: Text, mode: Mode },
@@ -47,7 +47,7 @@ pub enum Command {
 }
 
 /// A line of a trace: its number in the text from 1, the process that makes the call, and the call.
-#[derive(Debug, PartialEq, Drop)]
+#[derive(PartialEq, Drop)]
 pub struct TraceLine {
     pub number: u32,
     pub process: u32,
@@ -55,14 +55,14 @@ pub struct TraceLine {
 }
 
 /// The lines of a trace in order, without those that say nothing.
-#[derive(Debug, PartialEq, Drop)]
+#[derive(PartialEq, Drop)]
 pub struct Trace {
     pub lines: Vec<TraceLine>,
 }
 
 /// Why a line is none of a trace. Where several apply, the first of this order counts: too many
 /// lines, a line too long, `Form`, `Number`, the length of a word, `Process`, too many objects.
-#[derive(Clone, Copy, Debug, PartialEq, Eq)]
+#[derive(Clone, Copy, PartialEq, Eq)]
 pub enum TraceReason {
     /// A word hasn't its form, or no call has such words.
     Form,
@@ -103,7 +103,7 @@ impl fmt::Display for TraceReason {
 }
 
 /// Why there is no trace.
-#[derive(Clone, Copy, Debug, PartialEq, Eq)]
+#[derive(Clone, Copy, PartialEq, Eq)]
 pub enum TraceFault {
     /// The first line that is at fault, by its number from 1.
     BadTrace { line: u32, reason: TraceReason },

@@ -9,7 +9,7 @@ use std::collections::HashSet;
 use std::marker::Model;
 
 /// What became of a node from which a version was to take.
-#[derive(Clone, Copy, Debug, PartialEq, Eq)]
+#[derive(Clone, Copy, PartialEq, Eq)]
 pub enum Taken {
     /// The version had taken from this node before.
     Dropped,

@@ -2,7 +2,7 @@
 use pass_entry::{Kind, Node, Text};
 
 /// A node that is shown, with what the records say of it.
-#[derive(Debug, Drop)]
+#[derive(Drop)]
 pub struct Shown {
     /// The node.
     pub node: Node,
@@ -15,7 +15,7 @@ pub struct Shown {
 }
 
 /// What a version is to another one that it came from, after the W3C's PROV-DM.
-#[derive(Clone, Copy, Debug, PartialEq, Eq)]
+#[derive(Clone, Copy, PartialEq, Eq)]
 pub enum Relation {
     /// A process used what isn't one.
     Used,
@@ -28,7 +28,7 @@ pub enum Relation {
 }
 
 /// An edge that is shown.
-#[derive(Clone, Copy, Debug, PartialEq, Eq)]
+#[derive(Clone, Copy, PartialEq, Eq)]
 pub struct Link {
     /// The version from which it leads.
     pub target: Node,
@@ -39,7 +39,7 @@ pub struct Link {
 }
 
 /// A graph, or a part of it.
-#[derive(Debug, Drop)]
+#[derive(Drop)]
 pub struct View {
     /// The nodes, in ascending order.
     pub nodes: Vec<Shown>,

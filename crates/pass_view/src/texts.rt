@@ -15,7 +15,7 @@ use pass_waldo::Index;
 use std::alloc::{AllocError, Global};
 
 /// How a view is written.
-#[derive(Clone, Copy, Debug, PartialEq, Eq)]
+#[derive(Clone, Copy, PartialEq, Eq)]
 pub enum Form {
     /// In the DOT language of Graphviz.
     Dot,

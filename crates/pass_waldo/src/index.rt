@@ -20,7 +20,7 @@ use std::alloc::{AllocError, Global};
 use std::marker::Model;
 
 /// Why a record wasn't taken. The index is then as it was.
-#[derive(Clone, Copy, Debug, PartialEq, Eq, Drop)]
+#[derive(Clone, Copy, PartialEq, Eq, Drop)]
 pub enum IndexFault {
     /// It may not come next: the place that it would have, from 0, and the first reason.
     Flaw { place: u64, reason: FlawReason },

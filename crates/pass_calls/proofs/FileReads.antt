@@ -1,5 +1,5 @@
 -- The steps of a read from a file.
-use Rattle.std.proofs.Common.{◌≡◌, ℕ, ◌+◌, ◌-◌, ◌<◌, ◌≤◌, List, [], ◌∷◌, ◌++◌, length, refl, ap, sym, ◌∙◌, subst, arith, Bool, true, false, length-append}
+use Rattle.std.proofs.Common.{◌≡◌, ℕ, ◌+◌, ◌-◌, ◌<◌, ◌≤◌, List, [], ◌∷◌, ◌++◌, length, refl, ap, sym, ◌∙◌, subst, arith, true, length-append}
 use Rattle.std.specs.Prelude.{Option, Some, None, slice_get, nat_le, if◌then◌else◌}
 use Rattle.std.specs.Option.{option_map_or}
 use Rattle.std.specs.FinMap as finite_map
@@ -14,7 +14,7 @@ use Rattle.pass_entry.specs.declared.objects.Node.{Node}
 use Rattle.pass_entry.proofs.Places.{slice_get-last}
 use Rattle.pass_plain.specs.declared.request.Request.{Request}
 use Rattle.pass_plain.specs.declared.request.Request.TheVariants as requests
-use Rattle.pass_plain.specs.Calls.{Made, descriptor_at, is_fd, is_within, no_descriptor, refused_ask, steps_of}
+use Rattle.pass_plain.specs.Calls.{Made, is_fd, is_within, no_descriptor, refused_ask, steps_of}
 use Rattle.pass_plain.specs.Histories.{bytes_at, bytes_of}
 use Rattle.pass_plain.specs.Legal.{CallerAllows}
 use Rattle.pass_plain.specs.Places.{keeps}
@@ -27,10 +27,10 @@ use Rattle.pass_hold.specs.Callings.{IsEntered, IsGoing, IsIdle, HasGone}
 use Rattle.pass_hold.proofs.Callings.{call_made, entry_of, idle_again, more}
 use Rattle.pass_proc.specs.Views.{ProcessView}
 use Rattle.pass_proc.proofs.Steps.{begun, low_fd}
-use Rattle.pass_calls.specs.Answers.{HasMoved}
-use Rattle.pass_calls.specs.declared.answer.Moved.TheVariants as moved
+use Rattle.pass_answer.specs.Answers.{HasMoved}
+use Rattle.pass_answer.specs.declared.answer.Moved.TheVariants as moved
 use Rattle.pass_calls.proofs.Nodes.{node_there}
-use Rattle.pass_calls.proofs.Steps.{gone_by, gone_own, next_allows, next_keeps, not_refused}
+use Rattle.pass_answer.proofs.Steps.{gone_by, gone_own, next_allows, next_keeps, not_refused}
 
 -- a process that has read bytes by a descriptor
 abbrev pub read_of : ProcessView → ProcessView → List Entry → ℕ → List ℕ → ProcessView

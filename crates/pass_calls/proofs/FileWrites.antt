@@ -27,11 +27,11 @@ use Rattle.pass_proc.specs.Procs.{ProcView, is_way, proc_with}
 use Rattle.pass_proc.specs.Views.{ProcessView}
 use Rattle.pass_proc.specs.declared.way.Way.{Way}
 use Rattle.pass_proc.proofs.Steps.{low_fd}
-use Rattle.pass_calls.specs.Answers.{Answers, HasMoved}
-use Rattle.pass_calls.specs.declared.answer.Moved.{Moved}
-use Rattle.pass_calls.specs.declared.answer.Moved.TheVariants as moved
-use Rattle.pass_calls.proofs.Steps.{not_refused}
-use Rattle.pass_calls.proofs.Wrapping.{moved as moved_on}
+use Rattle.pass_answer.specs.Answers.{Answers, HasMoved}
+use Rattle.pass_answer.specs.declared.answer.Moved.{Moved}
+use Rattle.pass_answer.specs.declared.answer.Moved.TheVariants as moved
+use Rattle.pass_answer.proofs.Steps.{not_refused}
+use Rattle.pass_answer.proofs.Wrapping.{moved as moved_on}
 use Rattle.pass_calls.proofs.Shown.{both_idle, both_made, node_at, show_allows, show_keeps, shown, take_allows, take_keeps}
 
 module _ (session : Session) (seen : List Entry) (who number : ℕ) (p : Process) (fd : ℕ) (bytes : List ℕ) (idle : IsIdle session seen who (number - 1) p) (some : 0 < number)

@@ -20,14 +20,14 @@ use Rattle.pass_proc.specs.CallEnds.{HasReplied}
 use Rattle.pass_proc.specs.declared.way.Way.{Way}
 use Rattle.pass_proc.proofs.Steps.{begun}
 use Rattle.pass_registry.specs.Desks.{on_registry}
-use Rattle.pass_calls.specs.Answers.{HasMoved, Tells, resumes}
+use Rattle.pass_answer.specs.Answers.{HasMoved, Tells, resumes}
 use Rattle.pass_calls.specs.Grants.{IsGranted, ask_of_grant, attach_of, attached_by, call_of, first_of, request_of}
-use Rattle.pass_calls.specs.declared.answer.Moved.TheVariants as moved
+use Rattle.pass_answer.specs.declared.answer.Moved.TheVariants as moved
 use Rattle.pass_calls.specs.declared.granting.Attach.{Attach}
 use Rattle.pass_calls.specs.declared.granting.Attach.TheVariants as attach
 use Rattle.pass_calls.specs.declared.granting.Grant.{Grant}
 use Rattle.pass_calls.specs.declared.granting.Grant.TheVariants as grant
-use Rattle.pass_calls.proofs.Steps.{not_refused, next_allows, next_keeps, gone_by, gone_own}
+use Rattle.pass_answer.proofs.Steps.{not_refused, next_allows, next_keeps, gone_by, gone_own}
 
 -- what the calls have in common
 record IsTwoSteps (g : Grant) (r : Request) (a : Act) (t : Attach) : Type 0 where

@@ -1,5 +1,5 @@
 -- The two steps by which a process gives up a descriptor of a pipe.
-use Rattle.std.proofs.Common.{◌≡◌, ℕ, ◌+◌, ◌-◌, ◌<◌, List, [], ◌∷◌, ◌++◌, length, refl, ap, sym, ◌∙◌, subst, Bool, true, false, not, is_some}
+use Rattle.std.proofs.Common.{◌≡◌, ℕ, ◌+◌, ◌-◌, ◌<◌, List, [], ◌∷◌, ◌++◌, length, refl, ap, sym, ◌∙◌, subst, true, not, is_some}
 use Rattle.std.specs.Prelude.{Option, Some, None, slice_get, if◌then◌else◌}
 use Rattle.std.specs.Option.{option_map_or}
 use Rattle.std.specs.FinMap as finite_map
@@ -14,19 +14,19 @@ use Rattle.pass_entry.specs.declared.objects.Descriptor.{Descriptor}
 use Rattle.pass_entry.specs.declared.objects.End.{End}
 use Rattle.pass_plain.specs.declared.request.Request.{Request}
 use Rattle.pass_plain.specs.declared.request.Request.TheVariants as requests
-use Rattle.pass_plain.specs.Calls.{Made, Step, descriptor_at, end_of, is_within, no_descriptor, refused_ask, steps_of}
-use Rattle.pass_plain.specs.Legal.{CallerAllows, ends_call}
+use Rattle.pass_plain.specs.Calls.{Made, descriptor_at, end_of, is_within, no_descriptor, refused_ask, steps_of}
+use Rattle.pass_plain.specs.Legal.{CallerAllows}
 use Rattle.pass_plain.specs.Places.{keeps}
-use Rattle.pass_plain.specs.Processes.{Process, faults_if, is_held, is_pipe, refusal}
+use Rattle.pass_plain.specs.Processes.{Process, faults_if, is_pipe, refusal}
 use Rattle.pass_plain.specs.Sessions.{Session}
 use Rattle.pass_hold.specs.Callings.{IsEntered, IsIdle, IsGoing, HasGone}
 use Rattle.pass_hold.proofs.Callings.{entry_of, more, call_made, idle_again}
 use Rattle.pass_pipe.specs.Desks.{leave_entry}
 use Rattle.pass_proc.specs.Acts.{own_entry}
 use Rattle.pass_proc.proofs.Steps.{begun, low_fd}
-use Rattle.pass_calls.specs.Answers.{HasMoved}
-use Rattle.pass_calls.specs.declared.answer.Moved.TheVariants as moved
-use Rattle.pass_calls.proofs.Steps.{not_refused, next_allows, next_keeps, gone_by, gone_own}
+use Rattle.pass_answer.specs.Answers.{HasMoved}
+use Rattle.pass_answer.specs.declared.answer.Moved.TheVariants as moved
+use Rattle.pass_answer.proofs.Steps.{not_refused, next_allows, next_keeps, gone_by, gone_own}
 
 module _ (session : Session) (seen : List Entry) (who number : ℕ) (p : Process) (fd : ℕ) (idle : IsIdle session seen who (number - 1) p) (some : 0 < number)
     (free : refusal p (ask.Held fd) ≡ None) (low : fd < 64) (pipe : is_pipe (descriptor_at p fd) ≡ true) where

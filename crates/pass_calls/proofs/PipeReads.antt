@@ -32,12 +32,12 @@ use Rattle.pass_pipe.specs.Desks.{take_entry}
 use Rattle.pass_proc.specs.Acts.{own_entry}
 use Rattle.pass_proc.specs.Procs.{ProcView}
 use Rattle.pass_proc.proofs.Steps.{begun, low_fd, node_stays}
-use Rattle.pass_calls.specs.Answers.{HasMoved, HasWaited}
-use Rattle.pass_calls.specs.declared.answer.Moved.TheVariants as moved
-use Rattle.pass_calls.proofs.Naming.{at_descriptor, pipe_no_file, read_at}
-use Rattle.pass_calls.proofs.ObjectSteps.{place_is}
-use Rattle.pass_calls.proofs.Waiting.{waits}
-use Rattle.pass_calls.proofs.Steps.{not_refused, step_at, next_allows, next_keeps, gone_by, gone_own}
+use Rattle.pass_answer.specs.Answers.{HasMoved, HasWaited}
+use Rattle.pass_answer.specs.declared.answer.Moved.TheVariants as moved
+use Rattle.pass_answer.proofs.Naming.{at_descriptor, pipe_no_file, read_at}
+use Rattle.pass_answer.proofs.ObjectSteps.{place_is}
+use Rattle.pass_answer.proofs.Waiting.{waits}
+use Rattle.pass_answer.proofs.Steps.{not_refused, step_at, next_allows, next_keeps, gone_by, gone_own}
 
 module _ (who : ℕ) (p : Process) (fd len what : ℕ) (free : refusal p (ask.ToRead fd) ≡ None)
     (named : (d : Descriptor) → finite_map.get p.descriptors fd ≡ Some d → (is_pipe d ≡ true) × (what ≡ d.pnode)) where

@@ -10,7 +10,6 @@ use mathlib.Core.List.{IsPrefix}
 use Rattle.pass_entry.specs.Limits.{transfer_limit}
 use Rattle.pass_entry.specs.declared.entry.Act.TheVariants as act
 use Rattle.pass_entry.specs.declared.entry.Ask.TheVariants as ask
-use Rattle.pass_entry.specs.declared.entry.CallFault.{CallFault}
 use Rattle.pass_entry.specs.declared.entry.CallName.TheVariants as calls
 use Rattle.pass_entry.specs.declared.entry.Entry.{Entry}
 use Rattle.pass_entry.specs.declared.entry.Reply.{Reply}
@@ -19,9 +18,9 @@ use Rattle.pass_entry.specs.declared.objects.Descriptor.{Descriptor}
 use Rattle.pass_entry.specs.declared.objects.Node.{Node}
 use Rattle.pass_plain.specs.declared.request.Request.{Request}
 use Rattle.pass_plain.specs.declared.request.Request.TheVariants as requests
-use Rattle.pass_plain.specs.Calls.{Made, Step, call_steps, is_fd, is_last, is_within, refused_ask, steps_of}
+use Rattle.pass_plain.specs.Calls.{Made, Step, call_steps, is_fd, is_within, refused_ask, steps_of}
 use Rattle.pass_plain.specs.Histories.{is_fault}
-use Rattle.pass_plain.specs.Legal.{CallerAllows, ends_call, last_number}
+use Rattle.pass_plain.specs.Legal.{CallerAllows, last_number}
 use Rattle.pass_plain.specs.Places.{call_places, keeps}
 use Rattle.pass_plain.specs.Processes.{Process, Held, changed_at, is_file, is_pipe, process_after, refusal, risen}
 use Rattle.pass_plain.specs.Replies.{reply_to}
@@ -29,7 +28,7 @@ use Rattle.pass_plain.specs.Sessions.{Session}
 use Rattle.pass_plain.specs.Versions.{nodes_of}
 use Rattle.pass_plain.proofs.Lists.{both_true, same_itself, or_true}
 use Rattle.pass_book.proofs.Prefixes.{prefix_self, prefix_more}
-use Rattle.pass_hold.specs.Callings.{IsEntered, IsIdle, IsGoing, HasGone, HasLooked, IsCallMade}
+use Rattle.pass_hold.specs.Callings.{IsEntered, IsIdle, IsGoing, HasGone, IsCallMade}
 use Rattle.pass_hold.proofs.Callings.{call_made, held_going, idle_again, idle_looked, left_idle, more}
 use Rattle.pass_pipe.specs.Desks.{push_entry}
 use Rattle.pass_proc.specs.Acts.{own_entry}
@@ -38,12 +37,12 @@ use Rattle.pass_proc.specs.Procs.{ProcView, is_way}
 use Rattle.pass_proc.specs.UnderWay.{IsUnderWay, show_entry}
 use Rattle.pass_proc.specs.declared.way.Way.{Way}
 use Rattle.pass_proc.proofs.Steps.{begun, low_fd}
-use Rattle.pass_calls.specs.Answers.{HasMoved, HasWaited, begins_at}
-use Rattle.pass_calls.specs.declared.answer.Moved.TheVariants as moved
-use Rattle.pass_calls.proofs.Naming.{at_descriptor, pipe_no_file}
-use Rattle.pass_calls.proofs.ObjectSteps.{place_is}
-use Rattle.pass_calls.proofs.Waiting.{waits, way_itself}
-use Rattle.pass_calls.proofs.Steps.{not_refused, step_at, next_allows, next_keeps, gone_by, gone_own}
+use Rattle.pass_answer.specs.Answers.{HasMoved, HasWaited, begins_at}
+use Rattle.pass_answer.specs.declared.answer.Moved.TheVariants as moved
+use Rattle.pass_answer.proofs.Naming.{at_descriptor, pipe_no_file}
+use Rattle.pass_answer.proofs.ObjectSteps.{place_is}
+use Rattle.pass_answer.proofs.Waiting.{waits, way_itself}
+use Rattle.pass_answer.proofs.Steps.{not_refused, step_at, next_allows, next_keeps, gone_by, gone_own}
 
 pub write_within : (fd : ℕ) (bytes : List ℕ) → fd < 64 → length bytes ≤ transfer_limit → is_within (requests.Write fd bytes) ≡ true
 write_within fd bytes low few = both_true (is_fd fd) (nat_le (length bytes) transfer_limit) (low_fd fd low) (le-leb (length bytes) transfer_limit few)

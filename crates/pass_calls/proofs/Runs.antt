@@ -1,5 +1,5 @@
 -- The steps of an `exec`.
-use Rattle.std.proofs.Common.{◌≡◌, ℕ, ◌+◌, ◌-◌, ◌<◌, List, [], ◌∷◌, ◌++◌, length, refl, ap, sym, ◌∙◌, subst, arith, Bool, true, false, ◌||◌, length-append}
+use Rattle.std.proofs.Common.{◌≡◌, ℕ, ◌+◌, ◌-◌, ◌<◌, List, [], ◌∷◌, ◌++◌, length, refl, ap, sym, ◌∙◌, arith, Bool, true, false, ◌||◌, length-append}
 use Rattle.std.specs.Prelude.{None, Result, Some, slice_get, if◌then◌else◌}
 use Rattle.std.specs.FinMap as finite_map
 use Rattle.pass_entry.specs.Texts.{is_line, is_name}
@@ -26,9 +26,9 @@ use Rattle.pass_hold.proofs.Callings.{call_made, entry_of, idle_again, more}
 use Rattle.pass_proc.specs.CallEnds.{HasReplied}
 use Rattle.pass_registry.specs.Outcomes.{reply_made}
 use Rattle.pass_proc.proofs.Steps.{begun}
-use Rattle.pass_calls.specs.Answers.{HasMoved}
-use Rattle.pass_calls.specs.declared.answer.Moved.TheVariants as moved
-use Rattle.pass_calls.proofs.Steps.{gone_by, gone_own, next_allows, next_keeps, not_asked}
+use Rattle.pass_answer.specs.Answers.{HasMoved}
+use Rattle.pass_answer.specs.declared.answer.Moved.TheVariants as moved
+use Rattle.pass_answer.proofs.Steps.{gone_by, gone_own, next_allows, next_keeps, not_asked}
 
 -- the registry's answer where a file has the name, and where none has it
 pub answers_file : (session : Session) (r : Registry) (name : List ℕ) (file : ℕ) (result : Result ℕ CallFault) → reply_made result ≡ registry_reply session r (act.Find name)

@@ -16,7 +16,7 @@ use Rattle.pass_plain.specs.Versions.{nodes_of}
 use Rattle.pass_hold.specs.Callings.{IsCallMade, IsEntered, IsGoing, IsIdle, HasGone}
 use Rattle.pass_hold.proofs.Callings.{call_made, entry_of, idle_again, more}
 use Rattle.pass_proc.proofs.Steps.{begun}
-use Rattle.pass_calls.proofs.Steps.{gone_by, gone_own, next_allows, next_keeps}
+use Rattle.pass_answer.proofs.Steps.{gone_by, gone_own, next_allows, next_keeps}
 
 abbrev pub shown : Process → ℕ → ℕ → Process
 shown p fd len = record p { descriptors = changed_at p.descriptors fd (risen len) }

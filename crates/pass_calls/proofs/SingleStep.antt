@@ -23,13 +23,13 @@ use Rattle.pass_hold.proofs.Callings.{entry_of, call_made, idle_again}
 use Rattle.pass_proc.specs.CallEnds.{HasReplied}
 use Rattle.pass_proc.specs.declared.way.Way.{Way}
 use Rattle.pass_proc.proofs.Steps.{begun, low_fd}
-use Rattle.pass_calls.specs.Answers.{HasMoved, Tells, resumes}
+use Rattle.pass_answer.specs.Answers.{HasMoved, Tells, resumes}
 use Rattle.pass_calls.specs.Renamings.{act_of_change, request_of_change}
-use Rattle.pass_calls.specs.declared.answer.Moved.{Moved}
-use Rattle.pass_calls.specs.declared.answer.Moved.TheVariants as moved
+use Rattle.pass_answer.specs.declared.answer.Moved.{Moved}
+use Rattle.pass_answer.specs.declared.answer.Moved.TheVariants as moved
 use Rattle.pass_calls.specs.declared.renaming.Change.{Change}
 use Rattle.pass_calls.specs.declared.renaming.Change.TheVariants as change
-use Rattle.pass_calls.proofs.Steps.{not_refused, not_asked, next_allows, next_keeps, gone_by, gone_own}
+use Rattle.pass_answer.proofs.Steps.{not_refused, not_asked, next_allows, next_keeps, gone_by, gone_own}
 
 -- the process p does not refuse the request, and its one step is this act on this object
 pub record IsOnlyStep (who : ℕ) (p : Process) (r : Request) (what : ℕ) (a : Act) : Type 0 where

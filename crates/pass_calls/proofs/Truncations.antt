@@ -21,9 +21,9 @@ use Rattle.pass_plain.specs.Sessions.{Session}
 use Rattle.pass_hold.specs.Callings.{IsEntered, IsIdle}
 use Rattle.pass_hold.proofs.Callings.{entry_of}
 use Rattle.pass_proc.proofs.Steps.{low_fd}
-use Rattle.pass_calls.specs.Answers.{HasMoved}
-use Rattle.pass_calls.specs.declared.answer.Moved.TheVariants as moved
-use Rattle.pass_calls.proofs.Steps.{not_refused}
+use Rattle.pass_answer.specs.Answers.{HasMoved}
+use Rattle.pass_answer.specs.declared.answer.Moved.TheVariants as moved
+use Rattle.pass_answer.proofs.Steps.{not_refused}
 use Rattle.pass_calls.proofs.Shown.{both_idle, both_made, show_allows, show_keeps, shown, take_allows, take_keeps}
 
 -- what the descriptor of a call holds that asks for a held one

@@ -23,11 +23,11 @@ use Rattle.pass_hold.specs.Callings.{IsEntered, IsIdle, IsGoing, HasGone}
 use Rattle.pass_hold.proofs.Callings.{call_made, idle_again, more}
 use Rattle.pass_flow.specs.Flows.{freeze_entry, cite_entry, told_entry, tag_entry}
 use Rattle.pass_proc.proofs.Steps.{begun, low_fd}
-use Rattle.pass_calls.specs.Answers.{HasMoved}
-use Rattle.pass_calls.specs.declared.answer.Moved.TheVariants as moved
-use Rattle.pass_calls.proofs.Naming.{one_held, two_held, its_object}
-use Rattle.pass_calls.proofs.ObjectSteps.{place_is, only_allows, only_keeps, only_made, only_idle}
-use Rattle.pass_calls.proofs.Steps.{not_refused, next_allows, next_keeps, gone_by}
+use Rattle.pass_answer.specs.Answers.{HasMoved}
+use Rattle.pass_answer.specs.declared.answer.Moved.TheVariants as moved
+use Rattle.pass_answer.proofs.Naming.{one_held, two_held, its_object}
+use Rattle.pass_answer.proofs.ObjectSteps.{place_is, only_allows, only_keeps, only_made, only_idle}
+use Rattle.pass_answer.proofs.Steps.{not_refused, next_allows, next_keeps, gone_by}
 
 abbrev step_to : Act → ℕ → Option Step
 step_to a what = Some (what, a)

@@ -13,8 +13,8 @@ use Rattle.pass_plain.specs.declared.request.Request.{Request}
 use Rattle.pass_plain.specs.declared.request.Request.TheVariants as requests
 use Rattle.pass_plain.specs.Sessions.{Session}
 use Rattle.pass_registry.specs.Desks.{IsMade}
-use Rattle.pass_calls.specs.declared.answer.Moved.{Moved}
-use Rattle.pass_calls.specs.declared.answer.Moved.TheVariants as moved
+use Rattle.pass_answer.specs.declared.answer.Moved.{Moved}
+use Rattle.pass_answer.specs.declared.answer.Moved.TheVariants as moved
 use Rattle.pass_calls.specs.declared.granting.Attach.{Attach}
 use Rattle.pass_calls.specs.declared.granting.Attach.TheVariants as attach
 use Rattle.pass_calls.specs.declared.granting.Grant.{Grant}

@@ -1,4 +1,2 @@
-pub mod Answers
-pub mod Endings
 pub mod Grants
 pub mod Renamings

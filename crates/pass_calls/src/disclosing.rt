@@ -7,11 +7,11 @@ ghost use Rattle.pass_plain.specs.declared.request.Request.TheVariants as reques
 ghost use Rattle.pass_plain.specs.Processes.{refusal};
 ghost use Rattle.pass_hold.specs.Callings.{IsIdle};
 ghost use Rattle.pass_hold.specs.Places.{HasRoom};
-ghost use Rattle.pass_calls.specs.Answers.{Answers, Stepped};
-ghost use Rattle.pass_calls.specs.declared.answer.Moved.TheVariants as moved;
+ghost use Rattle.pass_answer.specs.Answers.{Answers, Stepped};
+ghost use Rattle.pass_answer.specs.declared.answer.Moved.TheVariants as moved;
 
-use crate::answer::{CallEnd, Moved};
-use pass_flow::Versioned;
+use pass_answer::{CallEnd, Moved};
+use pass_flow::{Versioned, acts};
 use pass_hold::{Caller, Shelf, Whose};
 use pass_proc::{Proc, ProcessDesk};
 use std::alloc::Global;
@@ -45,8 +45,8 @@ fn disclose_steps<J: Whose, S: Versioned<J>, T: Versioned<J>>(
     ensures few { length caller.new.seen ≤ 2 ^ 32 }
 {
     let who = process.pnode();
-    let (out, node) = source.cite(alloc, shelf, caller, who, number);
-    target.told(alloc, shelf, caller, who, number, out, &node);
+    let (out, node) = acts::cite(source, alloc, shelf, caller, who, number);
+    acts::told(target, alloc, shelf, caller, who, number, out, &node);
 }
 
 /// The steps of a disclosure of an object to itself.
@@ -77,8 +77,8 @@ fn disclose_itself_steps<J: Whose, V: Versioned<J>>(
     ensures few { length caller.new.seen ≤ 2 ^ 32 }
 {
     let who = process.pnode();
-    let (out, node) = object.cite(alloc, shelf, caller, who, number);
-    object.told(alloc, shelf, caller, who, number, out, &node);
+    let (out, node) = acts::cite(object, alloc, shelf, caller, who, number);
+    acts::told(object, alloc, shelf, caller, who, number, out, &node);
 }
 
 /// Records that one held object's content flowed into another, outside of the store: the target's version takes from the source's.

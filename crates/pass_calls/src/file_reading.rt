@@ -10,10 +10,10 @@ ghost use Rattle.pass_plain.specs.Files.{file_after};
 ghost use Rattle.pass_plain.specs.Processes.{is_file, refusal};
 ghost use Rattle.pass_hold.specs.Callings.{IsIdle};
 ghost use Rattle.pass_hold.specs.Places.{HasRoom};
-ghost use Rattle.pass_calls.specs.Answers.{Answers, Stepped};
+ghost use Rattle.pass_answer.specs.Answers.{Answers, Stepped};
 
-use crate::answer::{CallEnd, Moved};
 use crate::held::held;
+use pass_answer::{CallEnd, Moved};
 use pass_entry::{Bytes, Descriptor};
 use pass_file::FileDesk;
 use pass_hold::{Caller, Shelf, Whose};

@@ -10,11 +10,11 @@ ghost use Rattle.pass_hold.specs.Callings.{IsIdle};
 ghost use Rattle.pass_hold.specs.Places.{HasRoom};
 ghost use Rattle.pass_file.specs.Desks.{change_records};
 ghost use Rattle.pass_proc.specs.Procs.{is_way};
-ghost use Rattle.pass_calls.specs.Answers.{Answers, Stepped};
-ghost use Rattle.pass_calls.specs.declared.answer.CallEnd.TheVariants as ends;
+ghost use Rattle.pass_answer.specs.Answers.{Answers, Stepped};
+ghost use Rattle.pass_answer.specs.declared.answer.CallEnd.TheVariants as ends;
 
-use crate::answer::{CallEnd, Moved};
 use crate::held::held;
+use pass_answer::{CallEnd, Moved};
 use pass_entry::{Bytes, CallName, Descriptor, Record};
 use pass_file::FileDesk;
 use pass_hold::{Caller, Shelf, Whose};
@@ -114,6 +114,7 @@ pub fn write_file<J: Whose>(
     ensures what { file.new.what ≡ file.old.what }
 {
     if let Err(full) = proc.caller.room(shelf, 3) {
+        drop(ready);
         return Err(CallEnd::from(full));
     }
     let number = proc.number + 1;

@@ -7,11 +7,11 @@ ghost use Rattle.pass_plain.specs.declared.request.Request.TheVariants as reques
 ghost use Rattle.pass_plain.specs.Processes.{refusal};
 ghost use Rattle.pass_hold.specs.Callings.{IsIdle};
 ghost use Rattle.pass_hold.specs.Places.{HasRoom};
-ghost use Rattle.pass_calls.specs.Answers.{Answers, Stepped};
-ghost use Rattle.pass_calls.specs.declared.answer.CallEnd.TheVariants as ends;
+ghost use Rattle.pass_answer.specs.Answers.{Answers, Stepped};
+ghost use Rattle.pass_answer.specs.declared.answer.CallEnd.TheVariants as ends;
 
-use crate::answer::{CallEnd, Moved};
-use pass_flow::Versioned;
+use pass_answer::{CallEnd, Moved};
+use pass_flow::{Versioned, acts};
 use pass_hold::{Caller, Shelf, Whose};
 use pass_proc::{Proc, ProcessDesk};
 use std::alloc::Global;
@@ -40,7 +40,7 @@ fn freeze_step<J: Whose, V: Versioned<J>>(
     ensures what { (V.object object.new).what ≡ (V.object object.old).what }
     ensures few { length caller.new.seen ≤ 2 ^ 32 }
 {
-    let frozen = object.freeze(alloc, shelf, caller, process.pnode(), number);
+    let frozen = acts::freeze(object, alloc, shelf, caller, process.pnode(), number);
     Moved::Frozen(frozen.1)
 }
 

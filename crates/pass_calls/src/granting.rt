@@ -11,12 +11,11 @@ ghost use Rattle.pass_hold.specs.Places.{HasRoom};
 ghost use Rattle.pass_proc.specs.Acts.{own_entry};
 ghost use Rattle.pass_registry.specs.Desks.{on_registry};
 ghost use Rattle.pass_registry.specs.Outcomes.{reply_made};
-ghost use Rattle.pass_calls.specs.Answers.{Answers, Stepped};
+ghost use Rattle.pass_answer.specs.Answers.{Answers, Stepped};
 ghost use Rattle.pass_calls.specs.Grants.{IfMade, IsGranted, IsLow, IsReady, ask_of_grant, attach_of, attached_by, call_of, first_of, name_room, request_of};
 ghost use Rattle.pass_calls.specs.declared.granting.Attach.TheVariants as attach;
 
-use crate::answer::{CallEnd, Moved};
-use crate::ending::ended;
+use pass_answer::{CallEnd, Moved, ended};
 use pass_entry::{CallFault, CallName, Descriptor, Kind, Mode, Pnode, Record, Text};
 use pass_hold::{Caller, Shelf, Whose};
 use pass_proc::{Proc, ProcessDesk};
@@ -240,6 +239,7 @@ pub(crate) fn granted<J: Whose>(
     ensures granted { IfMade result (λ pnode. IsGranted J.book.session registry.old.seen registry.new.seen grant pnode) }
 {
     if let Err(full) = proc.caller.room(shelf, 3) {
+        drop(grant);
         return Err(CallEnd::from(full));
     }
     let number = proc.number + 1;

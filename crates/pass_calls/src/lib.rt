@@ -1,10 +1,8 @@
 //! The calls that a store makes for a process, over the objects that it holds: each takes its memory first, then makes its entries.
 #![tactic(auto)]
 
-mod answer;
 mod closing;
 mod disclosing;
-mod ending;
 mod file_reading;
 mod file_writing;
 mod freezing;
@@ -13,14 +11,12 @@ mod held;
 mod opening;
 mod pipe_reading;
 mod pipe_writing;
-mod refusing;
 mod renaming;
 mod running;
 mod seeking;
 mod tagging;
 mod truncating;
 
-pub use answer::{CallEnd, Moved};
 pub use closing::{close, close_pipe};
 pub use disclosing::{disclose, disclose_itself};
 pub use file_reading::read_file;
@@ -29,7 +25,6 @@ pub use freezing::freeze;
 pub use opening::{creat, make_object, make_pipe, open_name, revive};
 pub use pipe_reading::read_pipe;
 pub use pipe_writing::write_pipe;
-pub use refusing::refused;
 pub use renaming::{rename, unlink};
 pub use running::{exec, exec_unnamed};
 pub use seeking::seek;

@@ -6,12 +6,11 @@ ghost use Rattle.pass_entry.specs.declared.objects.Mode.TheVariants as modes;
 ghost use Rattle.pass_plain.specs.declared.request.Request.TheVariants as requests;
 ghost use Rattle.pass_plain.specs.Processes.{same_mode};
 ghost use Rattle.pass_registry.specs.Desks.{IsMade};
-ghost use Rattle.pass_calls.specs.Answers.{Answers};
+ghost use Rattle.pass_answer.specs.Answers.{Answers};
 ghost use Rattle.pass_calls.specs.Grants.{IfMade};
 
-use crate::answer::{CallEnd, Moved};
 use crate::granting::{Grant, granted};
-use crate::refusing::refused;
+use pass_answer::{CallEnd, Moved, refused};
 use pass_entry::{Ask, CallName, Mode, Pnode, Text};
 use pass_hold::{Shelf, Whose};
 use pass_proc::Proc;

@@ -12,9 +12,9 @@ ghost use Rattle.pass_plain.specs.Processes.{refusal, is_pipe};
 ghost use Rattle.pass_plain.specs.Replies.{taken};
 ghost use Rattle.pass_hold.specs.Callings.{IsIdle};
 ghost use Rattle.pass_hold.specs.Places.{HasRoom};
-ghost use Rattle.pass_calls.specs.Answers.{Answers, Stepped};
+ghost use Rattle.pass_answer.specs.Answers.{Answers, Stepped};
 
-use crate::answer::{CallEnd, Moved};
+use pass_answer::{CallEnd, Moved};
 use pass_entry::Bytes;
 use pass_flow::Versioned;
 use pass_hold::{Caller, Shelf, Whose};

@@ -15,9 +15,9 @@ ghost use Rattle.pass_hold.specs.Callings.{IsGoing, IsIdle};
 ghost use Rattle.pass_hold.specs.Places.{HasRoom};
 ghost use Rattle.pass_proc.specs.Procs.{is_way};
 ghost use Rattle.pass_proc.specs.UnderWay.{IsUnderWay, show_entry};
-ghost use Rattle.pass_calls.specs.Answers.{Answers, Stepped};
+ghost use Rattle.pass_answer.specs.Answers.{Answers, Stepped};
 
-use crate::answer::{CallEnd, Moved};
+use pass_answer::{CallEnd, Moved};
 use pass_entry::{Bytes, CallFault, CallName, Descriptor};
 use pass_flow::Versioned;
 use pass_hold::{Caller, Shelf, Whose};

@@ -10,11 +10,10 @@ ghost use Rattle.pass_hold.specs.Callings.{IsEntered, IsIdle};
 ghost use Rattle.pass_hold.specs.Places.{HasRoom};
 ghost use Rattle.pass_registry.specs.Desks.{on_registry};
 ghost use Rattle.pass_registry.specs.Outcomes.{reply_done};
-ghost use Rattle.pass_calls.specs.Answers.{Answers, Stepped};
+ghost use Rattle.pass_answer.specs.Answers.{Answers, Stepped};
 ghost use Rattle.pass_calls.specs.Renamings.{act_of_change, request_of_change};
 
-use crate::answer::{CallEnd, Moved};
-use crate::ending::ended;
+use pass_answer::{CallEnd, Moved, ended};
 use pass_entry::{CallFault, Pnode, Text};
 use pass_hold::{Caller, Shelf, Whose};
 use pass_proc::{Proc, ProcessDesk};
@@ -90,6 +89,7 @@ fn changed<J: Whose>(
     ensures call { Answers J.book.session J.places proc.old proc.new (request_of_change change) result }
 {
     if let Err(full) = proc.caller.room(shelf, 3) {
+        drop(change);
         return Err(CallEnd::from(full));
     }
     let number = proc.number + 1;

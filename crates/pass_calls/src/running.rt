@@ -10,10 +10,10 @@ ghost use Rattle.pass_plain.specs.Registries.{registry_after};
 ghost use Rattle.pass_hold.specs.Callings.{IsIdle};
 ghost use Rattle.pass_hold.specs.Places.{HasRoom};
 ghost use Rattle.pass_proc.specs.Execs.{exec_view};
-ghost use Rattle.pass_calls.specs.Answers.{Answers, Stepped};
-ghost use Rattle.pass_calls.specs.declared.answer.Moved.TheVariants as moved;
+ghost use Rattle.pass_answer.specs.Answers.{Answers, Stepped};
+ghost use Rattle.pass_answer.specs.declared.answer.Moved.TheVariants as moved;
 
-use crate::answer::{CallEnd, Moved};
+use pass_answer::{CallEnd, Moved};
 use pass_entry::{CallFault, CallName, Text};
 use pass_file::FileDesk;
 use pass_hold::{Caller, Shelf, Whose};

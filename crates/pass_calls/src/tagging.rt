@@ -8,12 +8,12 @@ ghost use Rattle.pass_plain.specs.declared.request.Request.TheVariants as reques
 ghost use Rattle.pass_plain.specs.Processes.{refusal};
 ghost use Rattle.pass_hold.specs.Callings.{IsIdle};
 ghost use Rattle.pass_hold.specs.Places.{HasRoom};
-ghost use Rattle.pass_calls.specs.Answers.{Answers, Stepped};
-ghost use Rattle.pass_calls.specs.declared.answer.Moved.TheVariants as moved;
+ghost use Rattle.pass_answer.specs.Answers.{Answers, Stepped};
+ghost use Rattle.pass_answer.specs.declared.answer.Moved.TheVariants as moved;
 
-use crate::answer::{CallEnd, Moved};
+use pass_answer::{CallEnd, Moved};
 use pass_entry::Text;
-use pass_flow::{TagRoom, Versioned};
+use pass_flow::{TagRoom, Versioned, acts};
 use pass_hold::{Caller, Shelf, Whose};
 use pass_proc::{Proc, ProcessDesk};
 use std::alloc::Global;
@@ -43,7 +43,7 @@ fn tag_step<J: Whose, V: Versioned<J>>(
     ensures what { (V.object object.new).what ≡ (V.object object.old).what }
     ensures few { length caller.new.seen ≤ 2 ^ 32 }
 {
-    object.tag(shelf, caller, process.pnode(), number, room);
+    acts::tag(object, shelf, caller, process.pnode(), number, room);
 }
 
 /// Gives the current version of a held file, pipe or app object an attribute with its value; both are names.
@@ -65,6 +65,7 @@ pub fn tag<J: Whose, V: Versioned<J>>(
 {
     let room = TagRoom::of(alloc, attr, value)?;
     if let Err(full) = proc.caller.room(shelf, 3) {
+        drop(room);
         return Err(CallEnd::from(full));
     }
     let number = proc.number + 1;

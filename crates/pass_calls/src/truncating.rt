@@ -10,11 +10,11 @@ ghost use Rattle.pass_plain.specs.Processes.{refusal};
 ghost use Rattle.pass_hold.specs.Callings.{IsIdle};
 ghost use Rattle.pass_hold.specs.Places.{HasRoom};
 ghost use Rattle.pass_file.specs.Desks.{change_records};
-ghost use Rattle.pass_calls.specs.Answers.{Answers, Stepped};
-ghost use Rattle.pass_calls.specs.declared.answer.CallEnd.TheVariants as ends;
-ghost use Rattle.pass_calls.specs.declared.answer.Moved.TheVariants as moved;
+ghost use Rattle.pass_answer.specs.Answers.{Answers, Stepped};
+ghost use Rattle.pass_answer.specs.declared.answer.CallEnd.TheVariants as ends;
+ghost use Rattle.pass_answer.specs.declared.answer.Moved.TheVariants as moved;
 
-use crate::answer::{CallEnd, Moved};
+use pass_answer::{CallEnd, Moved};
 use pass_entry::{CallName, Record};
 use pass_file::FileDesk;
 use pass_hold::{Caller, Shelf, Whose};
@@ -90,6 +90,7 @@ pub fn truncate<J: Whose>(
     ensures what { file.new.what ≡ file.old.what }
 {
     if let Err(full) = proc.caller.room(shelf, 3) {
+        drop(list);
         return Err(CallEnd::from(full));
     }
     let number = proc.number + 1;

@@ -26,9 +26,10 @@ use Rattle.pass_proc.specs.CallEnds.{HasReplied}
 use Rattle.pass_proc.specs.Procs.{IsCallerOf, ProcView, proc_with}
 use Rattle.pass_proc.specs.Views.{ProcessView}
 use Rattle.pass_proc.specs.declared.way.Way.{Way}
-use Rattle.pass_calls.proofs.ObjectSteps.{place_is}
-use Rattle.pass_calls.proofs.Steps.{not_asked, next_allows, gone_by, gone_own}
-use Rattle.pass_lives.specs.Exits.{HasExited, IsExiting}
+use Rattle.pass_answer.proofs.ObjectSteps.{place_is}
+use Rattle.pass_answer.proofs.Steps.{not_asked, next_allows, gone_by, gone_own}
+use Rattle.pass_lives.specs.Exits.{IsExiting}
+use Rattle.pass_answer.specs.Lives.{HasExited}
 use Rattle.pass_lives.proofs.PipeLists.{at_end, next_in, last_in, ends_with}
 
 abbrev leaving : Descriptor → Step

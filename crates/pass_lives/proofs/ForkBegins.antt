@@ -26,8 +26,8 @@ use Rattle.pass_proc.specs.CallEnds.{HasReplied}
 use Rattle.pass_proc.specs.Views.{ProcessView}
 use Rattle.pass_proc.proofs.Steps.{begun}
 use Rattle.pass_registry.specs.Desks.{on_registry}
-use Rattle.pass_calls.proofs.ObjectSteps.{place_is}
-use Rattle.pass_calls.proofs.Steps.{not_asked, next_allows, next_keeps, gone_by, gone_own}
+use Rattle.pass_answer.proofs.ObjectSteps.{place_is}
+use Rattle.pass_answer.proofs.Steps.{not_asked, next_allows, next_keeps, gone_by, gone_own}
 use Rattle.pass_lives.specs.Forks.{ForkingView, IsForking}
 
 module _ (session : Session) (seen : List Entry) (who number : ℕ) (p : Process) (idle : IsIdle session seen who (number - 1) p) (some : 0 < number) where

@@ -26,10 +26,11 @@ use Rattle.pass_proc.specs.Births.{birth_entry}
 use Rattle.pass_proc.specs.Procs.{IsCallerOf, ProcView, proc_with}
 use Rattle.pass_proc.specs.Views.{ProcessView}
 use Rattle.pass_proc.proofs.Steps.{node_stays}
-use Rattle.pass_calls.specs.Answers.{Answers}
-use Rattle.pass_calls.specs.declared.answer.Moved.TheVariants as moved
-use Rattle.pass_calls.proofs.Steps.{not_asked, next_allows, next_keeps, gone_by}
-use Rattle.pass_lives.specs.Forks.{ForkingView, IsChild, IsForking}
+use Rattle.pass_answer.specs.Answers.{Answers}
+use Rattle.pass_answer.specs.declared.answer.Moved.TheVariants as moved
+use Rattle.pass_answer.proofs.Steps.{not_asked, next_allows, next_keeps, gone_by}
+use Rattle.pass_lives.specs.Forks.{ForkingView, IsForking}
+use Rattle.pass_answer.specs.Lives.{IsChild}
 use Rattle.pass_lives.proofs.PipeLists.{at_end, first_is, none_is, next_in, last_in, ends_with}
 
 abbrev joining : Descriptor → Step

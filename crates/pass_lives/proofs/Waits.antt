@@ -20,11 +20,11 @@ use Rattle.pass_proc.specs.Acts.{own_entry}
 use Rattle.pass_proc.specs.Ends.{reap_entry}
 use Rattle.pass_proc.specs.Procs.{ProcView}
 use Rattle.pass_proc.proofs.Steps.{begun}
-use Rattle.pass_calls.specs.Answers.{HasMoved, HasWaited}
-use Rattle.pass_calls.specs.declared.answer.Moved.TheVariants as moved
-use Rattle.pass_calls.proofs.ObjectSteps.{place_is}
-use Rattle.pass_calls.proofs.Steps.{not_refused, step_at, next_allows, next_keeps, gone_by, gone_own}
-use Rattle.pass_calls.proofs.Waiting.{waits}
+use Rattle.pass_answer.specs.Answers.{HasMoved, HasWaited}
+use Rattle.pass_answer.specs.declared.answer.Moved.TheVariants as moved
+use Rattle.pass_answer.proofs.ObjectSteps.{place_is}
+use Rattle.pass_answer.proofs.Steps.{not_refused, step_at, next_allows, next_keeps, gone_by, gone_own}
+use Rattle.pass_answer.proofs.Waiting.{waits}
 
 module _ (session : Session) (seen : List Entry) (who number : ℕ) (p : Process) (child : ℕ) (idle : IsIdle session seen who (number - 1) p) (some : 0 < number)
     (free : refusal p (ask.Child child) ≡ None) where

@@ -1,18 +1,11 @@
 -- An exit under way, and what comes of it.
-use Rattle.std.specs.Prelude.{◌≡◌, ℕ, ◌+◌, ◌≤◌, ◌^◌, true, List, ◌++◌, Some, length, slice_get}
-use Rattle.pass_entry.specs.declared.entry.Act.TheVariants as act
-use Rattle.pass_entry.specs.declared.entry.CallName.TheVariants as calls
-use Rattle.pass_entry.specs.declared.entry.Entry.{Entry}
-use Rattle.pass_entry.specs.declared.entry.Reply.TheVariants as answer
+use Rattle.std.specs.Prelude.{◌≡◌, ℕ, ◌+◌, ◌≤◌, ◌^◌, List, ◌++◌, length}
 use Rattle.pass_entry.specs.declared.objects.Descriptor.{Descriptor}
 use Rattle.pass_plain.specs.declared.request.Request.TheVariants as requests
 use Rattle.pass_plain.specs.Calls.{Made, pipe_descriptors}
-use Rattle.pass_plain.specs.Processes.{has_ended}
 use Rattle.pass_plain.specs.Sessions.{Session}
 use Rattle.pass_hold.specs.Callers.{CallerState}
 use Rattle.pass_hold.specs.Callings.{IsGoing}
-use Rattle.pass_proc.specs.Acts.{own_entry}
-use Rattle.pass_proc.specs.CallEnds.{HasReplied}
 use Rattle.pass_proc.specs.Procs.{ProcView}
 use Rattle.pass_proc.specs.Views.{ProcessView}
 
@@ -33,10 +26,3 @@ pub record IsExiting (session : Session) (before : ProcView) (number : ℕ) (p :
   pub of_who : c.who ≡ p.who
   pub who : p.who ≡ before.who
   pub few : length c.seen ≤ 2 ^ 32
-
--- The exit was made to its end: all its steps, and the last one, by which the process has ended, stands last in what is seen, at this place.
-pub record HasExited (session : Session) (old : ProcView) (seen : List Entry) (place : ℕ) : Type 0 where
-  pub replied : HasReplied session old.who old.seen seen requests.Exit answer.Done
-  pub finish : slice_get seen place ≡ Some (own_entry old.who (old.number + 1) calls.Exit act.Finish answer.Done)
-  pub last : place + 1 ≡ length seen
-  pub ended : has_ended seen old.who ≡ true

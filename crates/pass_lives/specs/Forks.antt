@@ -1,18 +1,18 @@
 -- A fork under way, and what comes of it.
-use Rattle.std.specs.Prelude.{◌≡◌, ℕ, ◌<◌, ◌≤◌, ◌^◌, false, List, [], ◌∷◌, ◌++◌, Option, Some, None, length, slice_get}
+use Rattle.std.specs.Prelude.{◌≡◌, ℕ, ◌<◌, ◌≤◌, ◌^◌, false, List, ◌∷◌, ◌++◌, Option, Some, length, slice_get}
 use Rattle.pass_entry.specs.declared.entry.Entry.{Entry}
 use Rattle.pass_entry.specs.declared.objects.Descriptor.{Descriptor}
 use Rattle.pass_entry.specs.declared.objects.Node.{Node}
 use Rattle.pass_plain.specs.declared.request.Request.TheVariants as requests
-use Rattle.pass_plain.specs.Calls.{Made, pipe_descriptors, pnode_at}
-use Rattle.pass_plain.specs.Histories.{call_entries, pnode_of}
+use Rattle.pass_plain.specs.Calls.{Made, pipe_descriptors}
+use Rattle.pass_plain.specs.Histories.{pnode_of}
 use Rattle.pass_plain.specs.Legal.{ends_call}
-use Rattle.pass_plain.specs.Processes.{Held, new_process, process_after}
+use Rattle.pass_plain.specs.Processes.{Held, process_after}
 use Rattle.pass_plain.specs.Sessions.{Session}
 use Rattle.pass_plain.specs.Versions.{nodes_of}
 use Rattle.pass_hold.specs.Callers.{CallerState}
-use Rattle.pass_hold.specs.Callings.{HasGone, made_by}
-use Rattle.pass_proc.specs.Procs.{IsCallerOf, ProcView}
+use Rattle.pass_hold.specs.Callings.{HasGone}
+use Rattle.pass_proc.specs.Procs.{IsCallerOf}
 use Rattle.pass_proc.specs.UnderWay.{IsWay}
 use Rattle.pass_proc.specs.Views.{ProcessView}
 use Rattle.pass_proc.specs.declared.way.Way.{Way}
@@ -52,13 +52,3 @@ pub record IsForking (session : Session) (number : ℕ) (p : ProcessView) (c : C
   pub of_who : c.who ≡ p.who
   pub own : c.own ≡ 65
   pub few : length c.seen ≤ 2 ^ 32
-
--- the child of its parent's last call, just begun: the call's first entry gave its number; it has seen what its parent has, has made no call and
--- no entry, and holds what its parent holds
-pub record IsChild (parent child : ProcView) : Type 0 where
-  pub named : pnode_at (call_entries parent.seen parent.who parent.number) 0 ≡ child.who
-  pub seen : child.seen ≡ parent.seen
-  pub number : child.number ≡ 0
-  pub none : made_by child.who child.seen ≡ []
-  pub way : child.way ≡ None
-  pub state : child.state ≡ record new_process { descriptors = parent.state.descriptors }

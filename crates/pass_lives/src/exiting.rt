@@ -1,6 +1,7 @@
 //! The call `exit`.
-ghost use Rattle.std.specs.Prelude.{◌≡◌, ◌+◌, ◌-◌, ◌<◌, ◌≤◌, ◌^◌, [], ◌∷◌, None, Some, drop, length, slice_get};
-ghost use Rattle.pass_lives.specs.Exits.{HasExited, IsExiting};
+ghost use Rattle.std.specs.Prelude.{◌≡◌, ◌+◌, ◌-◌, ◌<◌, ◌≤◌, [], ◌∷◌, None, Some, drop, length, slice_get};
+ghost use Rattle.pass_lives.specs.Exits.{IsExiting};
+ghost use Rattle.pass_answer.specs.Lives.{HasExited};
 ghost use Rattle.pass_lives.specs.Pipes.{pipes_from};
 
 use crate::pipes::{after_pipe, end_of, next_pipe};

@@ -12,13 +12,14 @@ ghost use Rattle.pass_hold.specs.Places.{HasRoom};
 ghost use Rattle.pass_proc.specs.CallEnds.{HasReplied};
 ghost use Rattle.pass_proc.specs.Procs.{IsCallerOf, ProcView, proc_with};
 ghost use Rattle.pass_registry.specs.Desks.{IsMade};
-ghost use Rattle.pass_calls.specs.Answers.{Answers};
-ghost use Rattle.pass_calls.specs.declared.answer.Moved.TheVariants as moved;
-ghost use Rattle.pass_lives.specs.Forks.{IsBetween, IsChild, IsForking};
+ghost use Rattle.pass_answer.specs.Answers.{Answers};
+ghost use Rattle.pass_answer.specs.declared.answer.Moved.TheVariants as moved;
+ghost use Rattle.pass_lives.specs.Forks.{IsBetween, IsForking};
+ghost use Rattle.pass_answer.specs.Lives.{IsChild};
 
 use crate::pipes::{after_pipe, end_of, next_pipe};
+use pass_answer::CallEnd;
 use pass_book::Desk;
-use pass_calls::CallEnd;
 use pass_entry::{CallFault, CallName, Descriptor, Kind, Node, Pnode, Record};
 use pass_hold::{Caller, Shelf, Whose};
 use pass_pipe::PipeDesk;

@@ -5,11 +5,11 @@ ghost use Rattle.pass_plain.specs.declared.request.Request.TheVariants as reques
 ghost use Rattle.pass_plain.specs.Processes.{refusal};
 ghost use Rattle.pass_hold.specs.Callings.{IsIdle};
 ghost use Rattle.pass_hold.specs.Places.{HasRoom};
-ghost use Rattle.pass_calls.specs.Answers.{Answers, Stepped};
-ghost use Rattle.pass_calls.specs.declared.answer.CallEnd.TheVariants as ends;
-ghost use Rattle.pass_calls.specs.declared.answer.Moved.TheVariants as moved;
+ghost use Rattle.pass_answer.specs.Answers.{Answers, Stepped};
+ghost use Rattle.pass_answer.specs.declared.answer.CallEnd.TheVariants as ends;
+ghost use Rattle.pass_answer.specs.declared.answer.Moved.TheVariants as moved;
 
-use pass_calls::{CallEnd, Moved};
+use pass_answer::{CallEnd, Moved};
 use pass_entry::Pnode;
 use pass_hold::{Caller, Shelf, Whose};
 use pass_proc::{Ended, Living, Proc, ProcessDesk};

@@ -1,8 +1,7 @@
 use Rattle.std.proofs.Common.{refl}
-use Rattle.pass_entry.specs.declared.entry.Ask.TheVariants as ask
 use Rattle.pass_plain.specs.declared.request.Request.TheVariants as requests
 use Rattle.pass_proc.proofs.Steps.{frees, number_fits, low_fd}
-use Rattle.pass_calls.proofs.Between.{looked_on, full_ends}
+use Rattle.pass_answer.proofs.Between.{looked_on, full_ends}
 use Rattle.pass_calls.proofs.closing.close.Goals as goal
 
 pub refused-requires-clause-refused : goal.refused-requires-clause-refused

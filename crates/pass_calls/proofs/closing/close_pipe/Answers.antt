@@ -5,7 +5,7 @@ use Rattle.pass_entry.specs.declared.objects.Descriptor.{Descriptor}
 use Rattle.pass_plain.specs.declared.request.Request.TheVariants as requests
 use Rattle.pass_plain.specs.Processes.{is_pipe}
 use Rattle.pass_proc.proofs.Steps.{frees, number_fits}
-use Rattle.pass_calls.proofs.Between.{looked_on, full_ends}
+use Rattle.pass_answer.proofs.Between.{looked_on, full_ends}
 use Rattle.pass_proc.specs.Procs.{ProcView}
 use Rattle.pass_calls.proofs.closing.close_pipe.Goals as goal
 

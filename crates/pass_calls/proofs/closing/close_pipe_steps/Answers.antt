@@ -5,8 +5,8 @@ use Rattle.pass_plain.specs.declared.request.Request.TheVariants as requests
 use Rattle.pass_plain.specs.Calls.{descriptor_at, end_of, no_descriptor}
 use Rattle.pass_hold.specs.Callings.{IsIdle}
 use Rattle.pass_proc.specs.Views.{ProcessView}
-use Rattle.pass_calls.specs.Answers.{HasMoved}
-use Rattle.pass_calls.specs.declared.answer.Moved.TheVariants as moved
+use Rattle.pass_answer.specs.Answers.{HasMoved}
+use Rattle.pass_answer.specs.declared.answer.Moved.TheVariants as moved
 use Rattle.pass_calls.proofs.LeftPipe.{held_at, detach_allows, detach_keeps, leave_allows, closed, closed_idle}
 use Rattle.pass_calls.proofs.closing.close_pipe_steps.Goals as goal
 

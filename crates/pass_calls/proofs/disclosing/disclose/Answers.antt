@@ -4,9 +4,9 @@ use Rattle.pass_plain.specs.declared.request.Request.TheVariants as requests
 use Rattle.pass_hold.specs.Callings.{HasLooked}
 use Rattle.pass_proc.specs.Procs.{ProcView, proc_with}
 use Rattle.pass_proc.proofs.Steps.{frees, idle_before, number_fits, still, way_looked}
-use Rattle.pass_calls.specs.Answers.{Answers}
-use Rattle.pass_calls.specs.declared.answer.CallEnd.{CallEnd}
-use Rattle.pass_calls.proofs.Wrapping.{full}
+use Rattle.pass_answer.specs.Answers.{Answers}
+use Rattle.pass_answer.specs.declared.answer.CallEnd.{CallEnd}
+use Rattle.pass_answer.proofs.Wrapping.{full}
 use Rattle.pass_calls.proofs.disclosing.disclose.Goals as goal
 
 pub room-requires : goal.room-requires

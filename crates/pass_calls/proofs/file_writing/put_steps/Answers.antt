@@ -9,8 +9,8 @@ use Rattle.pass_hold.specs.Callings.{IsEntered, IsIdle}
 use Rattle.pass_file.specs.Desks.{entry_on}
 use Rattle.pass_proc.specs.Acts.{own_entry}
 use Rattle.pass_proc.specs.Views.{ProcessView}
-use Rattle.pass_calls.specs.Answers.{HasMoved}
-use Rattle.pass_calls.specs.declared.answer.Moved.TheVariants as moved
+use Rattle.pass_answer.specs.Answers.{HasMoved}
+use Rattle.pass_answer.specs.declared.answer.Moved.TheVariants as moved
 use Rattle.pass_calls.proofs.FileWrites.{first_allows, first_keeps, put_allows, put_idle, put_made}
 use Rattle.pass_calls.proofs.Shown.{shown}
 use Rattle.pass_calls.proofs.file_writing.put_steps.Goals as goal

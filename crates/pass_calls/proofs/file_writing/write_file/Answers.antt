@@ -6,7 +6,7 @@ use Rattle.pass_plain.specs.Processes.{refusal}
 use Rattle.pass_plain.specs.declared.request.Request.TheVariants as requests
 use Rattle.pass_proc.specs.Procs.{ProcView}
 use Rattle.pass_proc.proofs.Steps.{frees, number_fits, idle_before}
-use Rattle.pass_calls.proofs.Between.{full_ends, looked_on}
+use Rattle.pass_answer.proofs.Between.{full_ends, looked_on}
 use Rattle.pass_calls.proofs.FileWrites.{wrote}
 use Rattle.pass_calls.proofs.file_writing.write_file.Goals as goal
 

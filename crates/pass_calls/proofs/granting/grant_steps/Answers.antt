@@ -6,9 +6,9 @@ use Rattle.pass_plain.specs.Places.{is_exit, kept_by, keeps}
 use Rattle.pass_hold.specs.Callings.{IsIdle}
 use Rattle.pass_proc.specs.Views.{ProcessView}
 use Rattle.pass_registry.specs.Desks.{on_registry}
-use Rattle.pass_calls.specs.Answers.{HasMoved}
+use Rattle.pass_answer.specs.Answers.{HasMoved}
 use Rattle.pass_calls.specs.Grants.{call_of, first_of, request_of}
-use Rattle.pass_calls.specs.declared.answer.Moved.TheVariants as moved
+use Rattle.pass_answer.specs.declared.answer.Moved.TheVariants as moved
 use Rattle.pass_calls.specs.declared.granting.Attach.{Attach}
 use Rattle.pass_calls.proofs.GrantSteps.{no_exit, first_allows, first_keeps, faulted, faulted_idle, second_allows, second_keeps, given, given_idle}
 use Rattle.pass_calls.proofs.granting.grant_steps.Goals as goal

@@ -1,6 +1,6 @@
 use Rattle.std.proofs.Common.{◌+◌}
 use Rattle.pass_proc.proofs.Steps.{frees, number_fits}
-use Rattle.pass_calls.proofs.Between.{looked_on, full_ends, steps_end}
+use Rattle.pass_answer.proofs.Between.{looked_on, full_ends, steps_end}
 use Rattle.pass_calls.specs.Grants.{request_of}
 use Rattle.pass_calls.proofs.GrantSteps.{grant_needs, new_grant}
 use Rattle.pass_calls.proofs.granting.granted.Goals as goal

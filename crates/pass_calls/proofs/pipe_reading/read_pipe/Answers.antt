@@ -15,12 +15,12 @@ use Rattle.pass_flow.specs.Flows.{ObjectView}
 use Rattle.pass_proc.specs.Procs.{ProcView, proc_with}
 use Rattle.pass_proc.specs.Views.{ProcessView}
 use Rattle.pass_proc.proofs.Steps.{frees, idle_before, number_fits, still, way_looked}
-use Rattle.pass_calls.specs.Answers.{Answers}
-use Rattle.pass_calls.specs.declared.answer.CallEnd.{CallEnd}
-use Rattle.pass_calls.specs.declared.answer.CallEnd.TheVariants as ends
+use Rattle.pass_answer.specs.Answers.{Answers}
+use Rattle.pass_answer.specs.declared.answer.CallEnd.{CallEnd}
+use Rattle.pass_answer.specs.declared.answer.CallEnd.TheVariants as ends
 use Rattle.pass_calls.proofs.PipeReads.{read_waits}
-use Rattle.pass_calls.proofs.Waiting.{reserved}
-use Rattle.pass_calls.proofs.Wrapping.{full}
+use Rattle.pass_answer.proofs.Waiting.{reserved}
+use Rattle.pass_answer.proofs.Wrapping.{full}
 use Rattle.pass_calls.proofs.pipe_reading.read_pipe.Goals as goal
 
 pub invariant_of-proc-in_default : goal.invariant_of-proc-in_default

@@ -6,8 +6,8 @@ use Rattle.pass_plain.specs.Processes.{Process, changed_at, risen}
 use Rattle.pass_hold.specs.Callings.{IsEntered, IsIdle}
 use Rattle.pass_pipe.specs.Desks.{take_entry}
 use Rattle.pass_proc.specs.Views.{ProcessView}
-use Rattle.pass_calls.specs.Answers.{HasMoved}
-use Rattle.pass_calls.specs.declared.answer.Moved.TheVariants as moved
+use Rattle.pass_answer.specs.Answers.{HasMoved}
+use Rattle.pass_answer.specs.declared.answer.Moved.TheVariants as moved
 use Rattle.pass_calls.proofs.PipeReads.{take_allows, take_keeps, gives, gain_allows, gain_keeps, read_moved, read_idle}
 use Rattle.pass_calls.proofs.pipe_reading.take_steps.Goals as goal
 

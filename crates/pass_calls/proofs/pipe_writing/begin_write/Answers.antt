@@ -10,11 +10,11 @@ use Rattle.pass_hold.specs.Callings.{HasLooked, IsGoing}
 use Rattle.pass_proc.specs.Procs.{ProcView, is_way, proc_with}
 use Rattle.pass_proc.specs.UnderWay.{show_entry}
 use Rattle.pass_proc.proofs.Steps.{frees, idle_before, number_fits, still, way_looked}
-use Rattle.pass_calls.specs.Answers.{Answers}
-use Rattle.pass_calls.specs.declared.answer.CallEnd.{CallEnd}
-use Rattle.pass_calls.specs.declared.answer.CallEnd.TheVariants as ends
+use Rattle.pass_answer.specs.Answers.{Answers}
+use Rattle.pass_answer.specs.declared.answer.CallEnd.{CallEnd}
+use Rattle.pass_answer.specs.declared.answer.CallEnd.TheVariants as ends
 use Rattle.pass_calls.proofs.PipeWrites.{write_waits}
-use Rattle.pass_calls.proofs.Wrapping.{begins_now, full}
+use Rattle.pass_answer.proofs.Wrapping.{begins_now, full}
 use Rattle.pass_calls.proofs.pipe_writing.begin_write.Goals as goal
 
 pub room-requires : goal.room-requires

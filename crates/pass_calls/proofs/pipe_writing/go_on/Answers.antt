@@ -1,4 +1,4 @@
-use Rattle.std.proofs.Common.{◌≡◌, ◌+◌, ◌<◌, ap, arith, length, refl, sym, ◌∙◌, subst, true, [], ◌∷◌}
+use Rattle.std.proofs.Common.{◌≡◌, ap, arith, length, refl, sym, ◌∙◌, subst, true, [], ◌∷◌}
 use Rattle.std.specs.Prelude.{Err, None, Ok, Result, Some, take}
 use Rattle.std.specs.FinMap as finite_map
 use Rattle.pass_entry.specs.declared.entry.Act.TheVariants as act
@@ -13,14 +13,13 @@ use Rattle.pass_hold.proofs.Callings.{going_looked}
 use Rattle.pass_flow.specs.Flows.{ObjectView}
 use Rattle.pass_proc.specs.Procs.{ProcView, is_way, proc_with}
 use Rattle.pass_proc.specs.UnderWay.{IsUnderWay, IsWay, show_entry}
-use Rattle.pass_proc.specs.declared.way.Way.{Way}
 use Rattle.pass_proc.proofs.Steps.{still, way_looked}
-use Rattle.pass_calls.specs.Answers.{Answers}
-use Rattle.pass_calls.specs.declared.answer.CallEnd.{CallEnd}
-use Rattle.pass_calls.specs.declared.answer.CallEnd.TheVariants as ends
-use Rattle.pass_calls.specs.declared.answer.Moved.{Moved}
+use Rattle.pass_answer.specs.Answers.{Answers}
+use Rattle.pass_answer.specs.declared.answer.CallEnd.{CallEnd}
+use Rattle.pass_answer.specs.declared.answer.CallEnd.TheVariants as ends
+use Rattle.pass_answer.specs.declared.answer.Moved.{Moved}
 use Rattle.pass_calls.proofs.PipeWrites.{no_room, places_held, write_waits}
-use Rattle.pass_calls.proofs.Waiting.{broke_off, goes_on_at, way_bytes, way_fd, way_itself, went_on}
+use Rattle.pass_answer.proofs.Waiting.{broke_off, goes_on_at, way_bytes, way_fd, way_itself, went_on}
 use Rattle.pass_calls.proofs.pipe_writing.go_on.Goals as goal
 use Rattle.pass_calls.proofs.pipe_writing.go_on.Goals.{in-Ok, in-Err}
 

@@ -1,4 +1,4 @@
-use Rattle.std.proofs.Common.{◌≡◌, length, sym, ◌∙◌, subst, refl}
+use Rattle.std.proofs.Common.{length, sym, subst, refl}
 use Rattle.std.specs.Prelude.{take}
 use Rattle.pass_entry.specs.declared.entry.Reply.TheVariants as answer
 use Rattle.pass_plain.specs.declared.request.Request.TheVariants as requests
@@ -6,8 +6,8 @@ use Rattle.pass_plain.specs.Legal.{CallerAllows}
 use Rattle.pass_plain.specs.Processes.{process_after}
 use Rattle.pass_hold.specs.Callings.{IsEntered}
 use Rattle.pass_pipe.specs.Desks.{push_entry}
-use Rattle.pass_calls.specs.Answers.{HasMoved}
-use Rattle.pass_calls.specs.declared.answer.Moved.TheVariants as moved
+use Rattle.pass_answer.specs.Answers.{HasMoved}
+use Rattle.pass_answer.specs.declared.answer.Moved.TheVariants as moved
 use Rattle.pass_calls.proofs.PipeWrites.{push_allows, pushed_idle, pushed_moved, pushed_reply, seen_grows}
 use Rattle.pass_calls.proofs.pipe_writing.push_step.Goals as goal
 

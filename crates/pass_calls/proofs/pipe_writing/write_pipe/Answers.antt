@@ -2,7 +2,7 @@ use Rattle.std.proofs.Common.{◌≡◌, ap, sym, ◌∙◌, subst}
 use Rattle.std.specs.Prelude.{Some}
 use Rattle.std.specs.FinMap as finite_map
 use Rattle.pass_flow.specs.Flows.{ObjectView}
-use Rattle.pass_calls.proofs.Waiting.{same_way}
+use Rattle.pass_answer.proofs.Waiting.{same_way}
 use Rattle.pass_calls.proofs.pipe_writing.write_pipe.Goals as goal
 
 pub go_on-requires-clause-object : goal.go_on-requires-clause-object

@@ -6,7 +6,7 @@ use Rattle.pass_plain.specs.Legal.{CallerAllows}
 use Rattle.pass_hold.specs.Callings.{IsEntered}
 use Rattle.pass_registry.specs.Desks.{on_registry}
 use Rattle.pass_calls.specs.Renamings.{act_of_change, request_of_change}
-use Rattle.pass_calls.specs.declared.answer.Moved.TheVariants as moved
+use Rattle.pass_answer.specs.declared.answer.Moved.TheVariants as moved
 use Rattle.pass_calls.proofs.SingleStep.{change_step, change_stays, change_tells, step_allows, there_replied, there_moved, there_idle}
 use Rattle.pass_calls.proofs.renaming.change_step.Goals as goal
 

@@ -1,6 +1,6 @@
 use Rattle.std.proofs.Common.{◌+◌, refl}
 use Rattle.pass_proc.proofs.Steps.{frees, number_fits}
-use Rattle.pass_calls.proofs.Between.{looked_on, full_ends, steps_end}
+use Rattle.pass_answer.proofs.Between.{looked_on, full_ends, steps_end}
 use Rattle.pass_calls.specs.Renamings.{request_of_change}
 use Rattle.pass_calls.proofs.SingleStep.{change_needs, new_change}
 use Rattle.pass_calls.proofs.renaming.changed.Goals as goal

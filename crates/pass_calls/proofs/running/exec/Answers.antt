@@ -1,10 +1,10 @@
-use Rattle.std.proofs.Common.{◌≡◌, ◌+◌, ◌-◌, ap, refl, subst, sym, ◌∙◌}
+use Rattle.std.proofs.Common.{◌+◌, ◌-◌, ap, refl, subst, sym, ◌∙◌}
 use Rattle.pass_plain.specs.declared.request.Request.TheVariants as requests
 use Rattle.pass_hold.specs.Callings.{IsIdle}
 use Rattle.pass_proc.specs.Procs.{proc_with}
 use Rattle.pass_proc.specs.Views.{ProcessView}
 use Rattle.pass_proc.proofs.Steps.{frees, number_fits, idle_before}
-use Rattle.pass_calls.proofs.Between.{full_ends, looked_on}
+use Rattle.pass_answer.proofs.Between.{full_ends, looked_on}
 use Rattle.pass_calls.proofs.Reserved.{reserved}
 use Rattle.pass_calls.proofs.running.exec.Goals as goal
 

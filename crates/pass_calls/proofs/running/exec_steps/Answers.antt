@@ -1,4 +1,4 @@
-use Rattle.std.proofs.Common.{◌≡◌, ℕ, ap, sym, ◌∙◌, subst}
+use Rattle.std.proofs.Common.{◌≡◌, ap, sym, subst}
 use Rattle.pass_entry.specs.declared.entry.Act.TheVariants as act
 use Rattle.pass_entry.specs.declared.entry.CallName.TheVariants as calls
 use Rattle.pass_entry.specs.declared.entry.Reply.{Reply}
@@ -14,8 +14,8 @@ use Rattle.pass_proc.specs.Execs.{ExecView}
 use Rattle.pass_proc.specs.Views.{ProcessView}
 use Rattle.pass_registry.specs.Desks.{on_registry}
 use Rattle.pass_registry.specs.Outcomes.{reply_made}
-use Rattle.pass_calls.specs.Answers.{HasMoved}
-use Rattle.pass_calls.specs.declared.answer.Moved.TheVariants as moved
+use Rattle.pass_answer.specs.Answers.{HasMoved}
+use Rattle.pass_answer.specs.declared.answer.Moved.TheVariants as moved
 use Rattle.pass_calls.proofs.Runs.{answers_file, find_allows, find_keeps, load_allows, load_keeps, run_allows, run_idle, run_made}
 use Rattle.pass_calls.proofs.running.exec_steps.Goals as goal
 

@@ -1,7 +1,7 @@
 use Rattle.std.proofs.Common.{refl}
 use Rattle.pass_plain.specs.declared.request.Request.TheVariants as requests
 use Rattle.pass_proc.proofs.Steps.{frees, number_fits, idle_before}
-use Rattle.pass_calls.proofs.Between.{full_ends, looked_on}
+use Rattle.pass_answer.proofs.Between.{full_ends, looked_on}
 use Rattle.pass_calls.proofs.running.exec_unnamed.Goals as goal
 
 pub room-requires : goal.room-requires

@@ -4,8 +4,8 @@ use Rattle.pass_entry.specs.declared.entry.Reply.TheVariants as answer
 use Rattle.pass_plain.specs.declared.request.Request.TheVariants as requests
 use Rattle.pass_hold.specs.Callings.{IsIdle}
 use Rattle.pass_proc.specs.Views.{ProcessView}
-use Rattle.pass_calls.specs.Answers.{HasMoved}
-use Rattle.pass_calls.specs.declared.answer.Moved.TheVariants as moved
+use Rattle.pass_answer.specs.Answers.{HasMoved}
+use Rattle.pass_answer.specs.declared.answer.Moved.TheVariants as moved
 use Rattle.pass_calls.proofs.SingleStep.{seek_step, step_allows, here_moved, here_idle}
 use Rattle.pass_calls.proofs.seeking.seek_step.Goals as goal
 

@@ -7,8 +7,8 @@ use Rattle.pass_plain.specs.declared.request.Request.TheVariants as requests
 use Rattle.pass_hold.specs.Callings.{IsEntered, IsIdle}
 use Rattle.pass_file.specs.Desks.{entry_on}
 use Rattle.pass_proc.specs.Views.{ProcessView}
-use Rattle.pass_calls.specs.Answers.{HasMoved}
-use Rattle.pass_calls.specs.declared.answer.Moved.TheVariants as moved
+use Rattle.pass_answer.specs.Answers.{HasMoved}
+use Rattle.pass_answer.specs.declared.answer.Moved.TheVariants as moved
 use Rattle.pass_calls.proofs.Truncations.{cut_allows, cut_idle, cut_made, first_allows, first_keeps}
 use Rattle.pass_calls.proofs.truncating.cut_steps.Goals as goal
 

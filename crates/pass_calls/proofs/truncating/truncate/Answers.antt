@@ -7,8 +7,8 @@ use Rattle.pass_plain.specs.Processes.{refusal}
 use Rattle.pass_plain.specs.declared.request.Request.TheVariants as requests
 use Rattle.pass_proc.specs.Procs.{ProcView}
 use Rattle.pass_proc.proofs.Steps.{frees, number_fits, idle_before}
-use Rattle.pass_calls.specs.declared.answer.Moved.TheVariants as moved
-use Rattle.pass_calls.proofs.Between.{full_ends, looked_on, steps_end}
+use Rattle.pass_answer.specs.declared.answer.Moved.TheVariants as moved
+use Rattle.pass_answer.proofs.Between.{full_ends, looked_on, steps_end}
 use Rattle.pass_calls.proofs.truncating.truncate.Goals as goal
 
 pub room-requires : goal.room-requires

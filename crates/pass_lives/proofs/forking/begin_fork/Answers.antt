@@ -5,10 +5,10 @@ use Rattle.pass_hold.specs.Callings.{HasLooked}
 use Rattle.pass_proc.specs.Procs.{proc_with}
 use Rattle.pass_proc.specs.Views.{ProcessView}
 use Rattle.pass_proc.proofs.Steps.{frees, number_fits, still, way_looked}
-use Rattle.pass_calls.specs.Answers.{Answers}
-use Rattle.pass_calls.specs.declared.answer.CallEnd.{CallEnd}
-use Rattle.pass_calls.proofs.Waiting.{reserved}
-use Rattle.pass_calls.proofs.Wrapping.{full}
+use Rattle.pass_answer.specs.Answers.{Answers}
+use Rattle.pass_answer.specs.declared.answer.CallEnd.{CallEnd}
+use Rattle.pass_answer.proofs.Waiting.{reserved}
+use Rattle.pass_answer.proofs.Wrapping.{full}
 use Rattle.pass_lives.proofs.forking.begin_fork.Goals as goal
 
 pub room-requires : goal.room-requires

@@ -1,7 +1,7 @@
 use Rattle.std.proofs.Common.{refl}
 use Rattle.pass_plain.specs.declared.request.Request.TheVariants as requests
 use Rattle.pass_proc.proofs.Steps.{frees, number_fits}
-use Rattle.pass_calls.proofs.Between.{looked_on, full_ends}
+use Rattle.pass_answer.proofs.Between.{looked_on, full_ends}
 use Rattle.pass_lives.proofs.waiting.wait_ended.Goals as goal
 
 pub room-requires : goal.room-requires

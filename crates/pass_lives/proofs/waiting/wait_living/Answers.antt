@@ -7,10 +7,10 @@ use Rattle.pass_book.specs.Tokens.{BookState, NoteState}
 use Rattle.pass_hold.specs.Callers.{CallerState}
 use Rattle.pass_hold.specs.Callings.{HasLooked}
 use Rattle.pass_proc.specs.Procs.{ProcView, proc_with}
-use Rattle.pass_calls.specs.Answers.{Answers}
-use Rattle.pass_calls.specs.declared.answer.CallEnd.{CallEnd}
-use Rattle.pass_calls.specs.declared.answer.CallEnd.TheVariants as ends
-use Rattle.pass_calls.proofs.Between.{looked_on}
+use Rattle.pass_answer.specs.Answers.{Answers}
+use Rattle.pass_answer.specs.declared.answer.CallEnd.{CallEnd}
+use Rattle.pass_answer.specs.declared.answer.CallEnd.TheVariants as ends
+use Rattle.pass_answer.proofs.Between.{looked_on}
 use Rattle.pass_lives.proofs.Waits.{child_waits}
 use Rattle.pass_lives.proofs.waiting.wait_living.Goals as goal
 

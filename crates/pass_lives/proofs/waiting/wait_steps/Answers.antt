@@ -5,8 +5,8 @@ use Rattle.pass_plain.specs.Places.{keeps}
 use Rattle.pass_hold.specs.Callings.{IsEntered, IsIdle}
 use Rattle.pass_proc.specs.Ends.{reap_entry}
 use Rattle.pass_proc.specs.Views.{ProcessView}
-use Rattle.pass_calls.specs.Answers.{HasMoved}
-use Rattle.pass_calls.specs.declared.answer.Moved.TheVariants as moved
+use Rattle.pass_answer.specs.Answers.{HasMoved}
+use Rattle.pass_answer.specs.declared.answer.Moved.TheVariants as moved
 use Rattle.pass_lives.proofs.Waits.{reap_allows, reap_keeps, gather_allows, gather_keeps, waited, waited_idle}
 use Rattle.pass_lives.proofs.waiting.wait_steps.Goals as goal
 

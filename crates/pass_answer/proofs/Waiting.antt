@@ -24,10 +24,10 @@ use Rattle.pass_proc.specs.Procs.{IsCallerOf, ProcView, is_way, proc_with}
 use Rattle.pass_proc.specs.UnderWay.{IsWay}
 use Rattle.pass_proc.specs.Views.{ProcessView}
 use Rattle.pass_proc.specs.declared.way.Way.{Way}
-use Rattle.pass_calls.specs.Answers.{Answers, HasMoved, HasWaited, Stays, begins_at}
-use Rattle.pass_calls.specs.declared.answer.CallEnd.TheVariants as ends
-use Rattle.pass_calls.specs.declared.answer.Moved.{Moved}
-use Rattle.pass_calls.proofs.Steps.{told_call}
+use Rattle.pass_answer.specs.Answers.{Answers, HasMoved, HasWaited, Stays, begins_at}
+use Rattle.pass_answer.specs.declared.answer.CallEnd.TheVariants as ends
+use Rattle.pass_answer.specs.declared.answer.Moved.{Moved}
+use Rattle.pass_answer.proofs.Steps.{told_call}
 
 -- a call waits at its next step
 pub waits : (session : Session) (old new : ProcView) (r : Request) (before : List Entry) (number : ℕ) (p : Process) (made : Made) (what : ℕ) (a : Act)

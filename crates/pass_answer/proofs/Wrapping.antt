@@ -15,9 +15,9 @@ use Rattle.pass_proc.specs.CallEnds.{HasReplied}
 use Rattle.pass_proc.specs.Procs.{ProcView, IsCallerOf, proc_with}
 use Rattle.pass_proc.specs.Views.{ProcessView}
 use Rattle.pass_proc.specs.declared.way.Way.{Way}
-use Rattle.pass_calls.specs.Answers.{Answers, HasMoved, begins_at, resumes}
-use Rattle.pass_calls.specs.declared.answer.Moved.{Moved}
-use Rattle.pass_calls.specs.declared.answer.CallEnd.TheVariants as ends
+use Rattle.pass_answer.specs.Answers.{Answers, HasMoved, begins_at, resumes}
+use Rattle.pass_answer.specs.declared.answer.Moved.{Moved}
+use Rattle.pass_answer.specs.declared.answer.CallEnd.TheVariants as ends
 
 pub begins_now : (old : ProcView) (r : Request) → resumes old.way r ≡ false → begins_at old r ≡ old.seen
 begins_now old r new = ap (λ b. if b then option_map_or (λ (w : Way). take w.out old.seen) old.way old.seen else old.seen) new

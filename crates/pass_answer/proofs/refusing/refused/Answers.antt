@@ -1,16 +1,13 @@
-use Rattle.std.proofs.Common.{◌≡◌, ◌+◌, ◌<◌, length, ap, sym, ◌∙◌, subst, arith, refl, ℕ}
+use Rattle.std.proofs.Common.{◌≡◌, ap, sym, ◌∙◌, subst, arith}
 use Rattle.std.specs.Prelude.{Err}
 use Rattle.pass_entry.specs.declared.entry.Reply.TheVariants as answer
-use Rattle.pass_plain.specs.Calls.{name_of}
 use Rattle.pass_plain.specs.Places.{need_of}
-use Rattle.pass_hold.specs.Callings.{HasLooked}
 use Rattle.pass_proc.specs.CallEnds.{HasReplied}
-use Rattle.pass_proc.specs.Procs.{ProcView}
-use Rattle.pass_calls.specs.Answers.{Answers}
-use Rattle.pass_calls.specs.declared.answer.CallEnd.{CallEnd}
-use Rattle.pass_calls.specs.declared.answer.CallEnd.TheVariants as ends
-use Rattle.pass_calls.proofs.Wrapping.{begins_now}
-use Rattle.pass_calls.proofs.refusing.refused.Goals as goal
+use Rattle.pass_answer.specs.Answers.{Answers}
+use Rattle.pass_answer.specs.declared.answer.CallEnd.{CallEnd}
+use Rattle.pass_answer.specs.declared.answer.CallEnd.TheVariants as ends
+use Rattle.pass_answer.proofs.Wrapping.{begins_now}
+use Rattle.pass_answer.proofs.refusing.refused.Goals as goal
 
 pub returns-in-Ok-clause-call : goal.returns-in-Ok-clause-call
 returns-in-Ok-clause-call g c = λ r named asked within new.

@@ -5,8 +5,8 @@ ghost use Rattle.pass_plain.specs.Calls.{name_of, ask_of, is_within};
 ghost use Rattle.pass_plain.specs.Places.{need_of};
 ghost use Rattle.pass_plain.specs.Processes.{refusal};
 ghost use Rattle.pass_proc.specs.CallEnds.{Asks};
-ghost use Rattle.pass_calls.specs.Answers.{Answers, resumes};
-ghost use Rattle.pass_calls.specs.declared.answer.CallEnd.TheVariants as ends;
+ghost use Rattle.pass_answer.specs.Answers.{Answers, resumes};
+ghost use Rattle.pass_answer.specs.declared.answer.CallEnd.TheVariants as ends;
 
 use crate::answer::CallEnd;
 use pass_entry::{Ask, CallFault, CallName};

@@ -4,7 +4,7 @@ use pass_entry::{CallFault, Node, Pnode};
 use std::alloc::AllocError;
 
 /// What a call came to that went through.
-#[derive(Clone, Copy, Debug, PartialEq, Eq, Drop)]
+#[derive(Clone, Copy, PartialEq, Eq, Drop)]
 pub enum Moved {
     /// It is done, and there is nothing to tell.
     Done,
@@ -21,7 +21,7 @@ pub enum Moved {
 }
 
 /// Why a call ended otherwise.
-#[derive(Clone, Copy, Debug, PartialEq, Eq, Drop)]
+#[derive(Clone, Copy, PartialEq, Eq, Drop)]
 pub enum CallEnd {
     /// The fault that the call's last entry carries.
     Fault(CallFault),
@@ -36,7 +36,7 @@ pub enum CallEnd {
 }
 
 impl From<AllocError> for CallEnd {
-    ghost use Rattle.pass_calls.specs.declared.answer.CallEnd.TheVariants.{NoMemory};
+    ghost use Rattle.pass_answer.specs.declared.answer.CallEnd.TheVariants.{NoMemory};
     ghost use Rattle.std.specs.Prelude.{◌≡◌};
 
     ghost from_gives = { λ _ end. end ≡ NoMemory };
@@ -47,7 +47,7 @@ impl From<AllocError> for CallEnd {
 }
 
 impl From<Full> for CallEnd {
-    ghost use Rattle.pass_calls.specs.declared.answer.CallEnd.TheVariants as ends;
+    ghost use Rattle.pass_answer.specs.declared.answer.CallEnd.TheVariants as ends;
     ghost use Rattle.std.specs.Prelude.{◌≡◌};
 
     ghost from_gives = { λ full end. end ≡ ends.Full full.left full.need };
@@ -61,7 +61,7 @@ impl From<Full> for CallEnd {
 }
 
 impl From<CallFault> for CallEnd {
-    ghost use Rattle.pass_calls.specs.declared.answer.CallEnd.TheVariants as ends;
+    ghost use Rattle.pass_answer.specs.declared.answer.CallEnd.TheVariants as ends;
     ghost use Rattle.std.specs.Prelude.{◌≡◌};
 
     ghost from_gives = { λ fault end. end ≡ ends.Fault fault };

@@ -13,7 +13,7 @@ use Rattle.pass_plain.specs.Sessions.{Session}
 use Rattle.pass_hold.specs.Callings.{IsEntered, IsIdle, IsGoing, HasGone, IsCallMade}
 use Rattle.pass_hold.proofs.Callings.{entry_of, call_made, idle_again}
 use Rattle.pass_proc.proofs.Steps.{begun}
-use Rattle.pass_calls.proofs.Steps.{next_allows, next_keeps, gone_by}
+use Rattle.pass_answer.proofs.Steps.{next_allows, next_keeps, gone_by}
 
 -- the place of an entry that was made last
 pub place_is : (session : Session) (line desk after : List Entry) (e : Entry) (entered : IsEntered session line desk after e) (place : ℕ) → place + 1 ≡ length after → length entered.past ≡ place

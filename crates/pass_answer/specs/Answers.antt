@@ -20,10 +20,10 @@ use Rattle.pass_hold.specs.Callings.{IsCallMade, IsInCall, HasLooked}
 use Rattle.pass_proc.specs.CallEnds.{HasReplied, last_reply}
 use Rattle.pass_proc.specs.Procs.{ProcView, is_way}
 use Rattle.pass_proc.specs.declared.way.Way.{Way}
-use Rattle.pass_calls.specs.declared.answer.Moved.{Moved}
-use Rattle.pass_calls.specs.declared.answer.Moved.TheVariants as moved
-use Rattle.pass_calls.specs.declared.answer.CallEnd.{CallEnd}
-use Rattle.pass_calls.specs.declared.answer.CallEnd.TheVariants as ends
+use Rattle.pass_answer.specs.declared.answer.Moved.{Moved}
+use Rattle.pass_answer.specs.declared.answer.Moved.TheVariants as moved
+use Rattle.pass_answer.specs.declared.answer.CallEnd.{CallEnd}
+use Rattle.pass_answer.specs.declared.answer.CallEnd.TheVariants as ends
 
 -- the call goes on with the process's write that is under way
 abbrev pub resumes : Option Way → Request → Bool

@@ -1,12 +1,12 @@
 //! How a call ends by its steps.
 ghost use Rattle.std.specs.Prelude.{◌≡◌};
-ghost use Rattle.pass_calls.specs.Endings.{answer_of};
+ghost use Rattle.pass_answer.specs.Endings.{answer_of};
 
 use crate::answer::{CallEnd, Moved};
 use pass_entry::CallFault;
 
 /// The answer of a call whose steps came to this.
-pub(crate) fn ended(steps: Result<Moved, CallFault>) -> Result<Moved, CallEnd>
+pub fn ended(steps: Result<Moved, CallFault>) -> Result<Moved, CallEnd>
     ensures { result ≡ answer_of steps }
 {
     match steps {

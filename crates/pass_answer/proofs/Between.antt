@@ -14,12 +14,12 @@ use Rattle.pass_proc.specs.UnderWay.{IsWay}
 use Rattle.pass_proc.specs.Views.{ProcessView}
 use Rattle.pass_proc.specs.declared.way.Way.{Way}
 use Rattle.pass_proc.proofs.Steps.{still, way_looked}
-use Rattle.pass_calls.specs.Answers.{Answers, Stepped, resumes}
-use Rattle.pass_calls.specs.Endings.{answer_of}
-use Rattle.pass_calls.specs.declared.answer.Moved.{Moved}
-use Rattle.pass_calls.specs.declared.answer.CallEnd.{CallEnd}
-use Rattle.pass_calls.specs.declared.answer.CallEnd.TheVariants as ends
-use Rattle.pass_calls.proofs.Wrapping.{moved, faulted, full}
+use Rattle.pass_answer.specs.Answers.{Answers, Stepped, resumes}
+use Rattle.pass_answer.specs.Endings.{answer_of}
+use Rattle.pass_answer.specs.declared.answer.Moved.{Moved}
+use Rattle.pass_answer.specs.declared.answer.CallEnd.{CallEnd}
+use Rattle.pass_answer.specs.declared.answer.CallEnd.TheVariants as ends
+use Rattle.pass_answer.proofs.Wrapping.{moved, faulted, full}
 
 module _ (session : Session) (p : ProcessView) (n : ℕ) (c : CallerState) (way : Option Way) (is : IsCallerOf session p n c × IsWay session p.who n c.seen p.state way) (d : CallerState)
     (same : d ≡ moved_on c d.seen d.syncs c.held) (looked : HasLooked session c.who c.seen d.seen) where

@@ -1,0 +1,6 @@
+pub mod Between
+pub mod Naming
+pub mod ObjectSteps
+pub mod Steps
+pub mod Waiting
+pub mod Wrapping

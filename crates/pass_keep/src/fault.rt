@@ -6,7 +6,7 @@ use pass_log::LogFault;
 use std::alloc::{AllocError, AllocFailed};
 
 /// The faults of keeping.
-#[derive(Clone, Copy, Debug, PartialEq, Eq, Drop)]
+#[derive(Clone, Copy, PartialEq, Eq, Drop)]
 pub enum KeepFault {
     /// A device call failed: the disk's count of faults when the log was `opened`, and `now`, as the call returns.
     DiskFault { opened: u64, now: u64 },

@@ -9,8 +9,8 @@ use Rattle.pass_outside.specs.Moments.{Moment, IsAtEnd, IsDeviceRun, Adds, After
 use Rattle.pass_outside.specs.Runs.{adds_nothing, adds_weaker, adds_both, adds_steps, follows_both, follows_weaker}
 use Rattle.pass_log.specs.declared.log.Log.{Log}
 use Rattle.pass_log.specs.Frames.{frames_of, longest, with_frame, staged, Rests}
-use Rattle.pass_log.specs.Log.{Stands, IsSettled, IsStaged, batch_of, IsBeforeOrAfter, SameStore, LeavesStore}
-use Rattle.pass_log.proofs.Crash.{image_rests, torn_behind, written_behind, torn_gate, written_gate, Ready, found}
+use Rattle.pass_log.specs.Log.{Stands, IsSettled, IsStaged, batch_of, standing, HasSame, HasOneMore, IsBeforeOrAfter, SameStore, LeavesStore}
+use Rattle.pass_log.proofs.Crash.{image_rests, torn_behind, behind_bytes, written_behind, written_front, torn_gate, written_gate, written_bytes, Ready, found, IsEither}
 
 pub at_end_or : (m : Moment) → IsAtEnd m ⊎ (IsAtEnd m → ⊥)
 at_end_or m = elim (cases_eq m.calls 18446744073709551615) [
@@ -33,6 +33,12 @@ length-written old at bytes within =
       length-drop (at + length bytes) old,
     )
 
+-- how a frame stands in a log
+pub standing_staged : (b : List ℕ) → standing (staged b) ≡ 1 ∷ (to_be_bytes w32 (length b) ++ b)
+standing_staged b =
+    let head = to_be_bytes w32 (length b) in
+    ap (λ (l : List ℕ). 1 ∷ l) (take_at (head ++ b) (0 ∷ []) (length (staged b) - 1) (omega (arith, length-append (head ++ b) (0 ∷ []))))
+
 module _ (log : Log) (old : Moment) (s : Stands log old) (frame : List ℕ) (room : log.end + length frame < 2 ^ 39) where
   within : log.end + 1 ≤ length old.seen.log
   within = let long : length old.seen.log ≡ length s.rests.front + suc (length s.rests.tail) = ap length s.rests.is ∙ length-append s.rests.front (s.rests.gate ∷ s.rests.tail) in
@@ -42,11 +48,14 @@ module _ (log : Log) (old : Moment) (s : Stands log old) (frame : List ℕ) (roo
   old_image = image_rests s.list log.end old.seen.log s.rests s.fits
 
   -- a crash while the frame is written leaves the old frames
-  pub behind : (c : Image) → AfterStep (OnArea areas.Log (Torn (log.end + 1) (length frame))) old c → frames_of c.log ≡ frames_of old.seen.log
+  pub behind : (c : Image) → AfterStep (OnArea areas.Log (Torn (log.end + 1) (length frame))) old c → HasSame log.end old.seen.log c.log
   behind c after =
       let torn : Torn (log.end + 1) (length frame) old.seen.log c.log = subst (λ (l : List ℕ). Torn (log.end + 1) (length frame) l c.log) (s.only after.0 after.1) after.2.here in
       let fits : length c.log ≤ longest = omega (arith, torn.no_longer, s.fits, room) in
-      image_rests s.list log.end c.log (torn_behind s.list log.end old.seen.log s.rests (length frame) c.log torn) fits ∙ sym old_image
+      record {
+        frames = image_rests s.list log.end c.log (torn_behind s.list log.end old.seen.log s.rests (length frame) c.log torn) fits ∙ sym old_image;
+        bytes = behind_bytes s.list log.end old.seen.log s.rests (length frame) c.log torn;
+      }
 
   module _ (mid : Moment) (is : IsStaged frame) (done : mid.seen.log ≡ written old.seen.log (log.end + 1) frame) (durable : (c : Image) → mid.may_leave c → c.log ≡ mid.seen.log) where
     ready : Ready s.list log.end (batch_of frame) mid.seen.log
@@ -66,13 +75,28 @@ module _ (log : Log) (old : Moment) (s : Stands log old) (frame : List ℕ) (roo
     longer : log.end + 2 ≤ length mid.seen.log
     longer = omega (arith, ap length done, length-written old.seen.log (log.end + 1) frame within, size)
 
-    either : (bytes : List ℕ) → length bytes ≤ longest → Rests s.list log.end bytes ⊎ Rests (s.list ++ batch_of frame ∷ []) (log.end + 5 + length (batch_of frame)) bytes
-        → IsBeforeOrAfter (batch_of frame) (frames_of old.seen.log) (frames_of bytes)
-    either bytes fits (inl r) = inl (image_rests s.list log.end bytes r fits ∙ sym old_image)
-    either bytes fits (inr r) = inr (image_rests (s.list ++ batch_of frame ∷ []) (log.end + 5 + length (batch_of frame)) bytes r fits ∙ ap (with_frame (batch_of frame)) (sym old_image))
+    same_front : take log.end mid.seen.log ≡ take log.end old.seen.log
+    same_front = ap (take log.end) (done ∙ ap (written old.seen.log (log.end + 1)) is.is) ∙ written_front s.list log.end (batch_of frame) old.seen.log s.rests is.fits
+
+    same_end : log.end + length frame ≡ log.end + 5 + length (batch_of frame)
+    same_end = omega (arith, size)
+
+    -- bytes that have the frame behind those of the middle have it behind the old ones
+    more_bytes : (bytes : List ℕ) → take (log.end + 5 + length (batch_of frame)) bytes ≡ take log.end mid.seen.log ++ (1 ∷ to_be_bytes w32 (length (batch_of frame)) ++ batch_of frame)
+        → take (log.end + length frame) bytes ≡ take log.end old.seen.log ++ standing frame
+    more_bytes bytes more =
+        ap (λ (n : ℕ). take n bytes) same_end ∙ more ∙ ap (λ (l : List ℕ). l ++ (1 ∷ to_be_bytes w32 (length (batch_of frame)) ++ batch_of frame)) same_front
+        ∙ ap (λ (l : List ℕ). take log.end old.seen.log ++ l) (sym (ap standing is.is ∙ standing_staged (batch_of frame)))
+
+    either : (bytes : List ℕ) → length bytes ≤ longest → IsEither s.list log.end (batch_of frame) is.fits mid.seen.log ready bytes → IsBeforeOrAfter frame log.end old.seen.log bytes
+    either bytes fits (inl (r, same)) = inl (record { frames = image_rests s.list log.end bytes r fits ∙ sym old_image; bytes = same ∙ same_front })
+    either bytes fits (inr (r, more)) = inr (record {
+      frames = image_rests (s.list ++ batch_of frame ∷ []) (log.end + 5 + length (batch_of frame)) bytes r fits ∙ ap (with_frame (batch_of frame)) (sym old_image);
+      bytes = more_bytes bytes more;
+    })
 
     -- a crash while the gate is written leaves the old frames, or the new one too
-    pub at_gate : (c : Image) → AfterStep (OnArea areas.Log (Torn log.end 1)) mid c → IsBeforeOrAfter (batch_of frame) (frames_of old.seen.log) (frames_of c.log)
+    pub at_gate : (c : Image) → AfterStep (OnArea areas.Log (Torn log.end 1)) mid c → IsBeforeOrAfter frame log.end old.seen.log c.log
     at_gate c after =
         let torn : Torn log.end 1 mid.seen.log c.log = subst (λ (l : List ℕ). Torn log.end 1 l c.log) (durable after.0 after.1) after.2.here in
         let fits : length c.log ≤ longest = omega (arith, torn.no_longer, mid_fits, longer) in
@@ -100,6 +124,9 @@ module _ (log : Log) (old : Moment) (s : Stands log old) (frame : List ℕ) (roo
         ap frames_of (only c may) ∙ image_rests t.list (log.end + length frame) new.seen.log t.rests t.fits
         ∙ ap (found t.list) ends ∙ ap (with_frame (batch_of frame)) (sym old_image)
 
+    pub new_bytes : (new : Moment) → new.seen.log ≡ written mid.seen.log log.end (1 ∷ []) → take (log.end + length frame) new.seen.log ≡ take log.end old.seen.log ++ standing frame
+    new_bytes new open_now = more_bytes new.seen.log (ap (take (log.end + 5 + length (batch_of frame))) open_now ∙ written_bytes s.list log.end (batch_of frame) is.fits mid.seen.log ready)
+
     pub new_reads : (new : Moment) → new.seen.log ≡ written mid.seen.log log.end (1 ∷ []) → ((c : Image) → new.may_leave c → c.log ≡ new.seen.log)
         → frames_of new.seen.log ≡ with_frame (batch_of frame) (frames_of old.seen.log)
     unfolding stands_again
@@ -110,12 +137,12 @@ module _ (log : Log) (old : Moment) (s : Stands log old) (frame : List ℕ) (roo
 
 -- the first step, whatever the counts are
 pub staged_moments : (log : Log) (old mid : Moment) (frame : List ℕ) → IsSettled log old → old.faults ≤ log.opened → log.end + length frame < 2 ^ 39 → IsTrue old.tells
-    → (IsAtEnd old → mid ≡ old) → Adds old mid (AfterStep (OnArea areas.Log (Torn (log.end + 1) (length frame))) old) → Adds old mid (λ c. frames_of c.log ≡ frames_of old.seen.log)
+    → (IsAtEnd old → mid ≡ old) → Adds old mid (AfterStep (OnArea areas.Log (Torn (log.end + 1) (length frame))) old) → Adds old mid (λ c. HasSame log.end old.seen.log c.log)
 staged_moments log old mid frame settled healthy room tells stands adds = elim (at_end_or old) [
-  | inl ended ↦ subst (λ (m : Moment). Adds old m (λ c. frames_of c.log ≡ frames_of old.seen.log)) (sym (stands ended)) (adds_nothing old (λ c. frames_of c.log ≡ frames_of old.seen.log))
+  | inl ended ↦ subst (λ (m : Moment). Adds old m (λ c. HasSame log.end old.seen.log c.log)) (sym (stands ended)) (adds_nothing old (λ c. HasSame log.end old.seen.log c.log))
   | inr before_end ↦
       let s = settled.stands tells (omega (arith, settled.opened, healthy)) before_end in
-      adds_weaker (λ c. frames_of c.log ≡ frames_of old.seen.log) old mid adds (behind log old s frame room)
+      adds_weaker (λ c. HasSame log.end old.seen.log c.log) old mid adds (behind log old s frame room)
 ]
 
 -- after a failure nothing is known of the area
@@ -129,9 +156,9 @@ settled_failed log old mid new r P settled rose run failed = record {
 pub both_moments : (log : Log) (old mid new : Moment) (frame : List ℕ) (s : Stands log old) → log.end + length frame < 2 ^ 39 → IsStaged frame
     → mid.seen.log ≡ written old.seen.log (log.end + 1) frame → ((c : Image) → mid.may_leave c → c.log ≡ mid.seen.log)
     → Adds old mid (AfterStep (OnArea areas.Log (Torn (log.end + 1) (length frame))) old) → Adds mid new (AfterStep (OnArea areas.Log (Torn log.end 1)) mid)
-    → Adds old new (λ c. IsBeforeOrAfter (batch_of frame) (frames_of old.seen.log) (frames_of c.log))
+    → Adds old new (λ c. IsBeforeOrAfter frame log.end old.seen.log c.log)
 both_moments log old mid new frame s room is done durable first second =
-    adds_both (λ c. IsBeforeOrAfter (batch_of frame) (frames_of old.seen.log) (frames_of c.log)) old mid new first second
+    adds_both (λ c. IsBeforeOrAfter frame log.end old.seen.log c.log) old mid new first second
     (λ c x. inl (behind log old s frame room c x)) (at_gate log old s frame room mid is done durable)
 
 -- a step of the log area leaves the store area

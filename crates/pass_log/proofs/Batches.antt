@@ -14,7 +14,7 @@ use Rattle.pass_record.specs.Spelling.{spelling}
 use Rattle.pass_log.specs.declared.fault.LogFault.{LogFault}
 use Rattle.pass_log.specs.Frames.{Frames, frames_of, with_frame}
 use Rattle.pass_log.specs.Records.{joined, records_in, frame_more, records_of, held, image_in, image_of, spellings, with_batch, IsOldOrBoth}
-use Rattle.pass_log.specs.Log.{IsFrameOf, batch_of, IsBeforeOrAfter}
+use Rattle.pass_log.specs.Log.{IsFrameOf, batch_of, IsBeforeOrAfter, IsOldOrMore}
 use Rattle.pass_log.proofs.Reading.{record_found, records_append}
 use Rattle.pass_log.proofs.Append.{batch_staged}
 
@@ -74,11 +74,19 @@ module _ {T E : Type 0} (again : IsReadAgain) (lengths : HasLength) (old new : M
   reads_both (Ok x) h = λ batch is tells. ap image_in (h tells) ∙ frame_image again lengths batch frame (frames_of old.seen.log) is
   reads_both (Err e) h = tt
 
-module _ (again : IsReadAgain) (lengths : HasLength) (old new : Moment) (frame : List ℕ) where
-  pub old_or_both : (batch : List Record) → IsFrameOf batch frame → Adds old new (λ c. IsBeforeOrAfter (batch_of frame) (frames_of old.seen.log) (frames_of c.log))
+module _ (again : IsReadAgain) (lengths : HasLength) (old new : Moment) (frame : List ℕ) (end : ℕ) where
+  pub old_or_both : (batch : List Record) → IsFrameOf batch frame → Adds old new (λ c. IsBeforeOrAfter frame end old.seen.log c.log)
       → Adds old new (λ c. IsOldOrBoth batch (image_of old.seen.log) (image_of c.log))
   old_or_both batch is run = adds_weaker (λ c. IsOldOrBoth batch (image_of old.seen.log) (image_of c.log)) old new run (λ c x. either c x)
     where
-      either : (c : Image) → IsBeforeOrAfter (batch_of frame) (frames_of old.seen.log) (frames_of c.log) → IsOldOrBoth batch (image_of old.seen.log) (image_of c.log)
-      either c (inl same) = inl (ap image_in same)
-      either c (inr more) = inr (ap image_in more ∙ frame_image again lengths batch frame (frames_of old.seen.log) is)
+      either : (c : Image) → IsBeforeOrAfter frame end old.seen.log c.log → IsOldOrBoth batch (image_of old.seen.log) (image_of c.log)
+      either c (inl same) = inl (ap image_in same.frames)
+      either c (inr more) = inr (ap image_in more.frames ∙ frame_image again lengths batch frame (frames_of old.seen.log) is)
+
+  pub old_or_more : (batch : List Record) → IsFrameOf batch frame → Adds old new (λ c. IsBeforeOrAfter frame end old.seen.log c.log)
+      → Adds old new (λ c. IsOldOrMore batch frame end old.seen.log c.log)
+  old_or_more batch is run = adds_weaker (λ c. IsOldOrMore batch frame end old.seen.log c.log) old new run (λ c x. either c x)
+    where
+      either : (c : Image) → IsBeforeOrAfter frame end old.seen.log c.log → IsOldOrMore batch frame end old.seen.log c.log
+      either c (inl same) = inl (record { image = ap image_in same.frames; bytes = same.bytes })
+      either c (inr more) = inr (record { image = ap image_in more.frames ∙ frame_image again lengths batch frame (frames_of old.seen.log) is; bytes = more.bytes })

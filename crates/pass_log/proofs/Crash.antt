@@ -55,6 +55,10 @@ image_rests list end bytes r fits = elim (leq_or (length bytes)) [
     leq_or (suc zero) = inl (omega arith)
     leq_or (suc (suc n)) = inr (omega arith)
 
+-- the bytes up to its end are those of its frames
+pub front_is : (list : List (List ℕ)) (end : ℕ) (bytes : List ℕ) (r : Rests list end bytes) → take end bytes ≡ r.front
+front_is list end bytes r = ap (take end) r.is ∙ take_at r.front (r.gate ∷ r.tail) end r.place
+
 module _ (list : List (List ℕ)) (end : ℕ) (bytes : List ℕ) (r : Rests list end bytes) where
   size : length bytes ≡ end + suc (length r.tail)
   size = ap length r.is ∙ length-append r.front (r.gate ∷ r.tail) ∙ ap (λ (n : ℕ). n + suc (length r.tail)) r.place
@@ -82,6 +86,10 @@ module _ (list : List (List ℕ)) (end : ℕ) (bytes : List ℕ) (r : Rests list
         passes = r.passes;
         place = r.place;
       }
+
+  pub behind_bytes : (n : ℕ) (c : List ℕ) → Torn (end + 1) n bytes c → take end c ≡ take end bytes
+  unfolding torn_behind
+  behind_bytes n c torn = front_is list end c (torn_behind n c torn) ∙ sym (front_is list end bytes r)
 
 -- a whole frame and a closed gate stand behind a gate
 pub record Ready (list : List (List ℕ)) (end : ℕ) (frame : List ℕ) (bytes : List ℕ) : Type 0 where
@@ -128,6 +136,11 @@ module _ (list : List (List ℕ)) (end : ℕ) (frame : List ℕ) (fits : length 
         place = length-append front (1 ∷ head ++ frame) ∙ omega (arith, place, four, length-append head frame);
       }
 
+  pub opened_bytes : (front tail c : List ℕ) (passes : IsFront front list) (place : length front ≡ end) → c ≡ front ++ 1 ∷ (to_be_bytes w32 (length frame) ++ frame ++ 0 ∷ tail)
+      → take (end + 5 + length frame) c ≡ front ++ (1 ∷ to_be_bytes w32 (length frame) ++ frame)
+  unfolding opened
+  opened_bytes front tail c passes place is = front_is (list ++ frame ∷ []) (end + 5 + length frame) c (opened front tail c passes place is)
+
   module _ (bytes : List ℕ) (r : Ready list end frame bytes) where
     rest : List ℕ
     rest = to_be_bytes w32 (length frame) ++ frame ++ 0 ∷ r.tail
@@ -135,7 +148,7 @@ module _ (list : List (List ℕ)) (end : ℕ) (frame : List ℕ) (fits : length 
     ready_size : length bytes ≡ end + suc (length (to_be_bytes w32 (length frame) ++ frame ++ 0 ∷ r.tail))
     ready_size = ap length r.is ∙ length-append r.front (r.gate ∷ (to_be_bytes w32 (length frame) ++ frame ++ 0 ∷ r.tail)) ∙ ap (λ (n : ℕ). n + suc (length (to_be_bytes w32 (length frame) ++ frame ++ 0 ∷ r.tail))) r.place
 
-    ready_front : take end bytes ≡ r.front
+    pub ready_front : take end bytes ≡ r.front
     ready_front = ap (take end) r.is ∙ take_at r.front (r.gate ∷ (to_be_bytes w32 (length frame) ++ frame ++ 0 ∷ r.tail)) end r.place
 
     ready_back : drop (end + 1) bytes ≡ to_be_bytes w32 (length frame) ++ frame ++ 0 ∷ r.tail
@@ -143,15 +156,27 @@ module _ (list : List (List ℕ)) (end : ℕ) (frame : List ℕ) (fits : length 
         ap (drop (end + 1)) (r.is ∙ sym (append_assoc r.front (r.gate ∷ []) (to_be_bytes w32 (length frame) ++ frame ++ 0 ∷ r.tail)))
         ∙ drop_at (r.front ++ r.gate ∷ []) (to_be_bytes w32 (length frame) ++ frame ++ 0 ∷ r.tail) (end + 1) (length-append r.front (r.gate ∷ []) ∙ ap (λ (n : ℕ). n + 1) r.place)
 
+    -- the frames as they were, or with this one, and the bytes up to their end
+    abbrev pub IsEither : List ℕ → Type 0
+    IsEither c = (Rests list end c × (take end c ≡ take end bytes))
+        ⊎ (Rests (list ++ frame ∷ []) (end + 5 + length frame) c × (take (end + 5 + length frame) c ≡ take end bytes ++ (1 ∷ to_be_bytes w32 (length frame) ++ frame)))
+
     -- with whatever byte the gate is
-    with_gate : (g : ℕ) (c : List ℕ) → c ≡ r.front ++ g ∷ (to_be_bytes w32 (length frame) ++ frame ++ 0 ∷ r.tail) → Rests list end c ⊎ Rests (list ++ frame ∷ []) (end + 5 + length frame) c
+    with_gate : (g : ℕ) (c : List ℕ) → c ≡ r.front ++ g ∷ (to_be_bytes w32 (length frame) ++ frame ++ 0 ∷ r.tail) → IsEither c
     with_gate g c is = elim (cases_eq g 1) [
-      | inl one ↦ inr (opened r.front r.tail c r.passes r.place (is ∙ ap (λ (k : ℕ). r.front ++ k ∷ (to_be_bytes w32 (length frame) ++ frame ++ 0 ∷ r.tail)) one))
-      | inr shut ↦ inl (record { front = r.front; gate = g; tail = to_be_bytes w32 (length frame) ++ frame ++ 0 ∷ r.tail; is = is; shut = shut; passes = r.passes; place = r.place })
+      | inl one ↦
+          let open_now : c ≡ r.front ++ 1 ∷ (to_be_bytes w32 (length frame) ++ frame ++ 0 ∷ r.tail) = is ∙ ap (λ (k : ℕ). r.front ++ k ∷ (to_be_bytes w32 (length frame) ++ frame ++ 0 ∷ r.tail)) one in
+          inr (
+            opened r.front r.tail c r.passes r.place open_now,
+            opened_bytes r.front r.tail c r.passes r.place open_now ∙ ap (λ (l : List ℕ). l ++ (1 ∷ to_be_bytes w32 (length frame) ++ frame)) (sym ready_front),
+          )
+      | inr shut ↦
+          let same : Rests list end c = record { front = r.front; gate = g; tail = to_be_bytes w32 (length frame) ++ frame ++ 0 ∷ r.tail; is = is; shut = shut; passes = r.passes; place = r.place } in
+          inl (same, front_is list end c same ∙ sym ready_front)
     ]
 
     -- each outcome of the write of the gate
-    pub torn_gate : (c : List ℕ) → Torn end 1 bytes c → Rests list end c ⊎ Rests (list ++ frame ∷ []) (end + 5 + length frame) c
+    pub torn_gate : (c : List ℕ) → Torn end 1 bytes c → IsEither c
     torn_gate c torn =
         let whole : min end (length bytes) ≡ end = omega (arith, ready_size) in
         let long : length c ≡ length bytes = omega (arith, ready_size, torn.no_shorter, torn.no_longer) in
@@ -166,12 +191,24 @@ module _ (list : List (List ℕ)) (end : ℕ) (frame : List ℕ) (fits : length 
         ∙ ap (λ (l : List ℕ). r.front ++ g ∷ l) back)
 
     -- the gate is open
-    pub written_gate : Rests (list ++ frame ∷ []) (end + 5 + length frame) (written bytes end (1 ∷ []))
-    written_gate =
+    gate_open : written bytes end (1 ∷ []) ≡ r.front ++ 1 ∷ (to_be_bytes w32 (length frame) ++ frame ++ 0 ∷ r.tail)
+    gate_open =
         let none : end - length bytes ≡ 0 = omega (arith, ready_size) in
-        opened r.front r.tail (written bytes end (1 ∷ [])) r.passes r.place (
         ap (λ (l : List ℕ). (l ++ replicate (end - length bytes) 0) ++ (1 ∷ []) ++ drop (end + 1) bytes) ready_front
         ∙ ap (λ (n : ℕ). (r.front ++ replicate n 0) ++ (1 ∷ []) ++ drop (end + 1) bytes) none
         ∙ ap (λ (l : List ℕ). l ++ (1 ∷ []) ++ drop (end + 1) bytes) (append-nil r.front)
         ∙ append_assoc r.front (1 ∷ []) (drop (end + 1) bytes)
-        ∙ ap (λ (l : List ℕ). r.front ++ 1 ∷ l) ready_back)
+        ∙ ap (λ (l : List ℕ). r.front ++ 1 ∷ l) ready_back
+
+    pub written_gate : Rests (list ++ frame ∷ []) (end + 5 + length frame) (written bytes end (1 ∷ []))
+    written_gate = opened r.front r.tail (written bytes end (1 ∷ [])) r.passes r.place gate_open
+
+    pub written_bytes : take (end + 5 + length frame) (written bytes end (1 ∷ [])) ≡ take end bytes ++ (1 ∷ to_be_bytes w32 (length frame) ++ frame)
+    written_bytes =
+        opened_bytes r.front r.tail (written bytes end (1 ∷ [])) r.passes r.place gate_open ∙ ap (λ (l : List ℕ). l ++ (1 ∷ to_be_bytes w32 (length frame) ++ frame)) (sym ready_front)
+
+-- a frame that is written behind a log leaves the bytes up to its end
+pub written_front : (list : List (List ℕ)) (end : ℕ) (frame bytes : List ℕ) (r : Rests list end bytes) → length frame < 2 ^ 32 → take end (written bytes (end + 1) (staged frame)) ≡ take end bytes
+unfolding written_behind
+written_front list end frame bytes r fits =
+    ready_front list end frame fits (written bytes (end + 1) (staged frame)) (written_behind list end frame bytes r) ∙ sym (front_is list end bytes r)

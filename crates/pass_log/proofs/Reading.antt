@@ -11,7 +11,7 @@ use Rattle.pass_record.specs.declared.fault.RecordFault.TheVariants as why_is
 use Rattle.pass_record.specs.Faults as records
 use Rattle.std.specs.Prelude.{IsErrAnd, IfErr}
 use Rattle.pass_outside.specs.Moments.{Moment}
-use Rattle.pass_log.specs.LogImage.{IsFaultRead}
+use Rattle.pass_log.specs.LogImage.{IsFaultRead, IsUnread}
 use Rattle.pass_log.specs.Frames.{before, number, scan, longest}
 use Rattle.pass_log.specs.Records.{joined, one_more, records_in, frame_more, records_of, held, image_in, image_of, Fails, Gives}
 use Rattle.pass_log.proofs.Scan.{before_nil, more_frames, begins}
@@ -175,16 +175,21 @@ image_bad e bytes frames end some fits whole bad = by_case e bad
     by_case (fault.Broken opened now) b = b
 
 -- an area that is too long, told or not
-pub long_fault : (tells : Bool) (log : List ℕ) (size : ℕ) → (IsTrue tells → size ≡ length log) → longest < size
-    → (b : List ℕ) × (IsTrue tells → b ≡ log) × (image_of b ≡ Err (fault.BadFrame longest))
-long_fault true log size h long = (log, λ _. refl, ap image_in (image_long log (omega (arith, h refl, long))))
-long_fault false log size h long =
+pub long_area : (tells : Bool) (log : List ℕ) (size : ℕ) → (IsTrue tells → size ≡ length log) → longest < size
+    → (b : List ℕ) × (IsTrue tells → b ≡ log) × (longest < length b) × (longest ≡ longest)
+long_area true log size h long = (log, λ _. refl, omega (arith, h refl, long), refl)
+long_area false log size h long =
     let zeros : List ℕ = replicate size 0 in
-    (zeros, λ no. absurd (cc no), ap image_in (image_long zeros (omega (arith, length-replicate {A = ℕ} size 0, long))))
+    (zeros, λ no. absurd (cc no), omega (arith, length-replicate {A = ℕ} size 0, long), refl)
 
 -- the fault of an area that couldn't be read
-pub area_fault : {X : Type 0} (m : Moment) (r : Result X LogFault) (e : LogFault) → IsErrAnd r (λ y. y ≡ e) → (e ≡ fault.DiskFault) ⊎ (e ≡ fault.NoMemory)
-    → IfErr r (λ y. (y ≡ fault.DiskFault) ⊎ IsFaultRead m y)
-area_fault {X} m (Ok x) e is which = absurd is
-area_fault {X} m (Err y) e is (inl disk) = inl (is ∙ disk)
-area_fault {X} m (Err y) e is (inr memory) = inr (m.seen.log, λ _. refl, subst (λ (k : LogFault). Fails k (image_of m.seen.log)) (sym (is ∙ memory)) tt)
+pub area_fault : {X : Type 0} (m : Moment) (r : Result X LogFault) (e : LogFault) → IsErrAnd r (λ y. y ≡ e) → IsUnread m e → IfErr r (λ y. (y ≡ fault.DiskFault) ⊎ IsFaultRead m y)
+area_fault {X} m (Ok x) e is unread = absurd is
+area_fault {X} m (Err y) e is unread = subst (λ (k : LogFault). (k ≡ fault.DiskFault) ⊎ IsFaultRead m k) (sym is) (by e unread)
+  where
+    by : (k : LogFault) → IsUnread m k → (k ≡ fault.DiskFault) ⊎ IsFaultRead m k
+    by fault.DiskFault u = inl refl
+    by (fault.BadFrame at) (bytes, told, long, place) = inr (bytes, told, ap image_in (image_long bytes long) ∙ ap (λ (n : ℕ). Err (fault.BadFrame n)) (sym place))
+    by fault.NoMemory u = inr (m.seen.log, λ _. refl, tt)
+    by (fault.BadRecord place why) u = absurd u
+    by (fault.Broken opened now) u = absurd u

@@ -1,13 +1,13 @@
 -- An open log on its disk, and the frame of a batch (this project's own rule).
-use Rattle.std.specs.Prelude.{◌≡◌, ◌⊎◌, ℕ, ◌-◌, ◌<◌, ◌≤◌, ◌^◌, List, length, take, drop, Result, IsTrue}
+use Rattle.std.specs.Prelude.{◌≡◌, ◌⊎◌, ℕ, ◌+◌, ◌-◌, ◌<◌, ◌≤◌, ◌^◌, List, ◌∷◌, ◌++◌, length, take, drop, IsTrue}
 use Rattle.std.specs.List.{All}
 use Rattle.pass_entry.specs.declared.record.Record.{Record}
 use Rattle.pass_entry.specs.Ranges.{IsInRange}
 use Rattle.pass_outside.specs.Areas.{Image}
 use Rattle.pass_outside.specs.Moments.{Moment, IsAtEnd, Adds, AfterStep, Follows}
 use Rattle.pass_log.specs.declared.log.Log.{Log}
-use Rattle.pass_log.specs.Frames.{Frames, with_frame, staged, longest, Rests}
-use Rattle.pass_log.specs.Records.{spellings}
+use Rattle.pass_log.specs.Frames.{frames_of, with_frame, staged, longest, Rests}
+use Rattle.pass_log.specs.Records.{image_of, spellings, with_batch}
 
 -- the place of the closed gate at its end, in bytes
 abbrev pub log_end : Log → ℕ
@@ -44,9 +44,35 @@ pub record IsFrameOf (batch : List Record) (frame : List ℕ) : Type 0 where
   pub fits : length (spellings batch) < 2 ^ 32
   pub is : frame ≡ staged (spellings batch)
 
--- the frames as they were, or with one more
-abbrev pub IsBeforeOrAfter : List ℕ → Result Frames ℕ → Result Frames ℕ → Type 0
-IsBeforeOrAfter frame old new = (new ≡ old) ⊎ (new ≡ with_frame frame old)
+-- a frame as it stands in a log, given as the bytes that its first write has: its open gate, and all of them but the closed gate behind
+abbrev pub standing : List ℕ → List ℕ
+standing frame = 1 ∷ take (length frame - 1) frame
+
+-- a log area with the frames from before, byte by byte up to their end
+pub record HasSame (end : ℕ) (old new : List ℕ) : Type 0 where
+  pub frames : frames_of new ≡ frames_of old
+  pub bytes : take end new ≡ take end old
+
+-- with one frame more behind them
+pub record HasOneMore (frame : List ℕ) (end : ℕ) (old new : List ℕ) : Type 0 where
+  pub frames : frames_of new ≡ with_frame (batch_of frame) (frames_of old)
+  pub bytes : take (end + length frame) new ≡ take end old ++ standing frame
+
+abbrev pub IsBeforeOrAfter : List ℕ → ℕ → List ℕ → List ℕ → Type 0
+IsBeforeOrAfter frame end old new = HasSame end old new ⊎ HasOneMore frame end old new
+
+-- a log area with the records from before, byte by byte up to their end
+pub record HoldsSame (end : ℕ) (old new : List ℕ) : Type 0 where
+  pub image : image_of new ≡ image_of old
+  pub bytes : take end new ≡ take end old
+
+-- with those of this frame behind them
+pub record HoldsMore (batch : List Record) (frame : List ℕ) (end : ℕ) (old new : List ℕ) : Type 0 where
+  pub image : image_of new ≡ with_batch batch (image_of old)
+  pub bytes : take (end + length frame) new ≡ take end old ++ standing frame
+
+abbrev pub IsOldOrMore : List Record → List ℕ → ℕ → List ℕ → List ℕ → Type 0
+IsOldOrMore batch frame end old new = HoldsSame end old new ⊎ HoldsMore batch frame end old new
 
 -- the store area stays
 abbrev pub SameStore : Image → Image → Type 0

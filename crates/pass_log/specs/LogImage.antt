@@ -1,7 +1,9 @@
 -- What is read of a log area.
-use Rattle.std.specs.Prelude.{◌≡◌, ◌≤◌, ℕ, List, length, Ok, IsTrue, ◌↔◌}
+use Rattle.std.specs.Prelude.{◌≡◌, ◌<◌, ◌≤◌, ℕ, List, length, Ok, IsTrue, ◌↔◌}
 use Rattle.pass_log.specs.declared.image.LogImage.{LogImage}
 use Rattle.pass_log.specs.declared.fault.LogFault.{LogFault}
+use Rattle.pass_log.specs.declared.fault.LogFault.TheVariants as fault
+use Rattle.pass_log.specs.Frames.{longest}
 use Rattle.pass_log.specs.Records.{Held, image_of, Fails}
 use Rattle.pass_outside.specs.Moments.{Moment}
 
@@ -21,3 +23,12 @@ IsRead m image = (bytes : List ℕ) × (IsTrue m.tells → bytes ≡ m.seen.log)
 -- The fault of what the log area reads, unless memory ran out. Of a disk that tells nothing it is that of some bytes.
 abbrev pub IsFaultRead : Moment → LogFault → Type 0
 IsFaultRead m e = (bytes : List ℕ) × (IsTrue m.tells → bytes ≡ m.seen.log) × Fails e (image_of bytes)
+
+-- The cause of a fault of reading the bytes of the log area: a device call failed, or memory was refused, or it is longer than it may
+-- be. Of a disk that tells nothing some bytes are so.
+abbrev pub IsUnread : Moment → LogFault → Type 0
+IsUnread m fault.DiskFault = Unit {0}
+IsUnread m (fault.BadFrame at) = (bytes : List ℕ) × (IsTrue m.tells → bytes ≡ m.seen.log) × (longest < length bytes) × (at ≡ longest)
+IsUnread m fault.NoMemory = Unit {0}
+IsUnread m (fault.BadRecord place why) = ⊥
+IsUnread m (fault.Broken opened now) = ⊥

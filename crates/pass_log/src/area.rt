@@ -4,7 +4,7 @@ ghost use Rattle.std.specs.List.{All};
 ghost use Rattle.pass_entry.specs.Ranges.{IsInRange};
 ghost use Rattle.pass_outside.specs.Areas.{Image};
 ghost use Rattle.pass_outside.specs.Moments.{IsAtEnd, Adds, IsDeviceWork};
-ghost use Rattle.pass_log.specs.LogImage.{IsRead, IsFaultRead};
+ghost use Rattle.pass_log.specs.LogImage.{IsRead, IsFaultRead, IsUnread};
 
 use crate::image::parse;
 use crate::{LogFault, LogImage};
@@ -32,12 +32,26 @@ pub fn read_image<D: Disk>(alloc: Global, disk: &mut D) -> Result<LogImage, LogF
     ensures run { Adds (D.view disk.old) (D.view disk.new) (D.view disk.old).may_leave }
     ensures stands { IsAtEnd (D.view disk.old) → disk.new ≡ disk.old }
 {
+    let bytes = read_bytes(alloc, disk)?;
+    parse(alloc, &bytes)
+}
+
+/// The bytes of the log area. Memory is taken only for what was read, and for one piece more.
+pub fn read_bytes<D: Disk>(alloc: Global, disk: &mut D) -> Result<Vec<u8>, LogFault>
+    ensures bytes { IfOk result (λ v. IsTrue (D.view disk.old).tells → v.items ≡ (D.view disk.old).seen.log) }
+    ensures length { IfOk result (λ v. length v.items ≤ 2 ^ 39) }
+    ensures fault { IfErr result (IsUnread (D.view disk.old)) }
+    ensures work { IsDeviceWork (D.view disk.old) (D.view disk.new) (IsErrOf result LogFault.DiskFault) }
+    ensures content { (D.view disk.new).seen ≡ (D.view disk.old).seen }
+    ensures crash { (c : Image) → (D.view disk.new).may_leave c → (D.view disk.old).may_leave c }
+    ensures run { Adds (D.view disk.old) (D.view disk.new) (D.view disk.old).may_leave }
+    ensures stands { IsAtEnd (D.view disk.old) → disk.new ≡ disk.old }
+{
     let size = disk.len(Area::Log)?;
     if size > LONGEST {
         return Err(LogFault::BadFrame { at: LONGEST });
     }
-    let bytes = read_area(alloc, disk, size as usize)?;
-    parse(alloc, &bytes)
+    read_area(alloc, disk, size as usize)
 }
 
 // A buffer of that many bytes.

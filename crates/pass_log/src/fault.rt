@@ -7,7 +7,7 @@ use pass_record::RecordFault;
 use std::alloc::{AllocError, AllocFailed};
 
 /// The faults of opening, reading and appending.
-#[derive(Clone, Copy, Debug, PartialEq, Eq, Drop)]
+#[derive(Clone, Copy, PartialEq, Eq, Drop)]
 pub enum LogFault {
     /// A device call failed.
     DiskFault,

@@ -20,7 +20,7 @@ const FRAME_HEAD: u64 = 5;
 
 /// The records of a log area, the place of the gate behind its last frame, in bytes, and whether the area holds at
 /// most one byte.
-#[derive(Debug, Drop)]
+#[derive(Drop)]
 pub struct LogImage {
     pub list: Vec<Record>,
     pub end: u64,

@@ -7,7 +7,7 @@ mod frame;
 mod image;
 mod log;
 
-pub use area::read_image;
+pub use area::{read_bytes, read_image};
 pub use fault::LogFault;
 pub use frame::{spell, stage};
 pub use image::LogImage;

@@ -7,14 +7,14 @@ use pass_record::{spelling_length, written_is_read};
 use std::alloc::Global;
 
 /// A log on its disk: it knows the place of the closed gate at its end, and the disk's count of faults at its opening.
-#[derive(Clone, Copy, Debug, PartialEq, Eq, Drop)]
+#[derive(Clone, Copy, PartialEq, Eq, Drop)]
 pub struct Log {
     end: u64,
     opened: u64,
 }
 
 impl Log {
-    ghost use Rattle.std.specs.Prelude.{◌≡◌, ◌⊎◌, ◌+◌, ◌<◌, ◌≤◌, ◌^◌, true, false, IsTrue, List, length, IsOk, OnOk, OnErr, IfOk, IfErr, IsErrOf, Err};
+    ghost use Rattle.std.specs.Prelude.{◌≡◌, ◌⊎◌, ◌+◌, ◌<◌, ◌≤◌, ◌^◌, ◌++◌, true, false, IsTrue, List, length, take, IsOk, OnOk, OnErr, IfOk, IfErr, IsErrOf, Err};
     ghost use Rattle.std.specs.List.{All};
     ghost use Rattle.pass_entry.specs.declared.record.Record.{Record};
     ghost use Rattle.pass_entry.specs.Ranges.{IsInRange};
@@ -22,7 +22,7 @@ impl Log {
     ghost use Rattle.pass_outside.specs.Moments.{IsAtEnd, Adds, IsDeviceWork};
     ghost use Rattle.pass_log.specs.Frames.{frames_of, with_frame};
     ghost use Rattle.pass_log.specs.Records.{image_of, spellings, frame_length, with_batch, IsOldOrBoth};
-    ghost use Rattle.pass_log.specs.Log.{log_end, log_opened, IsSettled, IsStaged, IsFrameOf, batch_of, IsBeforeOrAfter, LeavesStore, append_calls};
+    ghost use Rattle.pass_log.specs.Log.{log_end, log_opened, IsSettled, IsStaged, IsFrameOf, batch_of, standing, IsBeforeOrAfter, IsOldOrMore, LeavesStore, append_calls};
     ghost use Rattle.pass_log.specs.LogImage.{IsRead};
 
     /// Opens a log of which that image was read, all of it on the disk and nothing written since. A log area of at
@@ -101,9 +101,11 @@ impl Log {
         ensures acknowledged { OnOk result (IsTrue (D.view disk.old).tells → (c : Image) → (D.view disk.new).may_leave c
             → frames_of c.log ≡ with_frame (batch_of frame.now) (frames_of (D.view disk.old).seen.log)) }
         ensures any_moment { IsTrue (D.view disk.old).tells → Adds (D.view disk.old) (D.view disk.new)
-            (λ c. IsBeforeOrAfter (batch_of frame.now) (frames_of (D.view disk.old).seen.log) (frames_of c.log)) }
+            (λ c. IsBeforeOrAfter frame.now self.old.end (D.view disk.old).seen.log c.log) }
         ensures store { LeavesStore (D.view disk.old) (D.view disk.new) }
         ensures reads { OnOk result (IsTrue (D.view disk.old).tells → frames_of (D.view disk.new).seen.log ≡ with_frame (batch_of frame.now) (frames_of (D.view disk.old).seen.log)) }
+        ensures bytes { OnOk result (IsTrue (D.view disk.old).tells → take (self.old.end + length frame.now) (D.view disk.new).seen.log ≡ take self.old.end (D.view disk.old).seen.log ++ standing frame.now) }
+        ensures durable { OnOk result (IsTrue (D.view disk.old).tells → (c : Image) → (D.view disk.new).may_leave c → c.log ≡ (D.view disk.new).seen.log) }
         ensures calls { OnOk result ((D.view disk.new).calls ≡ (D.view disk.old).calls + append_calls) }
         ensures healthy { OnOk result (((D.view disk.old).faults ≡ self.old.opened) × ((D.view disk.new).faults ≡ self.old.opened) × (IsAtEnd (D.view disk.old) → ⊥)) }
         ensures settled { IsSettled self.new (D.view disk.new) }
@@ -133,6 +135,13 @@ impl Log {
             → Adds (D.view disk.old) (D.view disk.new) (λ c. IsOldOrBoth batch (image_of (D.view disk.old).seen.log) (image_of c.log)) }
         ensures reads { OnOk result ((batch : List Record) → IsFrameOf batch frame.now → IsTrue (D.view disk.old).tells
             → image_of (D.view disk.new).seen.log ≡ with_batch batch (image_of (D.view disk.old).seen.log)) }
+        // The log area has the bytes from before up to their end, and behind them the frame; and each crash leaves what it reads.
+        ensures bytes { OnOk result (IsTrue (D.view disk.old).tells
+            → take (log_end self.old + length frame.now) (D.view disk.new).seen.log ≡ take (log_end self.old) (D.view disk.old).seen.log ++ standing frame.now) }
+        ensures durable { OnOk result (IsTrue (D.view disk.old).tells → (c : Image) → (D.view disk.new).may_leave c → c.log ≡ (D.view disk.new).seen.log) }
+        // A crash at any moment leaves those bytes as they were, or with all of the frame.
+        ensures frame_moment { (batch : List Record) → IsFrameOf batch frame.now → IsTrue (D.view disk.old).tells
+            → Adds (D.view disk.old) (D.view disk.new) (λ c. IsOldOrMore batch frame.now (log_end self.old) (D.view disk.old).seen.log c.log) }
         ensures store { LeavesStore (D.view disk.old) (D.view disk.new) }
         ensures settled { IsSettled self.new (D.view disk.new) }
         ensures end { OnOk result (log_end self.new ≡ log_end self.old + length frame.now) }

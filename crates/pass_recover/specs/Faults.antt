@@ -1,7 +1,8 @@
 -- The causes of the faults of opening.
-use Rattle.std.specs.Prelude.{◌≡◌, ◌⊎◌, ℕ, ◌<◌, List, Some, Ok, Err, IsTrue}
+use Rattle.std.specs.Prelude.{◌≡◌, ◌⊎◌, ℕ, ◌<◌, List, Option, Some, None, Result, Ok, Err, IsTrue, option_map}
 use Rattle.pass_graph.specs.declared.checking.CheckFault.{CheckFault}
 use Rattle.pass_graph.specs.declared.checking.CheckFault.TheVariants as check
+use Rattle.pass_log.specs.declared.fault.LogFault.{LogFault}
 use Rattle.pass_log.specs.declared.fault.LogFault.TheVariants as log
 use Rattle.pass_log.specs.Records.{Held, image_of}
 use Rattle.pass_outside.specs.Moments.{Moment, IsAtEnd}
@@ -12,6 +13,13 @@ use Rattle.pass_recover.specs.declared.fault.OpenFault.TheVariants.{DiskFault, B
 abbrev pub of_check : CheckFault → OpenFault
 of_check (check.Flaw place reason) = Flaw place reason
 of_check check.NoMemory = NoMemory
+
+-- the fault of a log image: its own, and else the first flaw of its records. Bytes alone have no other faults.
+abbrev pub image_fault : Result Held LogFault → Option OpenFault
+image_fault (Ok held) = option_map (λ flaw. Flaw flaw.0 flaw.1) (first_flaw held.list)
+image_fault (Err (log.BadFrame at)) = Some (BadFrame at)
+image_fault (Err (log.BadRecord place why)) = Some (BadRecord place why)
+image_fault (Err _) = None
 
 -- the log area has bytes with this property. Of a disk that tells nothing it is some bytes.
 abbrev pub LogHas : Moment → (List ℕ → Type 0) → Type 0

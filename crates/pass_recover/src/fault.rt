@@ -9,7 +9,7 @@ use pass_record::RecordFault;
 use std::alloc::{AllocError, AllocFailed};
 
 /// The faults of opening. Frames are judged before records, records before flaws.
-#[derive(Clone, Copy, Debug, PartialEq, Eq, Drop)]
+#[derive(Clone, Copy, PartialEq, Eq, Drop)]
 pub enum OpenFault {
     /// A device call failed.
     DiskFault,

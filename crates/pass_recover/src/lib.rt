@@ -7,4 +7,4 @@ mod fill;
 mod opening;
 
 pub use fault::OpenFault;
-pub use opening::{Opening, recover};
+pub use opening::{Opening, open_fault, recover};

@@ -56,8 +56,8 @@ fn settle<D: Disk>(disk: &mut D) -> Result<(), Failed>
     Ok(())
 }
 
-// The fault of reading the log.
-fn open_fault(fault: LogFault) -> OpenFault
+/// Why a store doesn't open whose log can't be read.
+pub fn open_fault(fault: LogFault) -> OpenFault
     requires { (opened now : ℕ) → fault ≡ LogFault.Broken opened now → ⊥ }
     ensures disk { fault ≡ LogFault.DiskFault → result ≡ OpenFault.DiskFault }
     ensures frame { (at : ℕ) → fault ≡ LogFault.BadFrame at → result ≡ OpenFault.BadFrame at }

@@ -28,12 +28,13 @@ use Rattle.pass_hold.specs.Callings.{IsEntered, IsIdle, IsGoing, HasGone, HasLoo
 use Rattle.pass_hold.proofs.Callings.{call_made, idle_again, more, left_idle, held_going}
 use Rattle.pass_flow.specs.Flows.{keep_entry}
 use Rattle.pass_proc.proofs.Steps.{begun, low_fd}
-use Rattle.pass_calls.specs.Answers.{HasMoved}
-use Rattle.pass_calls.specs.declared.answer.Moved.TheVariants as moved
-use Rattle.pass_calls.proofs.Naming.{one_held, its_object}
-use Rattle.pass_calls.proofs.ObjectSteps.{place_is}
-use Rattle.pass_calls.proofs.Steps.{not_refused, next_allows, next_keeps, gone_by}
-use Rattle.pass_safe.specs.Syncings.{BacksFile, IsKeeping, HasSynced, kept_entry}
+use Rattle.pass_answer.specs.Answers.{HasMoved}
+use Rattle.pass_answer.specs.declared.answer.Moved.TheVariants as moved
+use Rattle.pass_answer.proofs.Naming.{one_held, its_object}
+use Rattle.pass_answer.proofs.ObjectSteps.{place_is}
+use Rattle.pass_answer.proofs.Steps.{not_refused, next_allows, next_keeps, gone_by}
+use Rattle.pass_safe.specs.Syncings.{IsKeeping, kept_entry}
+use Rattle.pass_answer.specs.Syncs.{BacksFile, HasSynced}
 
 -- Who looks in a call goes on with it
 

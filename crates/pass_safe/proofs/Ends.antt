@@ -26,6 +26,7 @@ use Rattle.pass_book.specs.Numbers.{IsFileNumber, files_of}
 use Rattle.pass_book.specs.Syncs.{Backs}
 use Rattle.pass_book.specs.declared.claim.Full.{Full}
 use Rattle.pass_book.specs.declared.view.VaultSync.{VaultSync}
+use Rattle.pass_plain.specs.Calls.{descriptor_at}
 use Rattle.pass_book.proofs.Backed.{number_stays}
 use Rattle.pass_book.proofs.Numbered.{number_one}
 use Rattle.pass_book.proofs.Prefixes.{prefix_get, prefix_length, prefix_trans}
@@ -37,13 +38,15 @@ use Rattle.pass_proc.specs.Procs.{ProcView, IsCallerOf, proc_with}
 use Rattle.pass_proc.specs.Views.{ProcessView}
 use Rattle.pass_proc.specs.UnderWay.{IsWay}
 use Rattle.pass_proc.specs.declared.way.Way.{Way}
-use Rattle.pass_calls.specs.Answers.{HasMoved}
-use Rattle.pass_calls.specs.declared.answer.CallEnd.{CallEnd}
-use Rattle.pass_calls.specs.declared.answer.CallEnd.TheVariants as ends
-use Rattle.pass_calls.specs.declared.answer.Moved.TheVariants as moved
+use Rattle.pass_answer.specs.Answers.{HasMoved}
+use Rattle.pass_answer.specs.declared.answer.CallEnd.{CallEnd}
+use Rattle.pass_answer.specs.declared.answer.CallEnd.TheVariants as ends
+use Rattle.pass_answer.specs.declared.answer.Moved.TheVariants as moved
 use Rattle.pass_safe.specs.declared.saving.Saved.{Saved}
-use Rattle.pass_safe.specs.Syncings.{BacksFile, HasKept, HasLeft, HasSynced, IsBacking, IsFileSaved, IsKeeping, KeepingView, SyncAnswers, kept_entry}
-use Rattle.pass_calls.proofs.Wrapping.{full}
+use Rattle.pass_safe.specs.Syncings.{HasKept, IsBacking, IsFileSaved, IsKeeping, KeepingView, kept_entry}
+use Rattle.pass_answer.specs.Syncs.{BacksFile, HasSynced}
+use Rattle.pass_answer.specs.Syncs.{HasLeft, SyncAnswers}
+use Rattle.pass_answer.proofs.Wrapping.{full}
 use Rattle.pass_safe.proofs.Committing.{keeping_looked, kept_backs}
 
 -- a list of syncs that goes on has them still
@@ -103,11 +106,12 @@ kept_left session k now what kept =
 
 -- or its last one stands, too
 pub ended_ok : (session : Session) (places : ℕ) (k : KeepingView) (now : ProcView) (what : ℕ) → HasKept session k now what → (new : ProcView) → new.who ≡ now.who → new.way ≡ now.way → (calls entries : ℕ)
-    → HasMoved session now.who k.before.seen new.seen new.state (requests.Sync k.fd) (moved.Synced calls entries) → HasSynced calls entries new.syncs → SyncAnswers session places k.before new k.fd (Ok (moved.Synced calls entries))
-ended_ok session places k now what kept new who way calls entries made synced = (
+    → HasMoved session now.who k.before.seen new.seen new.state (requests.Sync k.fd) (moved.Synced calls entries) → HasSynced calls entries new.syncs → BacksFile session k.before.seen what entries new.syncs
+    → SyncAnswers session places k.before new k.fd (Ok (moved.Synced calls entries))
+ended_ok session places k now what kept new who way calls entries made synced backs = (
   subst (λ w. HasMoved session w k.before.seen new.seen new.state (requests.Sync k.fd) (moved.Synced calls entries)) kept.who made,
   record { who = who ∙ kept.who; grows = made.call.begins; way = way ∙ kept.way },
-  record { i = synced.i; s = synced.s; is = synced.is; called = synced.called; has = synced.has },
+  (synced, subst (λ (o : ℕ). BacksFile session k.before.seen o entries new.syncs) (sym kept.keeping.object ∙ ap (λ (p : Process). (descriptor_at p k.fd).pnode) kept.state) backs),
 )
 
 pub no_way : (session : Session) (who number : ℕ) (seen : List Entry) (now : Process) (o : Option Way) → o ≡ None → IsWay session who number seen now o
@@ -123,6 +127,13 @@ module _ (session : Session) (k : KeepingView) (process : ProcessView) (number :
 
   pub keeping_met : IsKeeping session process.who number k.before.seen met.seen k.fd what process.state k.place
   keeping_met = keeping_looked session process.who number k.before.seen caller.seen k.fd what process.state k.place by_parts.keeping met.seen (subst (λ w. HasLooked session w caller.seen met.seen) of_who looked)
+
+  -- of a file it has a sync of the data, which had its number before the call
+  pub file_backed : (s : Saved) → IsBacking session now.who now.state what s → IsPrefix s.told.seen met.seen → IsPrefix s.told.syncs met.syncs → BacksFile session k.before.seen what s.receipt.entries met.syncs
+  file_backed s backing told listed = λ number is.
+      let here = subst (λ (v : ProcView). IsBacking session v.who v.state what s) (sym is_now) backing in
+      let going = keeping_met.gone.is in
+      backs_on session met.seen what s.receipt.entries s.told.syncs met.syncs (here met.seen told going.legal going.state) listed number (number_stays session k.before.seen met.seen what number going.begins is)
 
   pub met_backs : (s : Saved) → IsBacking session now.who now.state what s → IsPrefix s.told.seen met.seen → IsPrefix s.told.syncs met.syncs → HasSynced s.receipt.calls s.receipt.entries s.told.syncs
       → k.place < s.receipt.entries → s.receipt.entries ≤ length s.told.seen → Backs session met.seen (length met.seen) met.syncs (kept_entry process.who number k.fd)

@@ -23,7 +23,8 @@ use Rattle.pass_vault.specs.declared.vault.Receipt.{Receipt}
 use Rattle.pass_vault.proofs.Holding.{called_last}
 use Rattle.pass_file.specs.Desks.{FileDeskView}
 use Rattle.pass_safe.specs.Commits.{flushed_to, saved_to}
-use Rattle.pass_safe.specs.Syncings.{HasReceipt, HasSynced, IsFileSaved, IsSaved}
+use Rattle.pass_safe.specs.Syncings.{HasReceipt, IsFileSaved, IsSaved}
+use Rattle.pass_answer.specs.Syncs.{HasSynced}
 
 -- both had seen one history
 pub seen_back : (file vault : List Entry) (d : DeskState) (syncs new_syncs : List VaultSync) (seen : List Entry) → file ≡ vault → d.seen ≡ file → HasMet (name role.Desk d.what) d.seen d.syncs vault syncs seen new_syncs → seen ≡ file

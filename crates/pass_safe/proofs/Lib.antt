@@ -8,3 +8,5 @@ pub mod Owned
 pub mod Leaving
 pub mod Settles
 pub mod Stagings
+pub mod Receipts
+pub mod Standing

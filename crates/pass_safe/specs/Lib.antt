@@ -1,4 +1,5 @@
-pub mod Safes
-pub mod Syncings
 pub mod Commits
+pub mod Grounds
+pub mod Safes
 pub mod Settled
+pub mod Syncings

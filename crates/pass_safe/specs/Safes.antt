@@ -1,5 +1,5 @@
 -- What contracts see of a vault under its lock (this project's own rule).
-use Rattle.std.specs.Prelude.{◌≡◌, ◌⊎◌, ℕ, ◌<◌, ◌≤◌, ◌^◌, Option, Some, None, Result, Ok, Err, length}
+use Rattle.std.specs.Prelude.{◌≡◌, ◌⊎◌, ℕ, ◌<◌, ◌≤◌, ◌^◌, Bool, Option, Some, None, Result, Ok, Err, length}
 use Rattle.pass_outside.specs.Moments.{Moment, IsAtEnd}
 use Rattle.pass_plain.specs.Sessions.{opening_version}
 use Rattle.pass_book.specs.Syncs.{durable}
@@ -7,6 +7,7 @@ use Rattle.pass_book.specs.Tokens.{BookId}
 use Rattle.pass_keep.specs.Keepers.{GoesOn}
 use Rattle.pass_vault.specs.Rooms.{most_entries}
 use Rattle.pass_vault.specs.Vaulted.{Vaulted}
+use Rattle.pass_safe.specs.Grounds.{Ground, HasGoneOn, ground_of}
 use Rattle.pass_safe.specs.declared.fault.Lost.{Lost}
 use Rattle.pass_safe.specs.declared.fault.SafeFault.{SafeFault}
 use Rattle.pass_safe.specs.declared.fault.SafeFault.TheVariants.{DiskFault, NoMemory}
@@ -29,10 +30,12 @@ abbrev pub Stands : {D : Type 0} → (D → Moment) → Vaulted D → Option Los
 Stands view v None = ((view v.disk).faults ≡ v.opened) × (durable v.syncs ≡ length v.seen)
 Stands view v (Some l) = IsLost (view v.disk) v.opened l
 
--- what the lock keeps between two calls: the session's entries are few enough, and its objects' versions low enough, for the
--- log to tell them
-pub record IsSafe {D : Type 0} (book : BookId) (view : D → Moment) (v : Vaulted D) (lost : Option Lost) : Type 0 where
+-- What the lock keeps between two calls: the vault was opened as its store says, over a disk that has gone on since. The session's entries are
+-- few enough, and its objects' versions low enough, for the log to tell them.
+pub record IsSafe {D : Type 0} (book : BookId) (laid : Ground) (tells : Bool) (view : D → Moment) (v : Vaulted D) (lost : Option Lost) : Type 0 where
   pub of_book : v.book ≡ book
+  pub opened_as : ground_of v ≡ laid
+  pub gone_on : HasGoneOn tells laid.opened (view v.disk)
   pub low : (object : ℕ) → opening_version book.session.start object ≤ 2 ^ 35
   pub few : length v.seen ≤ most_entries
   pub stands : Stands view v lost
@@ -59,3 +62,14 @@ pub record Leaves {D T : Type 0} (view : D → Moment) (old new : SafeView D) (a
   pub lost : (l : Lost) → old.lost ≡ Some l → (answer ≡ Err (DiskFault l.opened l.found)) × (new ≡ old)
   pub failed : (opened found : ℕ) → answer ≡ Err (DiskFault opened found) → IsLost (view new.vault.disk) old.vault.opened (record { opened = opened; found = found })
   pub goes_on : GoesOn (view old.vault.disk) (view new.vault.disk)
+
+-- A device call has failed since the store was opened, as the disk was at some moment: the count of faults as the store was opened, and a later
+-- one, which is above it unless a count of the disk stands at its end.
+pub record HasFailed {D : Type 0} (view : D → Moment) (opened first now : ℕ) : Type 0 where
+  pub disk : D
+  pub lost : IsLost (view disk) opened (record { opened = first; found = now })
+
+-- why the vault gave no answer: such a fault, or want of memory
+abbrev pub IsFaultSince : {D : Type 0} → (D → Moment) → ℕ → SafeFault → Type 0
+IsFaultSince view opened (DiskFault first now) = HasFailed view opened first now
+IsFaultSince view opened NoMemory = Unit {0}

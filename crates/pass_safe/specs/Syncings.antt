@@ -1,27 +1,21 @@
 -- A sync: how far it is, and how it ends.
-use Rattle.std.specs.Prelude.{◌≡◌, ℕ, ◌+◌, ◌<◌, ◌≤◌, true, false, List, [], ◌∷◌, ◌++◌, Some, None, Result, Ok, Err, length, slice_get}
+use Rattle.std.specs.Prelude.{◌≡◌, ℕ, ◌<◌, ◌≤◌, false, List, [], ◌∷◌, Some, None, length, slice_get}
 use mathlib.Core.List.{IsPrefix}
 use Rattle.pass_entry.specs.declared.entry.Ask.TheVariants as ask
 use Rattle.pass_entry.specs.declared.entry.CallName.TheVariants as calls
 use Rattle.pass_entry.specs.declared.entry.Act.TheVariants as act
 use Rattle.pass_entry.specs.declared.entry.Entry.{Entry}
 use Rattle.pass_entry.specs.declared.entry.Reply.TheVariants as answer
-use Rattle.pass_plain.specs.declared.request.Request.{Request}
 use Rattle.pass_plain.specs.declared.request.Request.TheVariants as requests
-use Rattle.pass_plain.specs.CallLaws.{IsBegun}
-use Rattle.pass_plain.specs.Calls.{Made, descriptor_at}
-use Rattle.pass_plain.specs.Histories.{call_entries}
-use Rattle.pass_plain.specs.Legal.{IsLegal, before_call, last_number, may_be_left}
+use Rattle.pass_plain.specs.Calls.{descriptor_at}
+use Rattle.pass_plain.specs.Legal.{IsLegal}
 use Rattle.pass_plain.specs.Processes.{Process, process_after, refusal}
 use Rattle.pass_plain.specs.Sessions.{Session}
 use Rattle.pass_plain.specs.Sound.{IsSound}
-use Rattle.pass_book.specs.Numbers.{IsFileNumber}
-use Rattle.pass_book.specs.declared.view.FileMark.{FileMark}
 use Rattle.pass_book.specs.declared.view.VaultSync.{VaultSync}
-use Rattle.pass_hold.specs.Callings.{made_by, entries_in, HasGone}
+use Rattle.pass_hold.specs.Callings.{HasGone}
 use Rattle.pass_flow.specs.Flows.{keep_entry}
 use Rattle.pass_proc.specs.Acts.{own_entry}
-use Rattle.pass_proc.specs.CallEnds.{HasReplied}
 use Rattle.pass_proc.specs.Procs.{ProcView}
 use Rattle.pass_book.specs.Parting.{lists_of}
 use Rattle.pass_book.specs.Records.{AreParts}
@@ -34,11 +28,9 @@ use Rattle.pass_safe.specs.declared.fault.SafeFault.{SafeFault}
 use Rattle.pass_safe.specs.declared.fault.SafeFault.TheVariants.{DiskFault, NoMemory}
 use Rattle.pass_safe.specs.declared.saving.Copied.{Copied}
 use Rattle.pass_safe.specs.declared.saving.Saved.{Saved}
-use Rattle.pass_calls.specs.Answers.{HasMoved, HasEnded, IsFull}
-use Rattle.pass_calls.specs.declared.answer.CallEnd.{CallEnd}
-use Rattle.pass_calls.specs.declared.answer.CallEnd.TheVariants as ends
-use Rattle.pass_calls.specs.declared.answer.Moved.{Moved}
-use Rattle.pass_calls.specs.declared.answer.Moved.TheVariants as moved
+use Rattle.pass_answer.specs.Syncs.{BacksFile, HasSynced}
+use Rattle.pass_answer.specs.declared.answer.CallEnd.{CallEnd}
+use Rattle.pass_answer.specs.declared.answer.CallEnd.TheVariants as ends
 
 -- the last entry of a sync, by the caller, the number of its call and the descriptor
 abbrev pub kept_entry : ℕ → ℕ → ℕ → Entry
@@ -66,41 +58,6 @@ pub record HasKept (session : Session) (k : KeepingView) (now : ProcView) (what 
   pub state : now.state ≡ k.before.state
   pub way : now.way ≡ None
 
--- the call has made entries, and may be left with them
-pub record HasLeft (session : Session) (old new : ProcView) (r : Request) : Type 0 where
-  pub who : new.who ≡ old.who
-  pub made : Made
-  pub legal : IsLegal session new.seen
-  pub begins : IsPrefix old.seen new.seen
-  pub own : made_by new.who new.seen ≡ made_by new.who old.seen ++ entries_in made
-  pub made_is : call_entries new.seen new.who (last_number old.seen new.who + 1) ≡ made
-  pub before_is : before_call new.seen new.who (last_number old.seen new.who + 1) ≡ process_after old.seen new.who
-  pub steps : IsBegun new.who (process_after old.seen new.who) made r
-  pub left : may_be_left new.seen new.who (last_number old.seen new.who + 1) ≡ true
-  pub way : new.way ≡ None
-
--- the list has a sync with these numbers
-pub record HasNumbers (calls entries : ℕ) (ss : List VaultSync) : Type 0 where
-  pub i : ℕ
-  pub s : VaultSync
-  pub is : slice_get ss i ≡ Some s
-  pub called : s.calls ≡ calls
-  pub has : s.entries ≡ entries
-
--- the list has the sync that a call answers
-abbrev pub HasAnswered : Moved → List VaultSync → Type 0
-HasAnswered (moved.Synced calls entries) ss = HasNumbers calls entries ss
-HasAnswered _ ss = ⊥
-
--- One call that is a sync. Where a device call failed, or memory was refused, its first entry stands.
-abbrev pub SyncAnswers : Session → ℕ → ProcView → ProcView → ℕ → Result Moved CallEnd → Type 0
-SyncAnswers session places old new fd (Ok m) = HasMoved session old.who old.seen new.seen new.state (requests.Sync fd) m × HasEnded session old new × HasAnswered m new.syncs
-SyncAnswers session places old new fd (Err (ends.Fault f)) = HasReplied session old.who old.seen new.seen (requests.Sync fd) (answer.Fault f) × HasEnded session old new
-SyncAnswers session places old new fd (Err ends.Again) = ⊥
-SyncAnswers session places old new fd (Err (ends.DiskFault opened now)) = HasLeft session old new (requests.Sync fd) × (opened ≤ now)
-SyncAnswers session places old new fd (Err (ends.Full left need)) = IsFull session places old new (requests.Sync fd) left need
-SyncAnswers session places old new fd (Err ends.NoMemory) = HasLeft session old new (requests.Sync fd)
-
 -- a call ended otherwise than by a fault of the device
 abbrev pub IsNoDiskFault : CallEnd → Type 0
 IsNoDiskFault (ends.DiskFault opened now) = ⊥
@@ -115,15 +72,6 @@ end_of NoMemory = ends.NoMemory
 abbrev pub HasRisen : SafeFault → Type 0
 HasRisen (DiskFault opened now) = opened ≤ now
 HasRisen NoMemory = Unit {0}
-
--- the list has a sync with these numbers, which is no staging
-pub record HasSynced (calls entries : ℕ) (ss : List VaultSync) : Type 0 where
-  pub i : ℕ
-  pub s : VaultSync
-  pub is : slice_get ss i ≡ Some s
-  pub whole : s.staged ≡ None
-  pub called : s.calls ≡ calls
-  pub has : s.entries ≡ entries
 
 -- Parts and note are of one moment of a book, of whose history the vault had seen a beginning: the records of the entries that are not durable.
 pub record IsCopy {D : Type 0} (book : BookId) (v : Vaulted D) (c : Copied) (seen : List Entry) : Type 0 where
@@ -142,6 +90,10 @@ pub record IsSaved (book : BookId) (seen : List Entry) (s : Saved) : Type 0 wher
   pub within : s.receipt.entries ≤ length s.told.seen
   pub synced : HasSynced s.receipt.calls s.receipt.entries s.told.syncs
 
+-- a sync of the vault of this book, and what the vault had seen with it
+abbrev pub IsSavedIn : BookId → Saved → Type 0
+IsSavedIn book s = (seen : List Entry) × IsSaved book seen s
+
 -- the vault's list has the sync of a receipt, of no more entries than it has seen
 pub record HasReceipt {D : Type 0} (v : Vaulted D) (r : Receipt) : Type 0 where
   pub within : r.entries ≤ length v.seen
@@ -155,11 +107,6 @@ pub record IsFileSaved (what number : ℕ) (s : Saved) : Type 0 where
   pub mark : sync.file ≡ Some (record { pnode = what; number = number })
   pub whole : sync.staged ≡ None
   pub has : sync.entries ≡ s.receipt.entries
-
--- where the object is a file, the list has a sync of its data of so many entries, which is no staging
-abbrev pub BacksFile : Session → List Entry → ℕ → ℕ → List VaultSync → Type 0
-BacksFile session seen what entries ss = (number : ℕ) → IsFileNumber session seen what number
-    → (i : ℕ) × (s : VaultSync) × (f : FileMark) × (slice_get ss i ≡ Some s) × (s.file ≡ Some f) × (f.number ≡ number) × (s.staged ≡ None) × (s.entries ≡ entries)
 
 -- so it is whatever more the process sees
 abbrev pub IsBacking : Session → ℕ → Process → ℕ → Saved → Type 0

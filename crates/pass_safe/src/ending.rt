@@ -7,15 +7,17 @@ ghost use Rattle.pass_plain.specs.declared.request.Request.TheVariants as reques
 ghost use Rattle.pass_plain.specs.Processes.{is_file};
 ghost use Rattle.pass_book.specs.Syncs.{Backs};
 ghost use Rattle.pass_hold.specs.Callings.{HasLooked, IsIdle};
-ghost use Rattle.pass_calls.specs.Answers.{HasMoved};
-ghost use Rattle.pass_calls.specs.declared.answer.Moved.TheVariants as moved;
-ghost use Rattle.pass_safe.specs.Syncings.{HasKept, HasRisen, HasSynced, IsBacking, IsFileSaved, IsKeeping, IsSaved, SyncAnswers, end_of, kept_entry};
+ghost use Rattle.pass_answer.specs.Answers.{HasMoved};
+ghost use Rattle.pass_answer.specs.declared.answer.Moved.TheVariants as moved;
+ghost use Rattle.pass_safe.specs.Syncings.{HasKept, HasRisen, IsBacking, IsFileSaved, IsKeeping, IsSaved, end_of, kept_entry};
+ghost use Rattle.pass_answer.specs.Syncs.{HasSynced};
+ghost use Rattle.pass_answer.specs.Syncs.{SyncAnswers};
 
 use crate::fault::SafeFault;
 use crate::keeping::Keeping;
 use crate::saving::Saved;
+use pass_answer::{CallEnd, Moved};
 use pass_book::Note;
-use pass_calls::{CallEnd, Moved};
 use pass_entry::Descriptor;
 use pass_file::FileDesk;
 use pass_hold::{Caller, Shelf, Whose};

@@ -1,5 +1,5 @@
 //! The end of a session: everything becomes durable, with no lock.
-ghost use Rattle.std.specs.Prelude.{◌≡◌, ◌⊎◌, ◌<◌, ◌++◌, ◌∷◌, [], ℕ, List, false, None, Some, Err, IfOk, IfErr, OnOk, OnErr, length};
+ghost use Rattle.std.specs.Prelude.{◌≡◌, ◌<◌, ◌∷◌, [], ℕ, false, None, Some, Err, IfOk, OnOk, OnErr, length};
 ghost use Rattle.std.specs.List.{All};
 ghost use mathlib.Core.List.{IsPrefix};
 ghost use Rattle.pass_entry.specs.Limits.{block_count};
@@ -9,18 +9,20 @@ ghost use Rattle.pass_book.specs.Syncs.{IsBacked};
 ghost use Rattle.pass_clean.specs.Cleaned.{is_dirty};
 ghost use Rattle.pass_keep.specs.Keepers.{GoesOn};
 ghost use Rattle.pass_safe.specs.Commits.{HasNotFlushed, flushed_to};
+ghost use Rattle.pass_safe.specs.Grounds.{HasGoneOn, ground_of};
 ghost use Rattle.pass_safe.specs.Safes.{IsLost, Leaves};
 ghost use Rattle.pass_safe.specs.Settled.{AreAll, AreSettled, IsClean, IsDurable};
 ghost use Rattle.pass_safe.specs.declared.fault.Lost.{Lost as AnyLost};
 ghost use Rattle.pass_safe.specs.declared.fault.SafeFault.TheVariants.{DiskFault, NoMemory};
 
 use crate::fault::SafeFault;
+use crate::ground::Opening;
 use crate::safe::Safe;
 use crate::saving::{copy_all, flush_copied};
 use pass_book::Note;
 use pass_entry::Entry;
 use pass_file::FileDesk;
-use pass_hold::{Shelf, Whose};
+use pass_hold::Shelf;
 use pass_outside::Disk;
 use pass_registry::RegistryDesk;
 use pass_vault::{Receipt, Vault};
@@ -37,7 +39,7 @@ pub struct Finished<D: Disk> {
 }
 
 /// Writes the dirty blocks of a file, and those of it that wait in the vault, at the end of a session.
-fn settle_one<J: Whose, D: Disk>(
+fn settle_one<J: Opening, D: Disk>(
     alloc: Global,
     safe: &mut Safe<J, D>,
     shelf: &mut Shelf<J>,
@@ -52,7 +54,8 @@ fn settle_one<J: Whose, D: Disk>(
     ensures safe { Leaves D.view safe.old safe.new result }
 {
     let file = safe.join(file, shelf);
-    let (_file, result) = safe.settle(alloc, file);
+    let (file, result) = safe.settle(alloc, file);
+    drop(file);
     match result {
         Ok(_receipt) => Ok(()),
         Err(fault) => Err(fault),
@@ -60,7 +63,7 @@ fn settle_one<J: Whose, D: Disk>(
 }
 
 /// Writes these blocks of each of these files, in their order.
-fn settle_each<J: Whose, D: Disk>(
+fn settle_each<J: Opening, D: Disk>(
     alloc: Global,
     safe: &mut Safe<J, D>,
     shelf: &mut Shelf<J>,
@@ -84,7 +87,7 @@ fn settle_each<J: Whose, D: Disk>(
 }
 
 /// Vault and book meet: what the vault has seen begins the history.
-fn meet_all<J: Whose, D: Disk>(
+fn meet_all<J: Opening, D: Disk>(
     safe: &mut Safe<J, D>,
     registry: &mut RegistryDesk<J>,
     shelf: &mut Shelf<J>,
@@ -99,7 +102,7 @@ fn meet_all<J: Whose, D: Disk>(
 }
 
 /// Makes every entry durable.
-fn flush_all<J: Whose, D: Disk>(
+fn flush_all<J: Opening, D: Disk>(
     alloc: Global,
     safe: &mut Safe<J, D>,
     registry: &mut RegistryDesk<J>,
@@ -119,7 +122,7 @@ fn flush_all<J: Whose, D: Disk>(
 
 /// Makes every entry durable, and then the dirty blocks of each of these files, and those that wait in the vault. Where more waits than
 /// the blocks of these files, it answers as where memory is refused.
-fn settle_all<J: Whose, D: Disk>(
+fn settle_all<J: Opening, D: Disk>(
     alloc: Global,
     safe: &mut Safe<J, D>,
     registry: &mut RegistryDesk<J>,
@@ -143,10 +146,12 @@ fn settle_all<J: Whose, D: Disk>(
     ensures safe { Leaves D.view safe.old safe.new result }
 {
     if let Err(fault) = safe.healthy() {
+        drop(files);
         meet_all(safe, registry, shelf);
         return Err(fault);
     }
     if let Err(fault) = flush_all(alloc, safe, registry, shelf) {
+        drop(files);
         return Err(fault);
     }
     if let Err(fault) = settle_each(alloc, safe, shelf, files) {
@@ -161,7 +166,7 @@ fn settle_all<J: Whose, D: Disk>(
 
 /// Makes every entry of a session durable, and then the dirty blocks of its files, in the order given, which is that of their numbers.
 /// Vault and history are handed out whatever comes. After a device call that failed nothing more is written.
-pub fn finish<J: Whose, D: Disk>(
+pub fn finish<J: Opening, D: Disk>(
     alloc: Global,
     safe: Safe<J, D>,
     registry: RegistryDesk<J>,
@@ -182,6 +187,8 @@ pub fn finish<J: Whose, D: Disk>(
       unsynced = result.vault.unsynced;
       syncs = result.vault.syncs;
     } }
+    ensures ground { ground_of result.vault ≡ J.ground }
+    ensures gone_on { HasGoneOn J.tells J.ground.opened (D.view result.vault.disk) }
     ensures told { IsPrefix result.vault.seen shelf.history }
     ensures grows { IsPrefix safe.vault.syncs result.vault.syncs }
     ensures done { IfOk result.settled (λ r. IsDurable shelf.history files.items safe.vault result.vault r) }
@@ -190,9 +197,9 @@ pub fn finish<J: Whose, D: Disk>(
     ensures settled { AreAll J.book.session shelf.history files.items → OnOk result.settled ((file block : ℕ) → block < block_count → is_dirty J.book.session shelf.history result.vault.syncs file block ≡ false) }
     // No block waits to be written, and none to be synced.
     ensures written { OnOk result.settled ((result.vault.pool.entries ≡ []) × (result.vault.unsynced ≡ false)) }
-    ensures healthy { OnOk result.settled ((D.view result.vault.disk).faults ≡ safe.vault.opened) }
+    ensures healthy { OnOk result.settled ((D.view result.vault.disk).faults ≡ J.ground.opened) }
     ensures lost { (l : AnyLost) → safe.lost ≡ Some l → (result.settled ≡ Err (DiskFault l.opened l.found)) × (result.vault ≡ safe.vault) }
-    ensures failed { (opened found : ℕ) → result.settled ≡ Err (DiskFault opened found) → IsLost (D.view result.vault.disk) safe.vault.opened (record { opened = opened; found = found }) }
+    ensures failed { (opened found : ℕ) → result.settled ≡ Err (DiskFault opened found) → IsLost (D.view result.vault.disk) J.ground.opened (record { opened = opened; found = found }) }
     ensures goes_on { GoesOn (D.view safe.vault.disk) (D.view result.vault.disk) }
 {
     let mut safe = safe;

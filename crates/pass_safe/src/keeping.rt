@@ -6,11 +6,12 @@ ghost use Rattle.pass_entry.specs.declared.objects.Descriptor.{Descriptor as Any
 ghost use Rattle.pass_plain.specs.Processes.{refusal};
 ghost use Rattle.pass_hold.specs.Callings.{IsIdle};
 ghost use Rattle.pass_hold.specs.Places.{HasRoom};
-ghost use Rattle.pass_safe.specs.Syncings.{HasKept, IsKeeping, IsNoDiskFault, SyncAnswers};
+ghost use Rattle.pass_safe.specs.Syncings.{HasKept, IsKeeping, IsNoDiskFault};
+ghost use Rattle.pass_answer.specs.Syncs.{SyncAnswers};
 
-use pass_calls::CallEnd;
+use pass_answer::CallEnd;
 use pass_entry::{Ask, CallFault, CallName};
-use pass_flow::Versioned;
+use pass_flow::{Versioned, acts};
 use pass_hold::{Caller, Shelf, Whose};
 use pass_proc::{Proc, ProcessDesk, refuse};
 use std::alloc::Global;
@@ -66,7 +67,7 @@ fn keep_step<J: Whose, V: Versioned<J>>(
     ensures own { caller.new.own ≡ caller.old.own }
     ensures few { length caller.new.seen ≤ 2 ^ 32 }
 {
-    let (place, _node) = object.keep(alloc, shelf, caller, process.pnode(), number);
+    let (place, _node) = acts::keep(object, alloc, shelf, caller, process.pnode(), number);
     place
 }
 

@@ -11,18 +11,20 @@ ghost use Rattle.pass_keep.specs.Keepers.{GoesOn};
 ghost use Rattle.pass_vault.specs.Rooms.{most_entries};
 ghost use Rattle.pass_vault.specs.Vaulted.{flushed, real_syncs};
 ghost use Rattle.pass_safe.specs.Commits.{HasStaged, left_by_staging, saved_to, unsaved_to, unstaged_to};
-ghost use Rattle.pass_safe.specs.Safes.{SafeView, IsLost, IsLostBy, Leaves, lost_in};
+ghost use Rattle.pass_safe.specs.Grounds.{HasGoneOn, ground_of};
+ghost use Rattle.pass_safe.specs.Safes.{SafeView, IsFaultSince, IsLost, IsLostBy, Leaves, lost_in};
 ghost use Rattle.pass_safe.specs.Settled.{HasUnwritten, IsClean, settled_to};
 ghost use Rattle.pass_safe.specs.Syncings.{HasReceipt};
 ghost use Rattle.pass_safe.specs.declared.fault.Lost.{Lost as AnyLost};
 ghost use Rattle.pass_safe.specs.declared.fault.SafeFault.TheVariants.{DiskFault, NoMemory};
 
 use crate::fault::{Lost, SafeFault, lost_by};
+use crate::ground::Opening;
 use crate::working::{flush_vault, join_file, save_file, settle_file, show_file, stage_file};
 use pass_book::Note;
 use pass_entry::Record;
 use pass_file::FileDesk;
-use pass_hold::{Shelf, Whose};
+use pass_hold::Shelf;
 use pass_outside::Disk;
 use pass_vault::{Receipt, Vault};
 use std::alloc::Global;
@@ -30,13 +32,13 @@ use std::marker::{Model, PhantomData};
 
 /// The vault of a store. After a device call that failed it isn't asked again, and each call answers the counts of that fault.
 #[derive(Drop)]
-pub struct Safe<J: Whose, D: Disk> {
+pub struct Safe<J: Opening, D: Disk> {
     vault: Vault<D>,
     lost: Option<Lost>,
     whose: PhantomData<J>,
 }
 
-impl<J: Whose, D: Disk> Model for Safe<J, D> {
+impl<J: Opening, D: Disk> Model for Safe<J, D> {
     ghost use Rattle.std.specs.Coded.{codes, coded_ℕ, coded_list};
     ghost use Rattle.lru.specs.LruCache.{lru_cache_code};
     ghost use Rattle.pass_pool.specs.contracts.pool.FileBlock as block_type;
@@ -51,13 +53,15 @@ impl<J: Whose, D: Disk> Model for Safe<J, D> {
 
     ghost view = { λ s. record { vault = s.vault; lost = s.lost } };
 
-    ghost invariant = { λ s. IsSafe J.book D.view s.vault s.lost };
+    ghost invariant = { λ s. IsSafe J.book J.ground J.tells D.view s.vault s.lost };
 }
 
-impl<J: Whose, D: Disk> Safe<J, D> {
+impl<J: Opening, D: Disk> Safe<J, D> {
     /// Lays a vault into its lock, as it was opened.
     pub fn opened(vault: Vault<D>) -> Safe<J, D>
         requires book { vault.book ≡ J.book }
+        requires ground { ground_of vault ≡ J.ground }
+        requires gone_on { HasGoneOn J.tells J.ground.opened (D.view vault.disk) }
         requires fresh { (vault.seen ≡ []) × (vault.syncs ≡ []) }
         requires healthy { (D.view vault.disk).faults ≡ vault.opened }
         requires low { (object : ℕ) → opening_version J.book.session.start object ≤ 2 ^ 35 }
@@ -86,10 +90,12 @@ impl<J: Whose, D: Disk> Safe<J, D> {
         self.vault.durable()
     }
 
+    #[tactic(auto, using(crate::proofs::Standing::since_of, crate::proofs::Standing::lost_since))]
     /// Whether no device call has failed: else the counts of the fault. It takes no memory.
     pub fn healthy(&self) -> Result<(), SafeFault>
         ensures healthy { OnOk result (self.now.lost ≡ None) }
         ensures lost { IfErr result (IsLostBy D.view self.now) }
+        ensures since { IfErr result (IsFaultSince D.view J.ground.opened) }
     {
         match self.lost {
             Some(lost) => Err(lost.fault()),
@@ -130,6 +136,7 @@ impl<J: Whose, D: Disk> Safe<J, D> {
         self.vault.is_written()
     }
 
+    #[tactic(auto, using(crate::proofs::Standing::since_of, crate::proofs::Standing::lost_since))]
     /// Makes the entries that a note has seen durable, whose maker had seen what the vault has. The parts are the records of
     /// those from the durable number on: one frame of the log for each. The memory is taken before the first device call.
     pub fn flush(
@@ -156,8 +163,10 @@ impl<J: Whose, D: Disk> Safe<J, D> {
         ensures failed { (opened found : ℕ) → result ≡ Err (DiskFault opened found) → IsLost (D.view self.new.vault.disk) self.old.vault.opened (record { opened = opened; found = found }) }
         ensures memory { result ≡ Err NoMemory → self.new ≡ self.old }
         ensures goes_on { GoesOn (D.view self.old.vault.disk) (D.view self.new.vault.disk) }
+        ensures since { IfErr result (IsFaultSince D.view J.ground.opened) }
     {
         if let Some(lost) = self.lost {
+            drop(upto);
             return Err(lost.fault());
         }
         let result = flush_vault::<J, D>(alloc, &mut self.vault, parts, upto);
@@ -165,6 +174,7 @@ impl<J: Whose, D: Disk> Safe<J, D> {
         result
     }
 
+    #[tactic(auto, using(crate::proofs::Standing::since_of, crate::proofs::Standing::lost_since))]
     /// Writes the dirty blocks of a file and those of it that wait in the vault, and syncs the data area once; where there is none, and
     /// nothing is unsynced, no device call is made. File and vault have seen one history. Its file comes back.
     pub fn save(
@@ -184,6 +194,7 @@ impl<J: Whose, D: Disk> Safe<J, D> {
         ensures failed { (opened found : ℕ) → result.1 ≡ Err (DiskFault opened found) → IsLost (D.view self.new.vault.disk) self.old.vault.opened (record { opened = opened; found = found }) }
         ensures memory { result.1 ≡ Err NoMemory → (self.new ≡ self.old) × (result.0 ≡ file) }
         ensures goes_on { GoesOn (D.view self.old.vault.disk) (D.view self.new.vault.disk) }
+        ensures since { IfErr result.1 (IsFaultSince D.view J.ground.opened) }
     {
         if let Some(lost) = self.lost {
             return (file, Err(lost.fault()));
@@ -193,6 +204,7 @@ impl<J: Whose, D: Disk> Safe<J, D> {
         (file, result)
     }
 
+    #[tactic(auto, using(crate::proofs::Standing::since_of, crate::proofs::Standing::lost_since))]
     /// Does what `save` does with a file that has dirty blocks, or some that wait in the vault, and with any file where something is
     /// unsynced, and answers what that came to. Any other file is left alone: of it no sync is noted, and no device call is made.
     pub fn settle(
@@ -215,6 +227,7 @@ impl<J: Whose, D: Disk> Safe<J, D> {
         ensures failed { (opened found : ℕ) → result.1 ≡ Err (DiskFault opened found) → IsLost (D.view self.new.vault.disk) self.old.vault.opened (record { opened = opened; found = found }) }
         ensures memory { result.1 ≡ Err NoMemory → (self.new ≡ self.old) × (result.0 ≡ file) }
         ensures goes_on { GoesOn (D.view self.old.vault.disk) (D.view self.new.vault.disk) }
+        ensures since { IfErr result.1 (IsFaultSince D.view J.ground.opened) }
     {
         if let Some(lost) = self.lost {
             return (file, Err(lost.fault()));
@@ -224,6 +237,7 @@ impl<J: Whose, D: Disk> Safe<J, D> {
         (file, result)
     }
 
+    #[tactic(auto, using(crate::proofs::Standing::since_of, crate::proofs::Standing::lost_since))]
     /// Puts so many dirty blocks of a file at most into the vault's pool, and answers their number; what the pool has no room for is
     /// written, without a sync. Of a file without any no staging is noted. File and vault have seen one history. Its file comes back.
     pub fn stage(
@@ -240,6 +254,7 @@ impl<J: Whose, D: Disk> Safe<J, D> {
         ensures undone { OnErr result.1 (self.new.vault ≡ unstaged_to self.old.vault self.new.vault) }
         ensures same { self.new.vault ≡ left_by_staging self.old.vault self.new.vault }
         ensures safe { Leaves D.view self.old self.new result.1 }
+        ensures since { IfErr result.1 (IsFaultSince D.view J.ground.opened) }
     {
         if let Some(lost) = self.lost {
             return (file, Err(lost.fault()));
@@ -274,6 +289,8 @@ impl<J: Whose, D: Disk> Safe<J, D> {
     /// The vault, at the end of a session.
     pub fn into_vault(self) -> Vault<D>
         ensures vault { result ≡ self.vault }
+        ensures ground { ground_of result ≡ J.ground }
+        ensures gone_on { HasGoneOn J.tells J.ground.opened (D.view result.disk) }
         ensures healthy { self.lost ≡ None → (D.view result.disk).faults ≡ result.opened }
     {
         self.vault

@@ -1,17 +1,18 @@
 //! What a sync makes durable, under the vault's lock.
-ghost use Rattle.std.specs.Prelude.{◌≡◌, ◌⊎◌, ◌+◌, ◌<◌, ◌≤◌, ◌↔◌, ℕ, List, None, Some, Err, true, IfOk, IfErr, OnOk, OnErr, length};
+ghost use Rattle.std.specs.Prelude.{◌≡◌, ◌⊎◌, ◌+◌, ◌<◌, ◌≤◌, ◌↔◌, ℕ, List, None, Err, true, IfOk, IfErr, OnOk, OnErr, length};
 ghost use mathlib.Core.List.{IsPrefix};
 ghost use Rattle.pass_entry.specs.declared.entry.Entry.{Entry as AnyEntry};
 ghost use Rattle.pass_book.specs.Syncs.{called, durable};
 ghost use Rattle.pass_hold.specs.Callings.{HasLooked};
 ghost use Rattle.pass_vault.specs.Vaulted.{real_syncs};
 ghost use Rattle.pass_safe.specs.Commits.{HasCommitted, HasFlushed, HasNotFlushed, HasStopped, flushed_to, saved_to, unsaved_to};
-ghost use Rattle.pass_safe.specs.Safes.{IsLostBy, Leaves};
+ghost use Rattle.pass_safe.specs.Safes.{IsFaultSince, IsLostBy, Leaves};
 ghost use Rattle.pass_safe.specs.Settled.{IsClean};
 ghost use Rattle.pass_safe.specs.Syncings.{HasKept, HasRisen, IsCopy, IsFileSaved, IsSaved, KeepingView};
 ghost use Rattle.pass_safe.specs.declared.fault.SafeFault.TheVariants.{NoMemory};
 
 use crate::fault::SafeFault;
+use crate::ground::Opening;
 use crate::keeping::Keeping;
 use crate::safe::Safe;
 use pass_book::Note;
@@ -26,9 +27,9 @@ use std::alloc::{AllocError, Global};
 
 /// The records of the entries that are not durable, in parts for the log, and what the book had.
 #[derive(Drop)]
-pub struct Copied {
-    pub parts: Vec<Vec<Record>>,
-    pub note: Note,
+pub(crate) struct Copied {
+    pub(crate) parts: Vec<Vec<Record>>,
+    pub(crate) note: Note,
 }
 
 /// What the vault has come to, and what it had seen then.
@@ -39,14 +40,14 @@ pub struct Saved {
 }
 
 /// The first entry of a sync is durable by the work of another one: nothing has to be copied.
-pub fn is_durable<J: Whose, D: Disk>(safe: &Safe<J, D>, keeping: &Keeping<J>) -> bool
+pub(crate) fn is_durable<J: Opening, D: Disk>(safe: &Safe<J, D>, keeping: &Keeping<J>) -> bool
     ensures { (result ≡ true) ↔ (keeping.now.place < durable safe.now.vault.syncs) }
 {
     keeping.place < safe.durable()
 }
 
 /// Vault and book meet: no record of an entry was shed that is not durable.
-fn meet_list<J: Whose, D: Disk>(safe: &mut Safe<J, D>, shelf: &mut Shelf<J>)
+fn meet_list<J: Opening, D: Disk>(safe: &mut Safe<J, D>, shelf: &mut Shelf<J>)
     ensures safe { safe.new ≡ safe.old }
     ensures shelf { shelf.new ≡ shelf.old }
     ensures kept { shelf.old.kept ≤ durable safe.old.vault.syncs }
@@ -56,7 +57,7 @@ fn meet_list<J: Whose, D: Disk>(safe: &mut Safe<J, D>, shelf: &mut Shelf<J>)
 }
 
 /// Copies what is not durable, in one hold of the book. The file sees the whole history.
-pub fn copy<J: Whose, D: Disk>(
+pub(crate) fn copy<J: Opening, D: Disk>(
     safe: &mut Safe<J, D>,
     file: &mut FileDesk<J>,
     shelf: &mut Shelf<J>,
@@ -77,7 +78,7 @@ pub fn copy<J: Whose, D: Disk>(
 }
 
 /// The same with no file at hand: the registry sees the whole history.
-pub fn copy_all<J: Whose, D: Disk>(
+pub(crate) fn copy_all<J: Opening, D: Disk>(
     safe: &mut Safe<J, D>,
     registry: &mut RegistryDesk<J>,
     shelf: &mut Shelf<J>,
@@ -113,7 +114,7 @@ pub fn look_told<J: Whose>(proc: &mut Proc<J>, shelf: &mut Shelf<J>, told: Note)
 }
 
 /// The same for a sync of a pipe or an app object: its process sees the whole history.
-pub fn copy_entries<J: Whose, D: Disk>(
+pub(crate) fn copy_entries<J: Opening, D: Disk>(
     safe: &mut Safe<J, D>,
     proc: &mut Proc<J>,
     shelf: &mut Shelf<J>,
@@ -135,7 +136,7 @@ pub fn copy_entries<J: Whose, D: Disk>(
 }
 
 /// Makes the entries that were copied durable, by one sync. The book is free.
-pub fn flush_copied<J: Whose, D: Disk>(
+pub(crate) fn flush_copied<J: Opening, D: Disk>(
     alloc: Global,
     safe: &mut Safe<J, D>,
     copied: Copied,
@@ -146,6 +147,7 @@ pub fn flush_copied<J: Whose, D: Disk>(
     ensures undone { OnErr result (HasNotFlushed copied.note.seen safe.old.vault safe.new.vault) }
     ensures memory { result ≡ Err NoMemory → safe.new ≡ safe.old }
     ensures risen { IfErr result HasRisen }
+    ensures since { IfErr result (IsFaultSince D.view J.ground.opened) }
     ensures safe { Leaves D.view safe.old safe.new result }
 {
     let Copied { parts, note } = copied;
@@ -156,7 +158,7 @@ pub fn flush_copied<J: Whose, D: Disk>(
 }
 
 /// The data of a file that has seen what the vault has.
-fn save<J: Whose, D: Disk>(
+fn save<J: Opening, D: Disk>(
     alloc: Global,
     safe: &mut Safe<J, D>,
     file: FileDesk<J>,
@@ -172,6 +174,7 @@ fn save<J: Whose, D: Disk>(
     ensures undone { OnErr result.1 (safe.new.vault ≡ unsaved_to safe.old.vault safe.new.vault) }
     ensures memory { result.1 ≡ Err NoMemory → (safe.new ≡ safe.old) × (result.0 ≡ file) }
     ensures risen { IfErr result.1 HasRisen }
+    ensures since { IfErr result.1 (IsFaultSince D.view J.ground.opened) }
     ensures safe { Leaves D.view safe.old safe.new result.1 }
 {
     let (file, result) = safe.save(alloc, file);
@@ -186,7 +189,7 @@ fn save<J: Whose, D: Disk>(
 }
 
 /// Makes the entries that were copied durable, and then the data of the file. The book is free.
-pub fn commit<J: Whose, D: Disk>(
+pub(crate) fn commit<J: Opening, D: Disk>(
     alloc: Global,
     safe: &mut Safe<J, D>,
     file: FileDesk<J>,
@@ -203,6 +206,7 @@ pub fn commit<J: Whose, D: Disk>(
     ensures undone { OnErr result.1 (HasStopped file.seen safe.old.vault safe.new.vault) }
     ensures memory { result.1 ≡ Err NoMemory → ((safe.new ≡ safe.old) ⊎ HasFlushed file.seen safe.old.vault safe.new.vault) × (result.0 ≡ file) }
     ensures risen { IfErr result.1 HasRisen }
+    ensures since { IfErr result.1 (IsFaultSince D.view J.ground.opened) }
     ensures safe { Leaves D.view safe.old safe.new result.1 }
 {
     if let Err(fault) = flush_copied(alloc, safe, copied) {
@@ -212,7 +216,7 @@ pub fn commit<J: Whose, D: Disk>(
 }
 
 /// Makes the entries that were copied durable, for a sync of a pipe or an app object. The book is free.
-pub fn commit_entries<J: Whose, D: Disk>(
+pub(crate) fn commit_entries<J: Opening, D: Disk>(
     alloc: Global,
     safe: &mut Safe<J, D>,
     proc: &Proc<J>,
@@ -225,6 +229,7 @@ pub fn commit_entries<J: Whose, D: Disk>(
     ensures undone { OnErr result (HasNotFlushed proc.now.seen safe.old.vault safe.new.vault) }
     ensures memory { result ≡ Err NoMemory → safe.new ≡ safe.old }
     ensures risen { IfErr result HasRisen }
+    ensures since { IfErr result (IsFaultSince D.view J.ground.opened) }
     ensures safe { Leaves D.view safe.old safe.new result }
 {
     let _ = proc;
@@ -239,7 +244,7 @@ pub fn commit_entries<J: Whose, D: Disk>(
 }
 
 /// Makes the data of the file durable, all of whose entries are so by the work of another sync. The book is free.
-pub fn share<J: Whose, D: Disk>(
+pub(crate) fn share<J: Opening, D: Disk>(
     alloc: Global,
     safe: &mut Safe<J, D>,
     file: FileDesk<J>,
@@ -257,6 +262,7 @@ pub fn share<J: Whose, D: Disk>(
     ensures undone { OnErr result.1 (safe.new.vault ≡ unsaved_to safe.old.vault safe.new.vault) }
     ensures memory { result.1 ≡ Err NoMemory → safe.new ≡ safe.old }
     ensures risen { IfErr result.1 HasRisen }
+    ensures since { IfErr result.1 (IsFaultSince D.view J.ground.opened) }
     ensures safe { Leaves D.view safe.old safe.new result.1 }
 {
     let file = safe.show(file);
@@ -265,7 +271,7 @@ pub fn share<J: Whose, D: Disk>(
 
 /// The same for a sync of a pipe or an app object, whose first entry is durable by the work of another sync: it has that one's receipt, and
 /// takes no memory.
-pub fn share_entries<J: Whose, D: Disk>(
+pub(crate) fn share_entries<J: Opening, D: Disk>(
     safe: &mut Safe<J, D>,
     keeping: &Keeping<J>,
 ) -> Result<Saved, SafeFault>
@@ -277,6 +283,7 @@ pub fn share_entries<J: Whose, D: Disk>(
     ensures above { IfOk result (λ s. keeping.now.place < s.receipt.entries) }
     ensures saved { IfOk result (λ s. IsSaved J.book safe.old.vault.seen s) }
     ensures risen { IfErr result HasRisen }
+    ensures since { IfErr result (IsFaultSince D.view J.ground.opened) }
 {
     let _ = keeping;
     if let Err(fault) = safe.healthy() {

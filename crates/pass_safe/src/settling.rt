@@ -2,22 +2,25 @@
 ghost use Rattle.std.specs.Prelude.{◌≡◌, ◌⊎◌, ◌≤◌, ◌↔◌, Err, true, IfOk, IfErr, IfSome, OnErr, length};
 ghost use Rattle.pass_book.specs.Syncs.{durable};
 ghost use Rattle.pass_safe.specs.Commits.{HasFlushed, HasStopped, left_by_staging, unsaved_to};
-ghost use Rattle.pass_safe.specs.Safes.{Leaves};
+ghost use Rattle.pass_safe.specs.Safes.{IsFaultSince, Leaves};
 ghost use Rattle.pass_safe.specs.Settled.{HasSettled, settled_to};
 ghost use Rattle.pass_safe.specs.Syncings.{HasReceipt, HasRisen, IsCopy, IsSaved};
 ghost use Rattle.pass_safe.specs.declared.fault.SafeFault.TheVariants.{NoMemory};
 
 use crate::fault::SafeFault;
+use crate::ground::Opening;
 use crate::safe::Safe;
 use crate::saving::{Copied, Saved, flush_copied};
 use pass_file::FileDesk;
-use pass_hold::Whose;
 use pass_outside::Disk;
 use pass_vault::Receipt;
 use std::alloc::Global;
 
 /// Whether all that a file has seen is durable. The file comes back as it was.
-pub fn is_seen<J: Whose, D: Disk>(safe: &Safe<J, D>, file: FileDesk<J>) -> (FileDesk<J>, bool)
+pub(crate) fn is_seen<J: Opening, D: Disk>(
+    safe: &Safe<J, D>,
+    file: FileDesk<J>,
+) -> (FileDesk<J>, bool)
     ensures file { result.0 ≡ file }
     ensures seen { (result.1 ≡ true) ↔ (length file.seen ≤ durable safe.now.vault.syncs) }
 {
@@ -27,7 +30,7 @@ pub fn is_seen<J: Whose, D: Disk>(safe: &Safe<J, D>, file: FileDesk<J>) -> (File
 }
 
 /// Settles a file all of whose entries are durable: it sees what the vault has seen.
-pub fn settle_shared<J: Whose, D: Disk>(
+pub(crate) fn settle_shared<J: Opening, D: Disk>(
     alloc: Global,
     safe: &mut Safe<J, D>,
     file: FileDesk<J>,
@@ -39,6 +42,7 @@ pub fn settle_shared<J: Whose, D: Disk>(
     ensures undone { OnErr result.1 (safe.new.vault ≡ unsaved_to safe.old.vault safe.new.vault) }
     ensures memory { result.1 ≡ Err NoMemory → safe.new ≡ safe.old }
     ensures risen { IfErr result.1 HasRisen }
+    ensures since { IfErr result.1 (IsFaultSince D.view J.ground.opened) }
     ensures safe { Leaves D.view safe.old safe.new result.1 }
 {
     let file = safe.show(file);
@@ -46,7 +50,7 @@ pub fn settle_shared<J: Whose, D: Disk>(
 }
 
 /// Settles a file that has seen the whole history of a copy, whose entries are made durable first. The book is free.
-pub fn settle_copied<J: Whose, D: Disk>(
+pub(crate) fn settle_copied<J: Opening, D: Disk>(
     alloc: Global,
     safe: &mut Safe<J, D>,
     file: FileDesk<J>,
@@ -59,6 +63,7 @@ pub fn settle_copied<J: Whose, D: Disk>(
     ensures undone { OnErr result.1 (HasStopped file.seen safe.old.vault safe.new.vault) }
     ensures memory { result.1 ≡ Err NoMemory → ((safe.new ≡ safe.old) ⊎ HasFlushed file.seen safe.old.vault safe.new.vault) × (result.0 ≡ file) }
     ensures risen { IfErr result.1 HasRisen }
+    ensures since { IfErr result.1 (IsFaultSince D.view J.ground.opened) }
     ensures safe { Leaves D.view safe.old safe.new result.1 }
 {
     if let Err(fault) = flush_copied(alloc, safe, copied) {
@@ -68,7 +73,7 @@ pub fn settle_copied<J: Whose, D: Disk>(
 }
 
 /// Puts so many dirty blocks of a file at most into the vault's pool, all of whose entries are durable: it sees what the vault has seen.
-pub fn stage_shared<J: Whose, D: Disk>(
+pub(crate) fn stage_shared<J: Opening, D: Disk>(
     alloc: Global,
     safe: &mut Safe<J, D>,
     file: FileDesk<J>,
@@ -79,6 +84,7 @@ pub fn stage_shared<J: Whose, D: Disk>(
     ensures few { IfOk result.1 (λ n. n ≤ limit) }
     ensures same { safe.new.vault ≡ left_by_staging safe.old.vault safe.new.vault }
     ensures risen { IfErr result.1 HasRisen }
+    ensures since { IfErr result.1 (IsFaultSince D.view J.ground.opened) }
     ensures safe { Leaves D.view safe.old safe.new result.1 }
 {
     let file = safe.show(file);
@@ -86,7 +92,7 @@ pub fn stage_shared<J: Whose, D: Disk>(
 }
 
 /// The same of a file that has seen the whole history of a copy, whose entries are made durable first. The book is free.
-pub fn stage_copied<J: Whose, D: Disk>(
+pub(crate) fn stage_copied<J: Opening, D: Disk>(
     alloc: Global,
     safe: &mut Safe<J, D>,
     file: FileDesk<J>,
@@ -98,6 +104,7 @@ pub fn stage_copied<J: Whose, D: Disk>(
     ensures few { IfOk result.1 (λ n. n ≤ limit) }
     ensures same { safe.new.vault ≡ left_by_staging safe.old.vault safe.new.vault }
     ensures risen { IfErr result.1 HasRisen }
+    ensures since { IfErr result.1 (IsFaultSince D.view J.ground.opened) }
     ensures safe { Leaves D.view safe.old safe.new result.1 }
 {
     if let Err(fault) = flush_copied(alloc, safe, copied) {
@@ -108,7 +115,7 @@ pub fn stage_copied<J: Whose, D: Disk>(
 
 #[tactic(auto, using(crate::proofs::Lent::told_saved))]
 /// A receipt of the vault, with what the vault has seen. It takes no memory.
-pub fn told<J: Whose, D: Disk>(safe: &mut Safe<J, D>, receipt: Receipt) -> Saved
+pub(crate) fn told<J: Opening, D: Disk>(safe: &mut Safe<J, D>, receipt: Receipt) -> Saved
     requires { HasReceipt safe.old.vault receipt }
     ensures safe { safe.new ≡ safe.old }
     ensures receipt { result.receipt ≡ receipt }

@@ -1,5 +1,5 @@
 //! What is done with the vault while no device call has failed.
-ghost use Rattle.std.specs.Prelude.{◌≡◌, ◌⊎◌, ◌<◌, ◌≤◌, ◌++◌, ◌∷◌, ◌↔◌, [], ℕ, false, true, None, Ok, Err, IfOk, IfSome, IsSome, OnOk, OnErr, length};
+ghost use Rattle.std.specs.Prelude.{◌≡◌, ◌⊎◌, ◌<◌, ◌≤◌, ◌++◌, ◌∷◌, ◌↔◌, [], false, true, None, Ok, Err, IfOk, IfSome, IsSome, OnOk, OnErr, length};
 ghost use mathlib.Core.List.{IsPrefix};
 ghost use Rattle.pass_plain.specs.Legal.{IsLegal};
 ghost use Rattle.pass_book.specs.Parting.{lists_of};
@@ -17,30 +17,31 @@ ghost use Rattle.pass_safe.specs.Syncings.{HasReceipt};
 ghost use Rattle.pass_safe.specs.declared.fault.SafeFault.TheVariants.{NoMemory};
 
 use crate::fault::{SafeFault, fault_of};
+use crate::ground::Opening;
 use pass_book::Note;
 use pass_bounds::laws::histories;
 use pass_entry::{Bytes, Record};
 use pass_file::FileDesk;
-use pass_hold::{Shelf, Whose};
+use pass_hold::Shelf;
 use pass_outside::Disk;
 use pass_vault::laws::some_dirty;
 use pass_vault::{Receipt, Vault};
 use std::alloc::Global;
 
 /// Makes the entries that a note has seen durable.
-pub(crate) fn flush_vault<J: Whose, D: Disk>(
+pub(crate) fn flush_vault<J: Opening, D: Disk>(
     alloc: Global,
     vault: &mut Vault<D>,
     parts: &[Vec<Record>],
     upto: Note,
 ) -> Result<(), SafeFault>
-    requires safe { IsSafe J.book D.view vault.old None }
+    requires safe { IsSafe J.book J.ground J.tells D.view vault.old None }
     requires one { upto.book ≡ J.book }
     requires begins { IsPrefix vault.old.seen upto.seen }
     requires legal { IsLegal J.book.session upto.seen }
     requires few { length upto.seen ≤ most_entries }
     requires parts { AreParts J.book.session upto.seen (durable vault.old.syncs) (lists_of parts.now) }
-    ensures safe { IsSafe J.book D.view vault.new (lost_in result) }
+    ensures safe { IsSafe J.book J.ground J.tells D.view vault.new (lost_in result) }
     ensures done { OnOk result (vault.new ≡ record vault.old {
       seen = upto.seen;
       disk = vault.new.disk;
@@ -61,17 +62,17 @@ pub(crate) fn flush_vault<J: Whose, D: Disk>(
 }
 
 /// Writes these blocks of a file, which are its dirty ones.
-fn save_blocks<J: Whose, D: Disk>(
+fn save_blocks<J: Opening, D: Disk>(
     alloc: Global,
     file: FileDesk<J>,
     vault: &mut Vault<D>,
     blocks: &[(u32, Bytes)],
 ) -> (FileDesk<J>, Result<Receipt, SafeFault>)
-    requires safe { IsSafe J.book D.view vault.old None }
+    requires safe { IsSafe J.book J.ground J.tells D.view vault.old None }
     requires seen { file.seen ≡ vault.old.seen }
     requires dirty { AreDirty J.book.session file.seen file.syncs file.what blocks.now }
     requires rising { IsRisingBy blocks.now }
-    ensures safe { IsSafe J.book D.view vault.new (lost_in result.1) }
+    ensures safe { IsSafe J.book J.ground J.tells D.view vault.new (lost_in result.1) }
     ensures file { result.0 ≡ record file { syncs = result.0.syncs } }
     ensures done { IfOk result.1 (λ r. vault.new ≡ saved_to vault.old vault.new file.what file.number r) }
     ensures receipt { IfOk result.1 (λ r. r ≡ record { calls = (D.view vault.new.disk).calls; entries = length file.seen }) }
@@ -90,14 +91,14 @@ fn save_blocks<J: Whose, D: Disk>(
 }
 
 /// Writes the dirty blocks of a file.
-pub(crate) fn save_file<J: Whose, D: Disk>(
+pub(crate) fn save_file<J: Opening, D: Disk>(
     alloc: Global,
     file: FileDesk<J>,
     vault: &mut Vault<D>,
 ) -> (FileDesk<J>, Result<Receipt, SafeFault>)
-    requires safe { IsSafe J.book D.view vault.old None }
+    requires safe { IsSafe J.book J.ground J.tells D.view vault.old None }
     requires seen { file.seen ≡ vault.old.seen }
-    ensures safe { IsSafe J.book D.view vault.new (lost_in result.1) }
+    ensures safe { IsSafe J.book J.ground J.tells D.view vault.new (lost_in result.1) }
     ensures file { result.0 ≡ record file { syncs = result.0.syncs } }
     ensures done { IfOk result.1 (λ r. vault.new ≡ saved_to vault.old vault.new file.what file.number r) }
     ensures receipt { IfOk result.1 (λ r. r ≡ record { calls = (D.view vault.new.disk).calls; entries = length file.seen }) }
@@ -126,14 +127,14 @@ fn is_settled<D: Disk>(vault: &Vault<D>, number: u32, clean: bool) -> bool
 
 /// Writes the dirty blocks of a file and those of it that wait in the vault, where it has some or anything is unsynced, and leaves any
 /// other alone.
-pub(crate) fn settle_file<J: Whose, D: Disk>(
+pub(crate) fn settle_file<J: Opening, D: Disk>(
     alloc: Global,
     file: FileDesk<J>,
     vault: &mut Vault<D>,
 ) -> (FileDesk<J>, Result<Option<Receipt>, SafeFault>)
-    requires safe { IsSafe J.book D.view vault.old None }
+    requires safe { IsSafe J.book J.ground J.tells D.view vault.old None }
     requires seen { file.seen ≡ vault.old.seen }
-    ensures safe { IsSafe J.book D.view vault.new (lost_in result.1) }
+    ensures safe { IsSafe J.book J.ground J.tells D.view vault.new (lost_in result.1) }
     ensures file { result.0 ≡ record file { syncs = result.0.syncs } }
     ensures done { IfOk result.1 (λ r. vault.new ≡ settled_to vault.old vault.new file.what file.number r) }
     ensures receipt { IfOk result.1 (λ o. IfSome o (λ r. r ≡ record { calls = (D.view vault.new.disk).calls; entries = length file.seen })) }
@@ -159,15 +160,15 @@ pub(crate) fn settle_file<J: Whose, D: Disk>(
 }
 
 /// Puts these blocks of a file, some of its dirty ones, into the vault's pool.
-fn stage_blocks<J: Whose, D: Disk>(
+fn stage_blocks<J: Opening, D: Disk>(
     file: FileDesk<J>,
     vault: &mut Vault<D>,
     blocks: &[(u32, Bytes)],
 ) -> (FileDesk<J>, Result<(), SafeFault>)
-    requires safe { IsSafe J.book D.view vault.old None }
+    requires safe { IsSafe J.book J.ground J.tells D.view vault.old None }
     requires seen { file.seen ≡ vault.old.seen }
     requires dirty { AreSomeDirty J.book.session file.seen file.syncs file.what blocks.now }
-    ensures safe { IsSafe J.book D.view vault.new (lost_in result.1) }
+    ensures safe { IsSafe J.book J.ground J.tells D.view vault.new (lost_in result.1) }
     ensures file { result.0 ≡ record file { syncs = result.0.syncs } }
     ensures done { OnOk result.1 (vault.new ≡ staged_to vault.old vault.new file.what file.number (D.view vault.new.disk).calls (length file.seen) blocks.now) }
     ensures undone { OnErr result.1 (vault.new ≡ unstaged_to vault.old vault.new) }
@@ -182,15 +183,15 @@ fn stage_blocks<J: Whose, D: Disk>(
 }
 
 /// Puts so many dirty blocks of a file at most into the vault's pool, and answers their number. A file without any is left alone.
-pub(crate) fn stage_file<J: Whose, D: Disk>(
+pub(crate) fn stage_file<J: Opening, D: Disk>(
     alloc: Global,
     file: FileDesk<J>,
     vault: &mut Vault<D>,
     limit: u32,
 ) -> (FileDesk<J>, Result<u32, SafeFault>)
-    requires safe { IsSafe J.book D.view vault.old None }
+    requires safe { IsSafe J.book J.ground J.tells D.view vault.old None }
     requires seen { file.seen ≡ vault.old.seen }
-    ensures safe { IsSafe J.book D.view vault.new (lost_in result.1) }
+    ensures safe { IsSafe J.book J.ground J.tells D.view vault.new (lost_in result.1) }
     ensures file { result.0 ≡ record file { syncs = result.0.syncs } }
     ensures few { IfOk result.1 (λ n. n ≤ limit) }
     ensures done { IfOk result.1 (λ n. 0 < n → HasStaged J.book.session file vault.old vault.new n) }
@@ -216,7 +217,7 @@ pub(crate) fn stage_file<J: Whose, D: Disk>(
 }
 
 /// The file sees what the vault has seen.
-pub(crate) fn show_file<J: Whose, D: Disk>(file: FileDesk<J>, vault: &mut Vault<D>) -> FileDesk<J>
+pub(crate) fn show_file<J: Opening, D: Disk>(file: FileDesk<J>, vault: &mut Vault<D>) -> FileDesk<J>
     requires book { vault.old.book ≡ J.book }
     requires few { length vault.old.seen ≤ most_entries }
     requires below { length file.seen ≤ durable vault.old.syncs }
@@ -233,7 +234,7 @@ pub(crate) fn show_file<J: Whose, D: Disk>(file: FileDesk<J>, vault: &mut Vault<
 }
 
 /// The file sees the whole history, which the vault has seen, and the vault has the syncs that the file knows.
-pub(crate) fn join_file<J: Whose, D: Disk>(
+pub(crate) fn join_file<J: Opening, D: Disk>(
     file: FileDesk<J>,
     vault: &mut Vault<D>,
     shelf: &mut Shelf<J>,

@@ -4,7 +4,7 @@ use Rattle.std.specs.Prelude.{Some, slice_get}
 use Rattle.std.proofs.Math.ListN.{set}
 use Rattle.std.proofs.lemmas.List.{append-nil, drop_all, take_all, length-map}
 use Rattle.pass_plain.specs.declared.start.StartFile.{StartFile}
-use Rattle.pass_report.specs.Reports.{outline}
+use Rattle.pass_plain.specs.Outlines.{outline}
 
 -- a file with the outline of the one that stood there
 pub outlines-set : (files : List StartFile) (i : ℕ) (f d : StartFile) → outline f ≡ outline (get_or files i d) → map outline (set files i f) ≡ map outline files

@@ -143,6 +143,7 @@ module _ {D : Type 0} (view : D → Moment) (old : Moment) (disk : D) (f : Found
         record {
           logged = (bytes, read, record { held = held_in f.image; image = image.holds; list_is = refl; unfaulted = ended bytes (held_in f.image) image.holds found.logged false (within f.image.end short) });
           told = found.told;
+          files = found.files;
           bytes = found.bytes;
         }
 

@@ -1,6 +1,6 @@
 mod Raised
 mod Parted
-mod Sought
+pub mod Sought
 mod Laying
 mod Bared
 mod Judging

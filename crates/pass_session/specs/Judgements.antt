@@ -1,18 +1,10 @@
 -- Over which logs no session begins. This project's own rule.
-use Rattle.std.specs.Prelude.{ℕ, List, Option, Some, None, Result, Ok, Err, option_map, nat_lt, if◌then◌else◌}
+use Rattle.std.specs.Prelude.{ℕ, List, Option, Some, None, Result, Ok, Err, nat_lt, if◌then◌else◌}
 use Rattle.pass_log.specs.declared.fault.LogFault.{LogFault}
-use Rattle.pass_log.specs.declared.fault.LogFault.TheVariants as log
 use Rattle.pass_log.specs.Records.{Held, image_of}
-use Rattle.pass_plain.specs.WellLogged.{first_flaw}
+pub use Rattle.pass_recover.specs.Faults.{image_fault}
 use Rattle.pass_recover.specs.declared.fault.OpenFault.{OpenFault}
 use Rattle.pass_recover.specs.declared.fault.OpenFault.TheVariants.{DiskFault, BadFrame, BadRecord, Flaw, NoMemory}
-
--- the fault of a log image: its own, and else the first flaw of its records. Bytes alone have no other faults.
-abbrev pub image_fault : Result Held LogFault → Option OpenFault
-image_fault (Ok held) = option_map (λ flaw. Flaw flaw.0 flaw.1) (first_flaw held.list)
-image_fault (Err (log.BadFrame at)) = Some (BadFrame at)
-image_fault (Err (log.BadRecord place why)) = Some (BadRecord place why)
-image_fault (Err _) = None
 
 -- the last end of a log image over which a session begins, 2 ^ 38: what a session adds never makes its log too long to be read
 abbrev pub last_end : ℕ

@@ -1,17 +1,19 @@
 -- What an opening leaves of a disk, and what it reads there. This project's own rule.
-use Rattle.std.specs.Prelude.{ℕ, ◌+◌, ◌≡◌, ◌≢◌, ◌≤◌, IsTrue, List, [], None, Some, Ok, slice_get}
+use Rattle.std.specs.Prelude.{ℕ, ◌+◌, ◌≡◌, ◌≢◌, IsTrue, List, [], None, Some, Ok, slice_get}
 use Rattle.pass_entry.specs.declared.record.Record.{Record}
 use Rattle.pass_keep.specs.Kept.{Story, HasRecords, IsBegun}
 use Rattle.pass_log.specs.Records.{Held, image_of}
 use Rattle.pass_outside.specs.Areas.{Image}
-use Rattle.pass_outside.specs.Moments.{Moment, Adds}
+use Rattle.pass_outside.specs.Moments.{Moment}
 use Rattle.pass_plain.specs.declared.start.Start.{Start}
 use Rattle.pass_plain.specs.declared.start.StartFile.{StartFile}
 use Rattle.pass_plain.specs.Legal.{session_of}
 use Rattle.pass_plain.specs.WellLogged.{ceiling_of}
+use Rattle.pass_range.specs.Lawful.{Tells}
 use Rattle.pass_recover.specs.declared.fault.OpenFault.{OpenFault}
 use Rattle.pass_recover.specs.declared.fault.OpenFault.TheVariants.{DiskFault}
 use Rattle.pass_recover.specs.Faults.{LogHas}
+pub use Rattle.pass_recover.specs.Later.{IsLater, IsLeftAlone}
 use Rattle.pass_recover.specs.Starts.{IsStartOf, HasBytes}
 use Rattle.pass_recover.specs.Syncs.{LeavesRead}
 use Rattle.pass_session.specs.Judgements.{session_fault}
@@ -28,24 +30,15 @@ pub record IsListOf (list : List Record) (bytes : List ℕ) : Type 0 where
 pub record IsOpening (m : Moment) (list : List Record) (start : Start) : Type 0 where
   pub logged : LogHas m (IsListOf list)
   pub told : IsStartOf list start
+  pub files : Tells list start
   pub bytes : IsTrue m.tells → HasBytes list m.seen.store start
 
 -- the start has no bytes in its files
 abbrev pub IsBare : Start → Type 0
 IsBare start = (i : ℕ) (file : StartFile) → slice_get start.files.items i ≡ Some file → file.bytes.items ≡ []
 
--- a later moment of a disk: what it tells stays, and its counts never fall
-pub record IsLater (old new : Moment) : Type 0 where
-  pub tells : new.tells ≡ old.tells
-  pub faults : old.faults ≤ new.faults
-  pub calls : old.calls ≤ new.calls
-
--- nothing was written to a disk: a crash leaves what it might have left before
-pub record IsLeftAlone (old new : Moment) : Type 0 where
-  pub crash : (c : Image) → new.may_leave c → old.may_leave c
-  pub adds : Adds old new old.may_leave
-
--- the same, and since both syncs with which it opened it leaves what was read; unless a device call failed the disk reads as before
+-- nothing was written to a disk, and since both syncs with which it opened a crash leaves what was read; unless a device call failed
+-- the disk reads as before
 pub record IsUntouched (old new : Moment) (fault : OpenFault) : Type 0 where
   pub alone : IsLeftAlone old new
   pub since : LeavesRead old new

@@ -5,31 +5,30 @@ ghost use Rattle.pass_book.specs.Openings.{new_desk, registry_desk};
 ghost use Rattle.pass_plain.specs.Processes.{new_process};
 ghost use Rattle.pass_plain.specs.Sound.{IsSound};
 ghost use Rattle.pass_registry.specs.States.{opened};
-ghost use Rattle.pass_report.specs.Reports.{SameButBytes};
+ghost use Rattle.pass_plain.specs.Outlines.{SameButBytes};
 ghost use Rattle.pass_session.specs.Layouts.{first_process, first_entries, file_views, app_view};
 ghost use Rattle.pass_session.specs.Openings.{IsBare};
 ghost use Rattle.pass_session.specs.Sessions.{IsGround};
 
-use crate::blank::Blank;
 use crate::ground::{Desks, Ground};
 use crate::objects::{Laid, lay};
 use pass_book::{Book, Desk};
 use pass_entry::Record;
 use pass_file::FileDesk;
 use pass_flow::AppDesk;
-use pass_hold::{Shelf, Whose};
+use pass_hold::{Blank, Shelf, Whose};
 use pass_outside::Disk;
 use pass_plain::Start;
 use pass_proc::{Living, Proc};
 use pass_registry::{Registry, RegistryDesk};
-use pass_safe::Safe;
+use pass_vault::Vault;
 use std::alloc::{AllocError, Global};
 
 /// A session that has begun: what is to lie under the locks of its store, its first process, and what its opening read.
 #[derive(Drop)]
 pub struct Held<J: Whose, D: Disk> {
     pub shelf: Shelf<J>,
-    pub safe: Safe<J, D>,
+    pub vault: Vault<D>,
     pub registry: RegistryDesk<J>,
     /// The files of the opening, in the order of their numbers.
     pub files: Vec<FileDesk<J>>,

@@ -3,16 +3,15 @@ ghost use Rattle.std.specs.Prelude.{◌≡◌, ◌+◌, ◌-◌, [], map, length
 ghost use Rattle.std.specs.List.{range_with_len};
 ghost use Rattle.pass_book.specs.Openings.{known_desk, new_desk};
 ghost use Rattle.pass_plain.specs.Sound.{IsSound};
-ghost use Rattle.pass_report.specs.Reports.{SameButBytes, outline};
+ghost use Rattle.pass_plain.specs.Outlines.{SameButBytes, outline};
 ghost use Rattle.pass_session.specs.Layouts.{first_process, file_view, file_views, app_view};
 ghost use Rattle.pass_session.specs.Openings.{IsBare};
 
-use crate::blank::Blank;
 use pass_book::Desk;
 use pass_entry::{Node, Pnode};
 use pass_file::FileDesk;
 use pass_flow::AppDesk;
-use pass_hold::Whose;
+use pass_hold::{Blank, Whose};
 use pass_plain::{Start, StartFile};
 use std::alloc::{AllocError, Global};
 

@@ -10,7 +10,6 @@ use pass_hold::Whose;
 use pass_log::LogImage;
 use pass_outside::Disk;
 use pass_plain::Start;
-use pass_safe::Safe;
 use pass_vault::Vault;
 use std::alloc::Global;
 use std::marker::Model;
@@ -45,10 +44,11 @@ impl<D: Disk> Model for Opened<D> {
 }
 
 impl<D: Disk> Opened<D> {
-    ghost use Rattle.std.specs.Prelude.{◌≡◌, ◌+◌, ◌-◌, [], ◌∷◌, map, None, IfOk, IfErr};
+    ghost use Rattle.std.specs.Prelude.{◌≡◌, ℕ, ◌+◌, ◌-◌, ◌≤◌, ◌^◌, [], map, None, IfOk, IfErr, OnOk};
     ghost use Rattle.std.specs.List.{range_with_len};
     ghost use Rattle.pass_plain.specs.Processes.{new_process};
-    ghost use Rattle.pass_report.specs.Reports.{SameButBytes};
+    ghost use Rattle.pass_plain.specs.Outlines.{SameButBytes};
+    ghost use Rattle.pass_plain.specs.Sessions.{opening_version};
     ghost use Rattle.pass_session.specs.Layouts.{first_process, first_entries, file_views, app_view};
     ghost use Rattle.pass_session.specs.Openings.{IsBare};
 
@@ -88,7 +88,11 @@ impl<D: Disk> Opened<D> {
         requires book { self.vault.book ≡ J.book }
         requires places { self.places ≡ J.places }
         ensures shelf { IfOk result (λ h. h.shelf ≡ record { book = J.book; history = first_entries J.book.session.start; syncs = h.shelf.syncs; places = J.places; claimed = 65; kept = 0 }) }
-        ensures safe { IfOk result (λ h. h.safe ≡ record { vault = self.vault; lost = None }) }
+        ensures vault { IfOk result (λ h. h.vault ≡ self.vault) }
+        // The vault has seen nothing yet, and no device call has failed since it was opened.
+        ensures fresh { IfOk result (λ h. (h.vault.seen ≡ []) × (h.vault.syncs ≡ [])) }
+        ensures healthy { IfOk result (λ h. (D.view h.vault.disk).faults ≡ h.vault.opened) }
+        ensures low { OnOk result ((object : ℕ) → opening_version J.book.session.start object ≤ 2 ^ 35) }
         ensures registry { IfOk result (λ h. h.registry ≡ record { seen = first_entries J.book.session.start; room = 0 }) }
         ensures files { IfOk result (λ h. h.files.items ≡ file_views 0 J.book.session.start.files.items) }
         ensures apps { IfOk result (λ h. h.apps.items ≡ map app_view J.book.session.start.apps.items) }
@@ -128,7 +132,7 @@ impl<D: Disk> Opened<D> {
         } = begun;
         Ok(Held {
             shelf,
-            safe: Safe::opened(vault),
+            vault,
             registry,
             files,
             apps,

@@ -53,7 +53,7 @@ fewer_at s m d [] i x all at = absurd (cc)
 fewer_at s m d (y ∷ ss) zero x all at = let same = ap (λ (z : VaultSync). z.entries) (some_is y x at) in omega (arith, same, all.0.fewer)
 fewer_at s m d (y ∷ ss) (suc i) x all at = fewer_at s m d ss i x all.1 at
 
-late_at : (ready : ℕ) (ss : List VaultSync) (i : ℕ) (x : VaultSync) → All (λ s. ready ≤ s.calls) ss → slice_get ss i ≡ Some x → ready ≤ x.calls
+pub late_at : (ready : ℕ) (ss : List VaultSync) (i : ℕ) (x : VaultSync) → All (λ s. ready ≤ s.calls) ss → slice_get ss i ≡ Some x → ready ≤ x.calls
 late_at ready ss i x all at =
     let same = ap (λ (z : VaultSync). z.calls) (get_or_from_slice_get ss i x x at) in let low = all i x (within_list ss i x at) in omega (arith, same, low)
   where

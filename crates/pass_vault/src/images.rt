@@ -24,6 +24,9 @@ impl<D: Disk> Vault<D> {
         ensures begun { IsBegun (story_of self.now) (D.view self.now.disk) }
         // Since the vault was opened it leaves the ceiling, and the records of some entries.
         ensures opened { IsTrue (D.view self.now.disk).tells → (c : Image) → (D.view self.now.disk).left_since self.now.ready c → IsLeft (story_of self.now) 0 (λ _. 0) c }
+        // That count has been reached, and no sync came before it.
+        ensures ready { self.now.ready ≤ (D.view self.now.disk).calls }
+        ensures late { (i : ℕ) (x : VaultSync) → slice_get (real_syncs self.now.syncs) i ≡ Some x → self.now.ready ≤ x.calls }
         // Since each sync it leaves at least the entries that were durable then.
         ensures since { IsTrue (D.view self.now.disk).tells → (i : ℕ) (x : VaultSync) → slice_get (real_syncs self.now.syncs) i ≡ Some x
             → (c : Image) → (D.view self.now.disk).left_since x.calls c → IsLeft (story_of self.now) x.entries (bound_of (noted_of x)) c }

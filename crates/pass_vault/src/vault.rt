@@ -17,7 +17,7 @@ use std::marker::Model;
 use std::snapshot::Snapshot;
 
 /// What a sync has come to: the disk's count of calls as it returned, and how many entries were durable.
-#[derive(Clone, Copy, Debug, PartialEq, Eq, Drop)]
+#[derive(Clone, Copy, PartialEq, Eq, Drop)]
 pub struct Receipt {
     pub calls: u64,
     pub entries: u64,
@@ -131,7 +131,8 @@ impl<D: Disk> Vault<D> {
             Err((fault, disk)) => return Err((log_fault(fault), disk)),
         };
         let Ok(pool) = room(alloc, &mut keeper) else {
-            let (disk, _syncs) = keeper.into_disk();
+            let (disk, syncs) = keeper.into_disk();
+            drop(syncs);
             return Err((LogFault::NoMemory, disk));
         };
         let mark = keeper.clean();

@@ -3,10 +3,10 @@ use Rattle.pass_plain.specs.declared.request.Request.TheVariants as requests
 use Rattle.pass_book.specs.Syncs.{Backs}
 use Rattle.pass_book.proofs.Prefixes.{prefix_trans}
 use Rattle.pass_proc.specs.Procs.{proc_with}
-use Rattle.pass_calls.specs.Answers.{HasMoved}
-use Rattle.pass_calls.specs.declared.answer.Moved.TheVariants as moved
+use Rattle.pass_answer.specs.Answers.{HasMoved}
+use Rattle.pass_answer.specs.declared.answer.Moved.TheVariants as moved
 use Rattle.pass_safe.specs.Syncings.{IsKeeping, KeepingView, kept_entry}
-use Rattle.pass_safe.proofs.Ends.{by_parts, keeping_met, met_backs, ended_ok, synced_on, no_way}
+use Rattle.pass_safe.proofs.Ends.{backs_on, by_parts, ended_ok, file_backed, keeping_met, met_backs, no_way, synced_on}
 use Rattle.pass_safe.proofs.ending.end_sync.Goals as goal
 
 pub meet_told-requires-clause-book : goal.meet_told-requires-clause-book
@@ -64,6 +64,8 @@ returns g c =
     (e.call k.before.seen q.0 k.place s.receipt.calls s.receipt.entries here c.requires.above) in
     ended_ok S g.J.Whose.places k (proc_with i.process i.number i.caller i.way) q.0 there (proc_with c.kept_step.new.process i.number c.kept_step.new.caller i.way) e.who.0 refl s.receipt.calls s.receipt.entries made
     (synced_on s.receipt.calls s.receipt.entries s.told.syncs c.kept_step.new.caller.syncs c.requires.saved.1.synced (prefix_trans s.told.syncs met.syncs c.kept_step.new.caller.syncs c.meet_told.ensures.told.1 e.grows))
+    (backs_on S k.before.seen q.0 s.receipt.entries met.syncs c.kept_step.new.caller.syncs
+    (file_backed S k i.process i.number i.caller met i.way c.args.proc.now c.proc.view_is q.0 q.1 c.meet_told.ensures.looked c.proc.invariant.0.of_who s q.2 c.meet_told.ensures.told.0 c.meet_told.ensures.told.1) e.grows)
 
 pub invariant_of-proc : goal.invariant_of-proc
 invariant_of-proc g c =

@@ -2,9 +2,9 @@ use Rattle.std.proofs.Common.{ap, sym, subst, arith}
 use Rattle.pass_hold.specs.Callings.{IsIdle}
 use Rattle.pass_plain.specs.Places.{call_places}
 use Rattle.pass_proc.specs.Views.{ProcessView}
-use Rattle.pass_calls.specs.Answers.{HasMoved}
+use Rattle.pass_answer.specs.Answers.{HasMoved}
 use Rattle.pass_plain.specs.declared.request.Request.TheVariants as requests
-use Rattle.pass_calls.specs.declared.answer.Moved.TheVariants as moved
+use Rattle.pass_answer.specs.declared.answer.Moved.TheVariants as moved
 use Rattle.pass_safe.proofs.Committing.{kept_allows, kept_keeps, keeping_holds, synced_moved, synced_idle}
 use Rattle.pass_safe.proofs.ending.kept_step.Goals as goal
 

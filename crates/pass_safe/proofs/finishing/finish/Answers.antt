@@ -9,6 +9,9 @@ use Rattle.pass_book.specs.Tokens.{BookState, NoteState}
 use Rattle.pass_book.specs.declared.view.VaultSync.{VaultSync}
 use Rattle.pass_clean.specs.Cleaned.{is_dirty}
 use Rattle.pass_vault.specs.Vaulted.{Vaulted}
+use Rattle.pass_safe.specs.Grounds.{Ground}
+use Rattle.pass_safe.specs.Safes.{IsLost}
+use Rattle.pass_safe.specs.declared.fault.Lost.{Lost}
 use Rattle.pass_safe.proofs.Leaving.{healthy_after}
 use Rattle.pass_safe.proofs.Settles.{settled_all}
 use Rattle.pass_safe.proofs.finishing.finish.Goals as goal
@@ -45,6 +48,15 @@ pub returns-clause-healthy : goal.returns-clause-healthy
 returns-clause-healthy g c =
     let view = g.D.Disk.view in
     let s = c.settle_all-settled in
-    on_each_ok s.result ((view c.into_vault.result.disk).faults ≡ c.args.safe.vault.opened)
-    (λ r is. c.into_vault.ensures.healthy (healthy_after view c.args.safe s.new.safe s.result s.ensures.safe r is)
-    ∙ ap (λ (v : Vaulted _). v.opened) c.into_vault.ensures.vault ∙ ap (λ (v : Vaulted _). v.opened) s.ensures.vault)
+    on_each_ok s.result ((view c.into_vault.result.disk).faults ≡ g.J.Opening.ground.opened)
+    (λ r is. c.into_vault.ensures.healthy (healthy_after view c.args.safe s.new.safe s.result s.ensures.safe r is) ∙ ap (λ (l : Ground). l.opened) c.into_vault.ensures.ground)
+
+pub returns-clause-failed : goal.returns-clause-failed
+returns-clause-failed g c = λ opened found is.
+    let view = g.D.Disk.view in
+    let s = c.settle_all-settled in
+    let lost : Lost = record { opened = opened; found = found } in
+    let vault = c.into_vault.ensures.vault in
+    let first : c.args.safe.vault.opened ≡ g.J.Opening.ground.opened = sym (ap (λ (v : Vaulted _). v.opened) vault ∙ ap (λ (v : Vaulted _). v.opened) s.ensures.vault) ∙ ap (λ (l : Ground). l.opened) c.into_vault.ensures.ground in
+    subst (λ (v : Vaulted _). IsLost (view v.disk) g.J.Opening.ground.opened lost) (sym vault)
+    (subst (λ (n : ℕ). IsLost (view s.new.safe.vault.disk) n lost) first (s.ensures.safe.failed opened found is))

@@ -61,15 +61,15 @@ returns-in-Ok-clause-safe g c =
     let left : Leaves g.D.Disk.view c.join-file.new.self new c.settle-file.result.1 = record { fault = e.fault; lost = λ l has. ((e.lost l has).0, (e.lost l has).1); failed = e.failed; goes_on = e.goes_on } in
     leaves_ok g.D.Disk.view c.args.safe.now new c.settle-file.result.1 (subst (λ (s : SafeView _). Leaves g.D.Disk.view s new c.settle-file.result.1) c.join-file.ensures.safe left) c.in-Ok._receipt c.in-Ok.is tt
 
-pub returns-clause-grows : goal.returns-clause-grows
-returns-clause-grows g c =
+pub returns-in-Err-clause-grows : goal.returns-in-Err-clause-grows
+returns-in-Err-clause-grows g c =
     let v = c.join-file.new.self.vault in
     let w = c.settle-file.new.self.vault in
     let undone = err_on c.settle-file.result.1 c.in-Err.fault c.in-Err.is c.settle-file.ensures.undone in
     subst (λ (s : SafeView _). IsPrefix s.vault.syncs w.syncs) c.join-file.ensures.safe (subst (λ (ss : List VaultSync). IsPrefix v.syncs ss) (sym (ap (λ (v : Vaulted _). v.syncs) undone)) (prefix_self v.syncs))
 
-pub returns-clause-safe : goal.returns-clause-safe
-returns-clause-safe g c =
+pub returns-in-Err-clause-safe : goal.returns-in-Err-clause-safe
+returns-in-Err-clause-safe g c =
     let new = c.settle-file.new.self in
     let e = c.settle-file.ensures in
     let left : Leaves g.D.Disk.view c.join-file.new.self new c.settle-file.result.1 = record { fault = e.fault; lost = λ l has. ((e.lost l has).0, (e.lost l has).1); failed = e.failed; goes_on = e.goes_on } in
@@ -84,8 +84,8 @@ returns-in-Ok-clause-vault g c =
     let done = IfOk-at_ok (λ (o : Option Receipt). w ≡ settled_to v w f.what f.number o) c.in-Ok.is c.settle-file.ensures.done in
     subst (λ (s : SafeView _). w ≡ record s.vault { disk = w.disk; pool = w.pool; unsynced = w.unsynced; syncs = w.syncs }) c.join-file.ensures.safe (settled_same v w f o done)
 
-pub returns-clause-vault : goal.returns-clause-vault
-returns-clause-vault g c =
+pub returns-in-Err-clause-vault : goal.returns-in-Err-clause-vault
+returns-in-Err-clause-vault g c =
     let v = c.join-file.new.self.vault in
     let w = c.settle-file.new.self.vault in
     let undone = err_on c.settle-file.result.1 c.in-Err.fault c.in-Err.is c.settle-file.ensures.undone in

@@ -8,6 +8,7 @@ use Rattle.pass_book.proofs.Backed.{durable_last}
 use Rattle.pass_book.proofs.Prefixes.{prefix_length}
 use Rattle.pass_vault.specs.Vaulted.{Vaulted, story_with, flushed}
 use Rattle.pass_vault.proofs.Parted.{parts_law}
+use Rattle.pass_safe.specs.Grounds.{ground_of}
 use Rattle.pass_safe.proofs.Fitting.{met_shorter, safe_still}
 use Rattle.pass_safe.proofs.Logged.{parts_in_range, parts_sized, parts_some}
 use Rattle.pass_safe.proofs.working.flush_vault.Goals as goal
@@ -56,5 +57,5 @@ returns-in-Ok-clause-safe g c =
     let same = ap length (met_shorter v.seen h w.seen (prefix_length v.seen h c.requires.begins) e.met.told e.met.history) in
     let few = c.requires.few in
     let last = ap (λ (v : Vaulted _). durable v.syncs) e.done ∙ durable_last v.syncs (flushed (g.D.Disk.view w.disk).calls (length h)) in
-    safe_still g.J.Whose.book g.D.Disk.view v w c.requires.safe (ap (λ (v : Vaulted _). v.book) e.done) (ap (λ (v : Vaulted _). v.opened) e.done) (omega (arith, few, same))
+    safe_still g.J.Whose.book g.J.Opening.ground g.J.Opening.tells g.D.Disk.view v w c.requires.safe (ap (λ (v : Vaulted _). v.book) e.done) (ap ground_of e.done) c.flush_parts.ensures.goes_on (omega (arith, few, same))
     e.made.1 (omega (arith, last, same))

@@ -7,7 +7,7 @@ use Rattle.std.proofs.lemmas.Option.{slice_get_within}
 use Rattle.pass_book.specs.Openings.{known_desk}
 use Rattle.pass_plain.specs.declared.start.Start.{Start}
 use Rattle.pass_plain.specs.declared.start.StartFile.{StartFile}
-use Rattle.pass_report.specs.Reports.{outline}
+use Rattle.pass_plain.specs.Outlines.{outline}
 use Rattle.pass_session.specs.Layouts.{file_view}
 use Rattle.pass_session.proofs.Bared.{outlines-set, cleared-set, behind-set, written_over, same_length}
 use Rattle.pass_session.proofs.Laying.{head, head_place, head_desk, head_file, files_end}

@@ -3,7 +3,7 @@ use Rattle.std.specs.Prelude.{Some, slice_get}
 use Rattle.std.specs.Vec.Iter.{into_iter_items, into_iter_len}
 use Rattle.pass_book.specs.Openings.{known_desk}
 use Rattle.pass_plain.specs.declared.start.StartFile.{StartFile}
-use Rattle.pass_report.specs.Reports.{outline}
+use Rattle.pass_plain.specs.Outlines.{outline}
 use Rattle.pass_session.specs.Layouts.{file_views}
 use Rattle.pass_session.proofs.objects.file_desks.Given as goal
 

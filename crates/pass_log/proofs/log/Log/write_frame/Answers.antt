@@ -1,8 +1,7 @@
 use Rattle.std.proofs.Common.{◌≡◌, ◌≤◌, IsTrue, IsOk, IsErr, inl, refl, sym, ◌∙◌, ap, subst, arith}
 use Rattle.pass_outside.specs.Runs.{adds_weaker}
-use Rattle.pass_log.specs.Frames.{frames_of}
-use Rattle.pass_log.specs.Log.{batch_of, IsBeforeOrAfter}
-use Rattle.pass_log.proofs.Append.{staged_moments, both_moments, settled_failed, stands_again, new_image, new_reads, store_one, store_both}
+use Rattle.pass_log.specs.Log.{IsBeforeOrAfter}
+use Rattle.pass_log.proofs.Append.{staged_moments, both_moments, settled_failed, stands_again, new_image, new_bytes, new_reads, store_one, store_both}
 use Rattle.pass_log.proofs.log.Log.write_frame.Goals as goal
 
 pub returns-in_err-write_synced-clause-any_moment : goal.returns-in_err-write_synced-clause-any_moment
@@ -10,7 +9,7 @@ returns-in_err-write_synced-clause-any_moment g c = λ tells.
     let old = g.D.Disk.view c.args.disk.now in
     let mid = g.D.Disk.view c.write_synced.new.disk in
     let healthy : old.faults ≤ c.args.self.now.opened = omega (arith, c.requires.healthy) in
-    adds_weaker (λ i. IsBeforeOrAfter (batch_of c.args.frame.now) (frames_of old.seen.log) (frames_of i.log)) old mid
+    adds_weaker (λ i. IsBeforeOrAfter c.args.frame.now c.args.self.now.end old.seen.log i.log) old mid
     (staged_moments c.args.self.now old mid c.args.frame.now c.requires.settled healthy c.requires.room tells (λ h. ap g.D.Disk.view (c.write_synced.ensures.stands h)) c.write_synced.ensures.run.adds)
     (λ i x. inl x)
 
@@ -90,6 +89,21 @@ returns-clause-reads g c = λ tells.
     let mid_tells : IsTrue mid.tells = subst IsTrue (sym c.write_synced.ensures.run.tells) tells in
     new_reads c.args.self.now old s c.args.frame.now c.requires.room mid c.requires.staged (c.in_ok-write_synced.ensures.written tells) c.in_ok-write_synced.ensures.durable
     new (c.in_ok-write_synced-2.ensures.written mid_tells) c.in_ok-write_synced-2.ensures.durable
+
+pub returns-clause-bytes : goal.returns-clause-bytes
+returns-clause-bytes g c = λ tells.
+    let old = g.D.Disk.view c.args.disk.now in
+    let mid = g.D.Disk.view c.write_synced.new.disk in
+    let new = g.D.Disk.view c.write_synced-2.new.disk in
+    let healthy : old.faults ≡ c.args.self.now.opened = omega (arith, c.requires.healthy, c.requires.settled.opened) in
+    let went : IsOk c.write_synced.result = subst IsOk (sym c.in_ok-write_synced.was) refl in
+    let s = c.requires.settled.stands tells healthy (c.write_synced.ensures.run.ok went).1 in
+    let mid_tells : IsTrue mid.tells = subst IsTrue (sym c.write_synced.ensures.run.tells) tells in
+    new_bytes c.args.self.now old s c.args.frame.now c.requires.room mid c.requires.staged (c.in_ok-write_synced.ensures.written tells) c.in_ok-write_synced.ensures.durable
+    new (c.in_ok-write_synced-2.ensures.written mid_tells)
+
+pub returns-clause-durable : goal.returns-clause-durable
+returns-clause-durable g c = λ tells i may. c.in_ok-write_synced-2.ensures.durable i may
 
 pub returns-in_err-write_synced-clause-store : goal.returns-in_err-write_synced-clause-store
 returns-in_err-write_synced-clause-store g c =

@@ -1,9 +1,3 @@
 pub mod Causes
 pub mod Closing
 pub mod Filing
-pub mod Grounding
-pub mod Receipts
-pub mod Refusals
-pub mod Savings
-pub mod Standing
-pub mod Ways

@@ -1,6 +1,1 @@
-pub mod Children
 pub mod Closings
-pub mod Grounds
-pub mod Meetings
-pub mod Settlings
-pub mod Slots

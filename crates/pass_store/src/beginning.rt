@@ -1,24 +1,22 @@
 //! A store begins, over what a session lays out.
 ghost use Rattle.std.specs.Prelude.{◌≡◌, IfOk, IfErr, None};
 ghost use Rattle.pass_plain.specs.Processes.{new_process};
-ghost use Rattle.pass_report.specs.Reports.{SameButBytes};
+ghost use Rattle.pass_plain.specs.Outlines.{SameButBytes};
 ghost use Rattle.pass_session.specs.Layouts.{first_process, first_entries};
 ghost use Rattle.pass_session.specs.Openings.{IsBare};
-ghost use Rattle.pass_store.specs.Grounds.{HasGoneOn, ground_of};
+ghost use Rattle.pass_safe.specs.Grounds.{HasGoneOn, ground_of};
 
-use crate::cellar::Cellar;
-use crate::ground::Opening;
-use crate::locks::Locks;
-use crate::slot::Slot;
 use crate::store::Store;
 use pass_entry::Pnode;
 use pass_file::FileDesk;
 use pass_flow::{AppDesk, Versioned};
-use pass_hold::Whose;
+use pass_hold::{Blank, Whose};
 use pass_outside::{Disk, Gate};
 use pass_proc::{Living, Proc};
-use pass_safe::Safe;
-use pass_session::{Blank, Held, Opened};
+use pass_safe::{Opening, Safe};
+use pass_session::{Held, Opened};
+use pass_slots::{Locks, Slot};
+use pass_vault::Vault;
 use std::alloc::{AllocError, Global};
 use std::collections::{BTreeSet, HashMap};
 use std::sync::Mutex;
@@ -86,10 +84,10 @@ fn laid<J: Whose>(
 }
 
 /// The disk of a vault that is used no more.
-fn given_back<J: Whose, D: Disk>(safe: Safe<J, D>) -> D
-    ensures { result ≡ safe.vault.disk }
+fn given_back<D: Disk>(vault: Vault<D>) -> D
+    ensures { result ≡ vault.disk }
 {
-    let (disk, syncs) = safe.into_vault().into_disk();
+    let (disk, syncs) = vault.into_disk();
     drop(syncs);
     disk
 }
@@ -116,7 +114,7 @@ impl<'g, J: Opening, D: Disk, G: Gate> Store<'g, J, D, G> {
     {
         let Held {
             shelf,
-            safe,
+            vault,
             registry,
             files,
             apps,
@@ -136,7 +134,7 @@ impl<'g, J: Opening, D: Disk, G: Gate> Store<'g, J, D, G> {
             drop(first);
             drop(list);
             drop(start);
-            return Err(given_back(safe));
+            return Err(given_back(vault));
         };
         let Layout {
             slots,
@@ -149,15 +147,15 @@ impl<'g, J: Opening, D: Disk, G: Gate> Store<'g, J, D, G> {
             ceiling,
             registry: Mutex::new(registry),
             book: Mutex::new(shelf),
+            changed: Mutex::new(BTreeSet::new(alloc)),
+            gate,
         };
         let store = Store {
             start,
             list,
             opened,
             locks,
-            vault: Mutex::new(Cellar::new(safe)),
-            changed: Mutex::new(BTreeSet::new(alloc)),
-            gate,
+            vault: Mutex::new(Safe::opened(vault)),
         };
         Ok((store, first))
     }

@@ -9,21 +9,20 @@ ghost use Rattle.pass_clean.specs.Cleaned.{is_dirty};
 ghost use Rattle.pass_vault.specs.Vaulted.{real_syncs};
 ghost use Rattle.pass_vault.specs.declared.vault.Receipt.{Receipt as AnyReceipt};
 ghost use Rattle.pass_safe.specs.Settled.{EndsWith};
-ghost use Rattle.pass_safe.specs.Syncings.{end_of};
-ghost use Rattle.pass_store.specs.Closings.{IsClosed, IsSettled, IsTold, IsUnsettled, answer_of, story_at};
-ghost use Rattle.pass_store.specs.Grounds.{HasGoneOn, ground_of};
+ghost use Rattle.pass_store.specs.Closings.{IsClosed, IsSettled, IsTold, IsUnsettled, story_at};
+ghost use Rattle.pass_safe.specs.Grounds.{HasGoneOn, ground_of};
 
-use crate::ground::Opening;
-use crate::locks::Locks;
 use crate::settling::{Rest, settle_all, unsettled};
 use crate::store::Store;
-use pass_calls::CallEnd;
+use pass_answer::CallEnd;
 use pass_entry::{Entry, Record, Synced};
 use pass_hold::{Shelf, Whose};
+use pass_kept::answered;
 use pass_outside::{Disk, Gate};
 use pass_plain::Start;
 use pass_proc::Trail;
-use pass_safe::SafeFault;
+use pass_safe::Opening;
+use pass_slots::Locks;
 use pass_vault::{Receipt, Vault};
 use std::alloc::Global;
 
@@ -70,6 +69,7 @@ fn close<J: Opening, D: Disk>(
         → IsSettled (story_at J.book J.ground result.history.items) (D.view result.disk) result.syncs.items r }
 {
     vault.images();
+    vault.durable();
     let (disk, syncs) = vault.into_disk();
     Closed {
         history,
@@ -100,28 +100,9 @@ fn tell_all<J: Whose>(shelf: &mut Shelf<J>, trails: Vec<Trail<J>>)
     }
 }
 
-/// A fault of the vault, as a call answers it.
-pub(crate) fn ended_by(fault: SafeFault) -> CallEnd
-    ensures { result ≡ end_of fault }
-{
-    match fault {
-        SafeFault::DiskFault { opened, now } => CallEnd::DiskFault { opened, now },
-        SafeFault::NoMemory => CallEnd::NoMemory,
-    }
-}
-
-/// How settling went, as a call answers it.
-pub(crate) fn answered(settled: Result<Receipt, SafeFault>) -> Result<Receipt, CallEnd>
-    ensures { result ≡ answer_of settled }
-{
-    match settled {
-        Ok(receipt) => Ok(receipt),
-        Err(fault) => Err(ended_by(fault)),
-    }
-}
-
 impl<'g, J: Opening, D: Disk, G: Gate> Store<'g, J, D, G> {
-    /// Closes the store. It makes no device call and takes no memory.
+    /// Closes the store. It makes no device call and takes no memory. No program here makes this call: a run ends by `finish`, which settles
+    /// first.
     pub fn end(self) -> Closed<D>
         ensures sound { IsSound J.book.session }
         ensures legal { IsLegal J.book.session result.history.items }
@@ -135,22 +116,22 @@ impl<'g, J: Opening, D: Disk, G: Gate> Store<'g, J, D, G> {
             list,
             locks,
             vault,
-            changed,
             ..
         } = self;
-        drop(changed);
         let Locks {
             slots,
             opened: places,
             registry,
             book,
+            changed,
             ..
         } = locks;
         drop(slots);
         drop(places);
+        drop(changed);
         let registry = registry.into_inner();
         let shelf = book.into_inner();
-        let safe = vault.into_inner().into_safe();
+        let safe = vault.into_inner();
         let (history, vault) = unsettled(registry, shelf, safe);
         close::<J, D>(history, vault, list, start)
     }
@@ -176,22 +157,22 @@ impl<'g, J: Opening, D: Disk, G: Gate> Store<'g, J, D, G> {
             list,
             locks,
             vault,
-            changed,
             ..
         } = self;
-        drop(changed);
         let Locks {
             slots,
             opened: places,
             registry,
             book,
+            changed,
             ..
         } = locks;
         drop(places);
+        drop(changed);
         let mut shelf = book.into_inner();
         tell_all(&mut shelf, trails);
         let registry = registry.into_inner();
-        let safe = vault.into_inner().into_safe();
+        let safe = vault.into_inner();
         let Rest {
             settled,
             history,

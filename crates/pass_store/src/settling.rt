@@ -10,18 +10,16 @@ ghost use Rattle.pass_safe.specs.Safes.{IsLost};
 ghost use Rattle.pass_safe.specs.Settled.{AreAll, EndsWith};
 ghost use Rattle.pass_safe.specs.declared.fault.SafeFault.TheVariants.{DiskFault};
 ghost use Rattle.pass_store.specs.Closings.{AreByNumber};
-ghost use Rattle.pass_keep.specs.Keepers.{GoesOn};
-ghost use Rattle.pass_store.specs.Grounds.{ground_of};
+ghost use Rattle.pass_safe.specs.Grounds.{HasGoneOn, ground_of};
 
-use crate::locks::made_file;
-use crate::slot::Slot;
 use pass_entry::Entry;
 use pass_file::FileDesk;
 use pass_flow::Versioned;
 use pass_hold::{Shelf, Whose};
 use pass_outside::Disk;
 use pass_registry::RegistryDesk;
-use pass_safe::{Finished, Safe, SafeFault, finish};
+use pass_safe::{Finished, Opening, Safe, SafeFault, finish};
+use pass_slots::{Slot, made_file};
 use pass_vault::{Receipt, Vault};
 use std::alloc::{AllocError, Global};
 use std::sync::Mutex;
@@ -111,7 +109,7 @@ fn all_files<J: Whose>(
 }
 
 /// The history of a session, and its vault, which sees the whole of it. It makes no device call and takes no memory.
-pub(crate) fn unsettled<J: Whose, D: Disk>(
+pub(crate) fn unsettled<J: Opening, D: Disk>(
     registry: RegistryDesk<J>,
     shelf: Shelf<J>,
     safe: Safe<J, D>,
@@ -122,8 +120,8 @@ pub(crate) fn unsettled<J: Whose, D: Disk>(
     ensures whole { result.1.seen ≡ result.0.items }
     ensures book { result.1.book ≡ J.book }
     ensures backed { IsBacked J.book.session result.0.items result.1.syncs }
-    ensures ground { ground_of result.1 ≡ ground_of safe.vault }
-    ensures disk { result.1.disk ≡ safe.vault.disk }
+    ensures ground { ground_of result.1 ≡ J.ground }
+    ensures gone_on { HasGoneOn J.tells J.ground.opened (D.view result.1.disk) }
 {
     let mut registry = registry;
     let mut shelf = shelf;
@@ -139,7 +137,7 @@ pub(crate) fn unsettled<J: Whose, D: Disk>(
 }
 
 /// Makes every entry durable, and then writes the changed blocks of each of these files, and those that wait.
-fn settle_files<J: Whose, D: Disk>(
+fn settle_files<J: Opening, D: Disk>(
     alloc: Global,
     registry: RegistryDesk<J>,
     shelf: Shelf<J>,
@@ -153,13 +151,13 @@ fn settle_files<J: Whose, D: Disk>(
     ensures whole { result.vault.seen ≡ result.history.items }
     ensures book { result.vault.book ≡ J.book }
     ensures backed { IsBacked J.book.session result.history.items result.vault.syncs }
-    ensures ground { ground_of result.vault ≡ ground_of safe.vault }
-    ensures goes_on { GoesOn (D.view safe.vault.disk) (D.view result.vault.disk) }
+    ensures ground { ground_of result.vault ≡ J.ground }
+    ensures gone_on { HasGoneOn J.tells J.ground.opened (D.view result.vault.disk) }
     ensures done { IfOk result.settled (λ r. EndsWith r.calls r.entries (real_syncs result.vault.syncs) × (r.entries ≡ length result.history.items)) }
     ensures clean { OnOk result.settled ((file block : ℕ) → block < block_count → is_dirty J.book.session result.history.items result.vault.syncs file block ≡ false) }
     ensures written { OnOk result.settled ((result.vault.pool.entries ≡ []) × (result.vault.unsynced ≡ false)) }
-    ensures healthy { OnOk result.settled ((D.view result.vault.disk).faults ≡ safe.vault.opened) }
-    ensures failed { (opened found : ℕ) → result.settled ≡ Err (DiskFault opened found) → IsLost (D.view result.vault.disk) safe.vault.opened (record { opened = opened; found = found }) }
+    ensures healthy { OnOk result.settled ((D.view result.vault.disk).faults ≡ J.ground.opened) }
+    ensures failed { (opened found : ℕ) → result.settled ≡ Err (DiskFault opened found) → IsLost (D.view result.vault.disk) J.ground.opened (record { opened = opened; found = found }) }
 {
     let _durable = safe.durable();
     let Finished {
@@ -177,9 +175,8 @@ fn settle_files<J: Whose, D: Disk>(
     }
 }
 
-#[tactic(auto, using(crate::proofs::Grounding::stays_on))]
 /// Makes every entry of a session durable, and then writes the changed blocks of its files, which lie in these locks, and those that wait.
-pub(crate) fn settle_all<J: Whose, D: Disk>(
+pub(crate) fn settle_all<J: Opening, D: Disk>(
     alloc: Global,
     slots: Vec<Mutex<Slot<J>>>,
     registry: RegistryDesk<J>,
@@ -192,13 +189,13 @@ pub(crate) fn settle_all<J: Whose, D: Disk>(
     ensures whole { result.vault.seen ≡ result.history.items }
     ensures book { result.vault.book ≡ J.book }
     ensures backed { IsBacked J.book.session result.history.items result.vault.syncs }
-    ensures ground { ground_of result.vault ≡ ground_of safe.vault }
-    ensures goes_on { GoesOn (D.view safe.vault.disk) (D.view result.vault.disk) }
+    ensures ground { ground_of result.vault ≡ J.ground }
+    ensures gone_on { HasGoneOn J.tells J.ground.opened (D.view result.vault.disk) }
     ensures done { IfOk result.settled (λ r. EndsWith r.calls r.entries (real_syncs result.vault.syncs) × (r.entries ≡ length result.history.items)) }
     ensures clean { OnOk result.settled ((file block : ℕ) → block < block_count → is_dirty J.book.session result.history.items result.vault.syncs file block ≡ false) }
     ensures written { OnOk result.settled ((result.vault.pool.entries ≡ []) × (result.vault.unsynced ≡ false)) }
-    ensures healthy { OnOk result.settled ((D.view result.vault.disk).faults ≡ safe.vault.opened) }
-    ensures failed { (opened found : ℕ) → result.settled ≡ Err (DiskFault opened found) → IsLost (D.view result.vault.disk) safe.vault.opened (record { opened = opened; found = found }) }
+    ensures healthy { OnOk result.settled ((D.view result.vault.disk).faults ≡ J.ground.opened) }
+    ensures failed { (opened found : ℕ) → result.settled ≡ Err (DiskFault opened found) → IsLost (D.view result.vault.disk) J.ground.opened (record { opened = opened; found = found }) }
 {
     let mut registry = registry;
     let mut shelf = shelf;

@@ -8,6 +8,7 @@ use Rattle.pass_book.specs.Syncs.{IsBacked}
 use Rattle.pass_book.specs.Tokens.{BookState, NoteState}
 use Rattle.pass_book.specs.declared.view.VaultSync.{VaultSync}
 use Rattle.pass_vault.specs.Vaulted.{Vaulted}
+use Rattle.pass_safe.specs.Grounds.{HasGoneOn, ground_of}
 use Rattle.pass_safe.specs.Safes.{SafeView}
 use Rattle.pass_store.proofs.Closing.{meets_whole}
 use Rattle.pass_store.proofs.settling.unsettled.Goals as goal
@@ -35,3 +36,10 @@ returns-clause-backed g c =
     let same = ap (λ (n : NoteState). n.syncs) told.ensures.note ∙ sym (ap (λ (s : BookState). s.syncs) told.ensures.shelf) in
     let listed = subst (λ (ss : List VaultSync). IsPrefix ss syncs) same c.meet-2.ensures.met.told_listed in
     subst (λ (h : List Entry). IsBacked S h syncs) (sym c.into_history.ensures.entries) (still_backed S told.new.self.history told.new.self.syncs syncs listed c.into_history.ensures.backed)
+
+pub returns-clause-ground : goal.returns-clause-ground
+returns-clause-ground g c = ap ground_of c.meet-2.ensures.same ∙ c.into_vault-vault.ensures.ground
+
+pub returns-clause-gone_on : goal.returns-clause-gone_on
+returns-clause-gone_on g c =
+    subst (λ d. HasGoneOn g.J.Opening.tells g.J.Opening.ground.opened (g.D.Disk.view d)) (sym (ap (λ (v : Vaulted _). v.disk) c.meet-2.ensures.same)) c.into_vault-vault.ensures.gone_on

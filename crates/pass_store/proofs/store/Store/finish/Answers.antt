@@ -8,12 +8,10 @@ use Rattle.pass_book.specs.Tokens.{BookState}
 use Rattle.pass_clean.specs.Cleaned.{is_dirty}
 use Rattle.pass_vault.specs.Vaulted.{real_syncs}
 use Rattle.pass_vault.specs.declared.vault.Receipt.{Receipt}
-use Rattle.pass_safe.specs.Safes.{SafeView}
 use Rattle.pass_safe.specs.Settled.{EndsWith}
 use Rattle.pass_store.proofs.Causes.{healthy_as, settled_as, unsettled_as}
-use Rattle.pass_store.proofs.Grounding.{gone_on}
 use Rattle.pass_store.specs.Closings.{IsSettled, IsTold, IsUnsettled, story_at}
-use Rattle.pass_store.specs.Grounds.{Ground, HasGoneOn}
+use Rattle.pass_safe.specs.Grounds.{HasGoneOn}
 use Rattle.pass_store.proofs.store.Store.finish.Goals as goal
 
 pub returns-clause-legal : goal.returns-clause-legal
@@ -25,14 +23,7 @@ returns-clause-trails g c =
     (sym (c.close.ensures.history ∙ c.settle_all-settled.ensures.history ∙ ap (λ (s : BookState). s.history) c.tell_all.ensures.shelf)) c.tell_all.ensures.told
 
 pub returns-clause-gone_on : goal.returns-clause-gone_on
-returns-clause-gone_on g c =
-    let view = g.D.Disk.view in
-    let tells = g.J.Opening.tells in
-    let opened = g.J.Opening.ground.opened in
-    let safe = c.into_safe-safe in
-    let was = subst (λ (v : SafeView _). HasGoneOn tells opened (view v.vault.disk)) (sym safe.ensures.safe) safe.ensures.gone_on in
-    subst (λ d. HasGoneOn tells opened (view d)) (sym c.close.ensures.disk)
-    (gone_on tells opened (view safe.result.vault.disk) (view c.settle_all-settled.result.vault.disk) was c.settle_all-settled.ensures.goes_on)
+returns-clause-gone_on g c = subst (λ d. HasGoneOn g.J.Opening.tells g.J.Opening.ground.opened (g.D.Disk.view d)) (sym c.close.ensures.disk) c.settle_all-settled.ensures.gone_on
 
 pub returns-clause-settled : goal.returns-clause-settled
 returns-clause-settled g c =
@@ -53,16 +44,12 @@ pub returns-clause-healthy : goal.returns-clause-healthy
 returns-clause-healthy g c =
     let view = g.D.Disk.view in
     let rest = c.settle_all-settled in
-    let opened : c.into_safe-safe.result.vault.opened ≡ g.J.Opening.ground.opened = ap (λ (s : SafeView _). s.vault.opened) c.into_safe-safe.ensures.safe ∙ ap (λ (l : Ground). l.opened) c.into_safe-safe.ensures.ground in
     subst (λ d. OnOk c.answered.result ((view d).faults ≡ g.J.Opening.ground.opened)) (sym c.close.ensures.disk)
-    (subst (λ (n : ℕ). OnOk c.answered.result ((view rest.result.vault.disk).faults ≡ n)) opened
-    (healthy_as ((view rest.result.vault.disk).faults ≡ c.into_safe-safe.result.vault.opened) rest.result.settled c.answered.result c.answered.ensures rest.ensures.healthy))
+    (healthy_as ((view rest.result.vault.disk).faults ≡ g.J.Opening.ground.opened) rest.result.settled c.answered.result c.answered.ensures rest.ensures.healthy)
 
 pub returns-clause-refused : goal.returns-clause-refused
 returns-clause-refused g c =
     let view = g.D.Disk.view in
     let rest = c.settle_all-settled in
-    let opened : c.into_safe-safe.result.vault.opened ≡ g.J.Opening.ground.opened = ap (λ (s : SafeView _). s.vault.opened) c.into_safe-safe.ensures.safe ∙ ap (λ (l : Ground). l.opened) c.into_safe-safe.ensures.ground in
     subst (λ d. IfErr c.answered.result (IsUnsettled g.J.Opening.ground.opened (view d))) (sym c.close.ensures.disk)
-    (subst (λ (n : ℕ). IfErr c.answered.result (IsUnsettled n (view rest.result.vault.disk))) opened
-    (unsettled_as c.into_safe-safe.result.vault.opened (view rest.result.vault.disk) rest.result.settled c.answered.result c.answered.ensures rest.ensures.failed))
+    (unsettled_as g.J.Opening.ground.opened (view rest.result.vault.disk) rest.result.settled c.answered.result c.answered.ensures rest.ensures.failed)

@@ -1,0 +1,3 @@
+pub mod Causes
+pub mod Receipts
+pub mod Savings

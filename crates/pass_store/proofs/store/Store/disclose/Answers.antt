@@ -1,5 +1,0 @@
-use Rattle.pass_store.proofs.Refusals.{disclose_asks}
-use Rattle.pass_store.proofs.store.Store.disclose.Goals as goal
-
-pub refuse-requires-clause-some : goal.refuse-requires-clause-some
-refuse-requires-clause-some g c = disclose_asks c.args.fd c.args.source c.requires.fds

@@ -1,5 +1,0 @@
-use Rattle.pass_store.proofs.Refusals.{freeze_asks}
-use Rattle.pass_store.proofs.store.Store.pass_freeze.Goals as goal
-
-pub refuse-requires-clause-some : goal.refuse-requires-clause-some
-refuse-requires-clause-some g c = freeze_asks c.args.fd c.requires.fd

@@ -1,6 +1,0 @@
-use Rattle.std.proofs.Common.{◌≤◌}
-use Rattle.pass_store.specs.Settlings.{IsSavedIn}
-use Rattle.pass_store.proofs.store.Store.settle_files.Given as goal
-
-abbrev pub invariant-loop-lock : goal.invariant-loop-lock
-invariant-loop-lock g l = IsSavedIn g.J.Whose.book l.last × (l.fn.saved.receipt.entries ≤ l.last.receipt.entries)

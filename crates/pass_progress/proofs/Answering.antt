@@ -21,8 +21,8 @@ use Rattle.pass_hold.specs.Callings.{IsCallMade, IsInCall, HasLooked}
 use Rattle.pass_hold.proofs.Callings.{none_yet}
 use Rattle.pass_hold.proofs.Goings.{look_law as goes_looked, number_same, still_law, unanswered_law}
 use Rattle.pass_proc.specs.Procs.{ProcView, is_way}
-use Rattle.pass_calls.specs.Answers.{HasEnded, HasWaited, IsFull, Stays, begins_at, resumes}
-use Rattle.pass_calls.specs.declared.answer.CallEnd.TheVariants as ends
+use Rattle.pass_answer.specs.Answers.{HasEnded, HasWaited, IsFull, Stays, begins_at, resumes}
+use Rattle.pass_answer.specs.declared.answer.CallEnd.TheVariants as ends
 use Rattle.pass_progress.specs.Progress.{HasGoneOn, IsAtRest, IsBetween, IsDone, IsNotDone, IsNotReady, IsShortOfPlaces, MayGoOn, ProgressLaw}
 use Rattle.pass_progress.proofs.Rests.{IsBeginning, beginning, in_last, looked_law, looked_same}
 use Rattle.pass_progress.proofs.Positions.{next_of_over}

@@ -27,7 +27,7 @@ use Rattle.pass_hold.specs.Goings.{HasNotAnswered, IsStepAt}
 use Rattle.pass_hold.proofs.Callings.{no_zero}
 use Rattle.pass_proc.specs.CallEnds.{last_reply}
 use Rattle.pass_proc.specs.Procs.{ProcView}
-use Rattle.pass_calls.specs.declared.answer.CallEnd.TheVariants as ends
+use Rattle.pass_answer.specs.declared.answer.CallEnd.TheVariants as ends
 use Rattle.pass_progress.specs.Progress.{HasGoneOn, ChildlessLaw, NumberLaw}
 use Rattle.pass_progress.proofs.Answering.{progress_law}
 use Rattle.pass_progress.proofs.Positions.{calls_begin, next_of_over}

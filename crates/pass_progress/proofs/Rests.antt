@@ -24,9 +24,9 @@ use Rattle.pass_hold.proofs.Goings.{number_same, same_caller}
 use Rattle.pass_proc.specs.Procs.{ProcView, is_way}
 use Rattle.pass_proc.specs.UnderWay.{IsUnderWay, IsWay, show_entry}
 use Rattle.pass_proc.specs.declared.way.Way.{Way}
-use Rattle.pass_calls.specs.Answers.{begins_at, resumes}
-use Rattle.pass_calls.proofs.Waiting.{goes_on_at, way_bytes, way_fd}
-use Rattle.pass_calls.proofs.Wrapping.{begins_now}
+use Rattle.pass_answer.specs.Answers.{begins_at, resumes}
+use Rattle.pass_answer.proofs.Waiting.{goes_on_at, way_bytes, way_fd}
+use Rattle.pass_answer.proofs.Wrapping.{begins_now}
 use Rattle.pass_progress.specs.Progress.{IsBetween, IsAtRest, MayGoOn, UnderWayLaw, LastReadLaw, LookedLaw, NewbornLaw}
 use Rattle.pass_progress.proofs.Positions.{next_of_last}
 

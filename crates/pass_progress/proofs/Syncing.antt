@@ -22,8 +22,8 @@ use Rattle.pass_plain.proofs.Calling.{of_call}
 use Rattle.pass_plain.proofs.Lists.{some_is}
 use Rattle.pass_hold.specs.Callings.{entries_in, made_by}
 use Rattle.pass_proc.specs.Procs.{ProcView}
-use Rattle.pass_calls.specs.declared.answer.CallEnd.TheVariants as ends
-use Rattle.pass_safe.specs.Syncings.{HasLeft}
+use Rattle.pass_answer.specs.declared.answer.CallEnd.TheVariants as ends
+use Rattle.pass_answer.specs.Syncs.{HasLeft}
 use Rattle.pass_progress.specs.Progress.{IsBetween, IsNotDone, MayGoOn}
 use Rattle.pass_progress.specs.Syncs.{SyncLaw}
 use Rattle.pass_progress.proofs.Answering.{in_it, not_done, progress_law}

@@ -18,10 +18,10 @@ use Rattle.pass_hold.specs.Callings.{IsCallMade, IsIdle, HasLooked}
 use Rattle.pass_hold.specs.Goings.{Goes, HasAnswered, HasNotAnswered, IsUnderWay}
 use Rattle.pass_proc.specs.Procs.{ProcView}
 use Rattle.pass_proc.specs.UnderWay.{IsWay}
-use Rattle.pass_calls.specs.Answers.{Answers, resumes}
-use Rattle.pass_calls.specs.declared.answer.CallEnd.{CallEnd}
-use Rattle.pass_calls.specs.declared.answer.CallEnd.TheVariants as ends
-use Rattle.pass_calls.specs.declared.answer.Moved.{Moved}
+use Rattle.pass_answer.specs.Answers.{Answers, resumes}
+use Rattle.pass_answer.specs.declared.answer.CallEnd.{CallEnd}
+use Rattle.pass_answer.specs.declared.answer.CallEnd.TheVariants as ends
+use Rattle.pass_answer.specs.declared.answer.Moved.{Moved}
 
 -- Before the call
 

@@ -3,9 +3,9 @@ use Rattle.std.specs.Prelude.{ℕ, Result}
 use Rattle.pass_plain.specs.declared.request.Request.TheVariants as requests
 use Rattle.pass_plain.specs.Sessions.{Session}
 use Rattle.pass_proc.specs.Procs.{ProcView}
-use Rattle.pass_calls.specs.declared.answer.CallEnd.{CallEnd}
-use Rattle.pass_calls.specs.declared.answer.Moved.{Moved}
-use Rattle.pass_safe.specs.Syncings.{SyncAnswers}
+use Rattle.pass_answer.specs.declared.answer.CallEnd.{CallEnd}
+use Rattle.pass_answer.specs.declared.answer.Moved.{Moved}
+use Rattle.pass_answer.specs.Syncs.{SyncAnswers}
 use Rattle.pass_progress.specs.Progress.{IsBetween, MayGoOn, Progresses}
 
 -- a sync

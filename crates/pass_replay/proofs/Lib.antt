@@ -16,3 +16,11 @@ pub mod Closed
 pub mod Reserving
 pub mod Replaying
 pub mod Stuck
+pub mod RunSteps
+pub mod DueCalls
+pub mod TextPlaces
+mod Standstill
+pub mod Agreeing
+pub mod Prefixes
+pub mod InLine
+mod Trying

@@ -1,5 +1,5 @@
 -- Beginnings of a list, and what stands behind them.
-use Rattle.std.proofs.Common.{◌≡◌, ◌≤◌, ◌-◌, ◌+◌, List, [], ◌∷◌, ◌++◌, length, refl, ap, arith}
+use Rattle.std.proofs.Common.{◌≡◌, ◌≤◌, List, [], ◌∷◌, ◌++◌, length, refl, ap, arith}
 
 -- a beginning that is not shorter is the whole
 pub whole_is : {X : Type 0} (xs later ys : List X) → xs ++ later ≡ ys → length ys ≤ length xs → xs ≡ ys

@@ -5,7 +5,6 @@ use Rattle.std.specs.Option.{option_map_or}
 use Rattle.pass_entry.specs.declared.entry.Entry.{Entry}
 use Rattle.pass_entry.specs.declared.entry.Act.{Act}
 use Rattle.pass_entry.specs.declared.entry.Act.TheVariants as act
-use Rattle.pass_entry.specs.declared.entry.CallName.TheVariants as call_name
 use Rattle.pass_entry.specs.declared.entry.Reply.{Reply}
 use Rattle.pass_plain.specs.declared.request.Request.{Request}
 use Rattle.pass_plain.specs.Histories.{is_fault, is_of_call, call_entries, made_kind}

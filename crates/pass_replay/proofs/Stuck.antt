@@ -30,11 +30,11 @@ next_if last true false t = omega arith
 next_if zero false false t = absurd (let z : true ≡ false = t in cc)
 next_if (suc last) false false t = omega arith
 
-next_some : (last : ℕ) (over : Bool) → 1 ≤ (if last == 0 then 1 else if over then last + 1 else last)
+pub next_some : (last : ℕ) (over : Bool) → 1 ≤ (if last == 0 then 1 else if over then last + 1 else last)
 next_some last over = next_if last over (last == 0) refl
 
 -- behind the last call there is none
-next_behind : (last : ℕ) (over : Bool) → over ≡ true → 1 ≤ last → (if last == 0 then 1 else if over then last + 1 else last) ≡ last + 1
+pub next_behind : (last : ℕ) (over : Bool) → over ≡ true → 1 ≤ last → (if last == 0 then 1 else if over then last + 1 else last) ≡ last + 1
 next_behind last over is some =
     ap (λ none. if none then 1 else if over then last + 1 else last) (different last 0 (λ z. omega (arith, z, some)))
     ∙ ap (λ b. if b then last + 1 else last) is

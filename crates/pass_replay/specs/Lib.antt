@@ -5,3 +5,5 @@ pub mod Needs
 pub mod Starts
 pub mod Members
 pub mod Replays
+pub mod Orders
+pub mod Tries

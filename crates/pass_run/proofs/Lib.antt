@@ -1,7 +1,4 @@
-pub mod Texts
 pub mod Ruled
-pub mod Pieces
-pub mod Limited
 mod Numbered
 mod Needed
 mod Refusing
@@ -9,6 +6,9 @@ mod Recorded
 mod Telling
 mod Overs
 pub mod Moved
+mod Crossing
 mod Fitting
+mod Reached
 mod Following
+mod Reopening
 pub mod Reported

@@ -6,7 +6,7 @@ use Rattle.pass_entry.specs.declared.entry.Synced.{Synced}
 use Rattle.pass_entry.specs.declared.record.Record.{Record}
 use Rattle.pass_outside.specs.Moments.{Moment}
 use Rattle.pass_plain.specs.declared.start.Start.{Start}
-use Rattle.pass_run.specs.declared.status.Status.{Status}
+use Rattle.pass_status.specs.declared.status.Status.{Status}
 use Rattle.pass_run.specs.Stored.{IsEnd, IsUnopened, IsLeftAlone, LeavesRead, IsRefusedOpening, IsBackedBy}
 
 pub alone_untouched : (m : Moment) → IsLeftAlone m m
@@ -21,7 +21,7 @@ pub refused_untouched : (m : Moment) (ended : Status) (list : List Record) (star
 refused_untouched m ended list start history syncs unended nothing = record { unended = unended; nothing = nothing; alone = alone_untouched m; since = leaves_untouched m; reads = λ quiet. refl }
 
 pub none_backed : (history : List Entry) (syncs : List Synced) → history ≡ [] → IsBackedBy history syncs
-none_backed history syncs none = λ q p fd e k at _ _ _ _ _ _.
-    let within = slice_get_within history q e at in
+none_backed history syncs none = λ p q call.
+    let within = slice_get_within history q call.kept call.told in
     let size : length history ≡ 0 = ap length none in
     absurd (omega (arith, within, size))

@@ -2,8 +2,8 @@
 use Rattle.std.proofs.Common.{◌≡◌, ◌≢◌, ◌⊎◌, ◌<◌, ◌+◌, ◌∷◌, ℕ, Bool, List, [], length, refl, ap, sym, ◌∙◌, subst, inl, inr, ⊎_elim, arith, length-append}
 use Rattle.std.specs.Prelude.{Option, Result, Ok, Err, IfOk, IfErr, OnOk}
 use mathlib.Core.List.{IsPrefix}
-use Rattle.pass_calls.specs.declared.answer.CallEnd.{CallEnd}
-use Rattle.pass_calls.specs.declared.answer.CallEnd.TheVariants as ends
+use Rattle.pass_answer.specs.declared.answer.CallEnd.{CallEnd}
+use Rattle.pass_answer.specs.declared.answer.CallEnd.TheVariants as ends
 use Rattle.pass_entry.specs.declared.entry.Entry.{Entry}
 use Rattle.pass_entry.specs.declared.entry.Synced.{Synced}
 use Rattle.pass_entry.specs.declared.record.Record.{Record}
@@ -18,24 +18,26 @@ use Rattle.pass_plain.specs.Runs.{IsRun}
 use Rattle.pass_recover.specs.declared.fault.OpenFault.{OpenFault}
 use Rattle.pass_recover.specs.Faults.{LogHas}
 use Rattle.pass_replay.specs.Making.{first_entry}
-use Rattle.pass_report.specs.Reports.{SameButBytes, report_of}
+use Rattle.pass_plain.specs.Outlines.{SameButBytes}
+use Rattle.pass_report.specs.Reports.{report_of}
 use Rattle.pass_safe.specs.Safes.{IsLost}
 use Rattle.pass_session.specs.Sessions.{OpenedView, HasSession}
 use Rattle.pass_store.specs.Closings.{story_at, IsClosed, IsSettled, IsUnsettled}
-use Rattle.pass_store.specs.Grounds.{Ground, HasGoneOn, ground_of}
+use Rattle.pass_store.proofs.Closing.{backed_by}
+use Rattle.pass_safe.specs.Grounds.{Ground, HasGoneOn, ground_of}
 use Rattle.pass_trace.specs.TraceLines.{objects_of, plain_trace, session_of_trace}
 use Rattle.pass_trace.specs.declared.trace.TraceLine.{TraceLine}
-use Rattle.pass_turns.specs.declared.ends.Last.{Last}
-use Rattle.pass_turns.specs.declared.ends.Last.TheVariants as lasts
-use Rattle.pass_turns.specs.Runs.{IsRanTo}
+use Rattle.pass_walk.specs.declared.ends.Last.{Last}
+use Rattle.pass_walk.specs.declared.ends.Last.TheVariants as lasts
+use Rattle.pass_walk.specs.Runs.{IsRanTo}
 use Rattle.pass_vault.specs.Vaulted.{Vaulted}
 use Rattle.pass_vault.specs.declared.vault.Receipt.{Receipt}
 use Rattle.pass_book.specs.Tokens.{BookId}
 use Rattle.pass_run.specs.Closing.{status_of}
 use Rattle.pass_run.specs.Ends.{EndsAs}
 use Rattle.pass_run.specs.declared.ending.RunEnd.{RunEnd}
-use Rattle.pass_run.specs.declared.status.Status.{Status}
-use Rattle.pass_run.specs.declared.status.Status.TheVariants as status
+use Rattle.pass_status.specs.declared.status.Status.{Status}
+use Rattle.pass_status.specs.declared.status.Status.TheVariants as status
 use Rattle.pass_run.specs.OpenedRuns.{IsRunOver}
 use Rattle.pass_run.specs.Stored.{session_fault, IsBare, IsStoreJudged, IsEnd, IsOfDisk, IsOpening, IsLater, IsStored, IsSettledRun, HasRecorded, IsOverStore, HasEnded, story_of}
 use Rattle.pass_run.proofs.Numbered.{numbered}
@@ -170,6 +172,7 @@ module _ {D : Type 0} (view : D → Moment) (old : Moment) (lines : List TraceLi
     is_opening = subst (λ (l : List Record). IsOpening old l e.start start) (sym list_too) (record {
       logged = session.opening.logged;
       told = session.opening.told;
+      files = session.opening.files;
       bytes = session.opening.bytes;
       outline = outline;
       bare = bare;
@@ -185,7 +188,7 @@ module _ {D : Type 0} (view : D → Moment) (old : Moment) (lines : List TraceLi
     stored = subst (λ (s : Story). IsStored s (view e.disk) e.syncs.items) story_same (is_stored (story_at book ground e.history.items) ground.ready (view e.disk) e.syncs.items closed)
 
     over : IsOverStore old.calls old (view e.disk) lines e.list.items e.start e.history.items e.syncs.items
-    over = record { opened = start; opening = is_opening; some = some_entry (first_entry book.session) e.history.items ran.has.starts; recorded = recorded; stored = stored }
+    over = record { opened = start; opening = is_opening; some = some_entry (first_entry book.session) e.history.items ran.has.starts; recorded = recorded; stored = stored; numbered = numbered (session_of_trace start lines) e.history.items run.legal }
 
     -- a fault of the disk
     module _ (refused : IfErr settled (IsUnsettled ground.opened (view e.disk))) where
@@ -246,7 +249,7 @@ module _ {D : Type 0} (view : D → Moment) (old : Moment) (lines : List TraceLi
           judged = λ some other. judged_end e.status (which (quiet some other));
           bad_store = λ fault also. absurd (not_bad (view e.disk).faults last settled fault (sym status_is ∙ also));
           recorded = inr (inr over);
-          backed = closed.backed;
+          backed = backed_by (story_at book ground e.history.items) ground.ready (view e.disk) e.syncs.items closed;
           ended = (report_of start e.history.items lines, ended);
           silent = silent;
           later = later;

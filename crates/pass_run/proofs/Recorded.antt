@@ -1,5 +1,5 @@
 -- A history that a closed store hands out, over the records that it opened with.
-use Rattle.std.proofs.Common.{ℕ, List, ap, sym, ◌∙◌, subst}
+use Rattle.std.proofs.Common.{◌≤◌, ℕ, List, ap, sym, ◌∙◌, subst}
 use Rattle.std.specs.Prelude.{slice_get}
 use Rattle.pass_entry.specs.declared.entry.Entry.{Entry}
 use Rattle.pass_entry.specs.declared.entry.Synced.{Synced}
@@ -15,6 +15,7 @@ use Rattle.pass_plain.specs.Runs.{IsRun}
 use Rattle.pass_plain.specs.Sound.{IsSound}
 use Rattle.pass_book.specs.declared.view.VaultSync.{VaultSync}
 use Rattle.pass_store.specs.Closings.{IsClosed, IsSettled}
+use Rattle.pass_store.proofs.Closing.{files_kept}
 use Rattle.pass_trace.specs.TraceLines.{plain_trace, session_of_trace}
 use Rattle.pass_trace.specs.declared.trace.TraceLine.{TraceLine}
 use Rattle.pass_vault.specs.Vaulted.{noted_of}
@@ -22,17 +23,24 @@ use Rattle.pass_vault.specs.Vaults.{handed_of}
 use Rattle.pass_vault.specs.declared.vault.Receipt.{Receipt}
 use Rattle.pass_run.specs.Stored.{HasFirst, IsStored, IsSettledRun, HasRecorded}
 
-first_of : (s : Story) (x : VaultSync) (c : Image) → IsLeft s x.entries (bound_of (noted_of x)) c → HasFirst s x.entries c
-first_of s x c left = record { count = left.count; enough = left.enough; within = left.within; records = left.records; older = left.older }
+first_of : (s : Story) (least : ℕ) (bound : ℕ → ℕ) (c : Image) → IsLeft s least bound c → HasFirst s least c
+first_of s least bound c left = record { count = left.count; enough = left.enough; within = left.within; records = left.records; older = left.older }
 
 -- what crashes leave of it
 pub is_stored : (s : Story) (ready : ℕ) (m : Moment) (syncs : List Synced) → IsClosed s ready m syncs → IsStored s m syncs
 is_stored s ready m syncs closed = record {
   begun = closed.begun;
+  ready = ready;
+  early = closed.early;
+  late = λ i y at.
+      let (x, there, is) = mapped handed_of closed.all i y (ap (λ (l : List Synced). slice_get l i) (sym closed.handed) ∙ at) in
+      subst (λ (z : Synced). ready ≤ z.calls) is (closed.late i x there);
+  opened = λ told c left. first_of s 0 (λ number. 0) c (closed.opened told c left);
   timed = closed.timed;
   since = λ told i y at c left.
       let (x, there, is) = mapped handed_of closed.all i y (ap (λ (l : List Synced). slice_get l i) (sym closed.handed) ∙ at) in
-      subst (λ (z : Synced). HasFirst s z.entries c) is (first_of s x c (closed.since told i x there c (subst (λ (z : Synced). m.left_since z.calls c) (sym is) left)));
+      subst (λ (z : Synced). HasFirst s z.entries c) is (first_of s x.entries (bound_of (noted_of x)) c (closed.since told i x there c (subst (λ (z : Synced). m.left_since z.calls c) (sym is) left)));
+  synced = files_kept s ready m syncs closed;
 }
 
 pub is_settled : (s : Story) (m : Moment) (syncs : List Synced) (r : Receipt) → IsSettled s m syncs r → IsSettledRun s m syncs
@@ -43,6 +51,7 @@ is_settled s m syncs r settled = record {
   all = settled.whole;
   records = settled.records;
   matched = settled.matched;
+  held = settled.held;
   older = settled.older;
 }
 

@@ -14,9 +14,9 @@ use Rattle.pass_trace.specs.declared.trace.TraceLine.{TraceLine}
 use Rattle.pass_vault.specs.Vaulted.{Vaulted}
 use Rattle.pass_vault.specs.Vaulted as vaults
 use Rattle.pass_run.specs.declared.ending.RunEnd.{RunEnd}
-use Rattle.pass_run.specs.declared.status.Status.TheVariants as status
+use Rattle.pass_status.specs.declared.status.Status.TheVariants as status
 use Rattle.pass_run.specs.OpenedRuns.{IsRunOver}
-use Rattle.pass_run.specs.Statuses.{status_of_opening}
+use Rattle.pass_status.specs.Statuses.{status_of_opening}
 use Rattle.pass_run.specs.Stored.{IsStoreJudged, IsEnd, IsOfDisk, IsUnopened, IsLater, HasBegun, IsRefusedOpening}
 use Rattle.pass_run.proofs.Moved.{none_backed}
 

@@ -28,7 +28,7 @@ use Rattle.pass_trace.proofs.Again.{length-lines_from}
 use Rattle.pass_trace.proofs.Created.{at_front, AreFine}
 use Rattle.pass_run.specs.Ends.{IsTrace}
 use Rattle.pass_replay.specs.Lines.{is_fork_of, is_there, IsLineCall, IsLineBehind, AreLinesBehind, ForksBefore}
-use Rattle.pass_turns.proofs.Linked.{plain_at}
+use Rattle.pass_walk.proofs.Linked.{plain_at}
 
 below_64 : (fd : ℕ) → fd ≤ 63 → is_fd fd ≡ true
 below_64 fd le = grind (arith, nat_tests)

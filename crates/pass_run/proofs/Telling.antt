@@ -14,8 +14,8 @@ use Rattle.pass_session.specs.Sessions.{OpenedView, HasSession}
 use Rattle.pass_store.specs.Closings.{IsTold}
 use Rattle.pass_trace.specs.TraceLines.{objects_of, plain_trace}
 use Rattle.pass_trace.specs.declared.trace.TraceLine.{TraceLine}
-use Rattle.pass_turns.specs.declared.ends.Last.{Last}
-use Rattle.pass_turns.specs.Runs.{IsRanBy, IsRanTo, RanLaw}
+use Rattle.pass_walk.specs.declared.ends.Last.{Last}
+use Rattle.pass_walk.specs.Runs.{IsRanBy, IsRanTo, RanLaw}
 use Rattle.pass_run.specs.Ends.{IsTrace}
 use Rattle.pass_run.proofs.Ruled.{ruled}
 

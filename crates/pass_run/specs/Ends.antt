@@ -7,8 +7,8 @@ use Rattle.pass_plain.specs.Traces.{Line}
 use Rattle.pass_trace.specs.declared.trace.TraceLine.{TraceLine}
 use Rattle.pass_trace.specs.Traces.{trace_of, IsTraceText}
 use Rattle.pass_replay.specs.Ends.{NoneOpen, IsStuck}
-use Rattle.pass_run.specs.declared.status.Status.{Status}
-use Rattle.pass_run.specs.declared.status.Status.TheVariants as status
+use Rattle.pass_status.specs.declared.status.Status.{Status}
+use Rattle.pass_status.specs.declared.status.Status.TheVariants as status
 
 -- the lines are the trace of some text
 abbrev pub IsTrace : List TraceLine → Type 0

@@ -1,8 +1,4 @@
-pub mod Statuses
-pub mod Stores
 pub mod Ends
-pub mod Reading
-pub mod Writing
 pub mod Stored
 pub mod Closing
 pub mod OpenedRuns

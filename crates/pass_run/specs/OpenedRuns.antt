@@ -5,7 +5,7 @@ use Rattle.pass_recover.specs.declared.fault.OpenFault.{OpenFault}
 use Rattle.pass_recover.specs.Faults.{LogHas}
 use Rattle.pass_trace.specs.declared.trace.TraceLine.{TraceLine}
 use Rattle.pass_run.specs.declared.ending.RunEnd.{RunEnd}
-use Rattle.pass_run.specs.declared.status.Status.TheVariants as status
+use Rattle.pass_status.specs.declared.status.Status.TheVariants as status
 use Rattle.pass_run.specs.Stored.{session_fault, IsStoreJudged, IsEnd, IsOfDisk, IsLater, IsRefusedOpening, IsHeldBack, IsOverStore, HasEnded, IsBackedBy}
 
 -- the opening was refused, or no entry was made, or this is what was opened and recorded

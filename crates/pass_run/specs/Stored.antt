@@ -1,5 +1,7 @@
 -- What the run of a trace over a disk is. This project's own rule.
 use Rattle.std.specs.Prelude.{ℕ, ◌+◌, ◌≡◌, ◌⊎◌, ◌↔◌, ◌<◌, ◌≤◌, true, Contains, IsTrue, List, [], ◌∷◌, ◌++◌, Option, Some, None, length, slice_get}
+use Rattle.pass_book.specs.Numbers.{IsFileNumber}
+use Rattle.pass_book.specs.declared.view.FileMark.{FileMark}
 use Rattle.pass_entry.specs.declared.entry.Entry.{Entry}
 use Rattle.pass_entry.specs.declared.entry.Synced.{Synced}
 use Rattle.pass_entry.specs.declared.objects.Node.{Node}
@@ -17,20 +19,23 @@ use Rattle.pass_plain.specs.Records.{records_of}
 use Rattle.pass_plain.specs.Runs.{IsRun}
 use Rattle.pass_plain.specs.Sessions.{Session}
 use Rattle.pass_plain.specs.Sound.{IsSound}
+use Rattle.pass_range.specs.Lawful.{Tells}
 use Rattle.pass_range.specs.Rows.{IsUnmatched}
 use Rattle.pass_recover.specs.declared.fault.OpenFault.{OpenFault}
 use Rattle.pass_recover.specs.Faults.{LogHas}
 use Rattle.pass_recover.specs.Starts.{IsStartOf, HasBytes}
 pub use Rattle.pass_recover.specs.Syncs.{HasBothSyncs, LeavesRead}
-use Rattle.pass_report.specs.Reports.{SameButBytes, report_of}
+use Rattle.pass_plain.specs.Outlines.{SameButBytes}
+use Rattle.pass_report.specs.Reports.{report_of}
 use Rattle.pass_trace.specs.TraceLines.{objects_of, plain_trace, session_of_trace}
 use Rattle.pass_trace.specs.declared.trace.TraceLine.{TraceLine}
-use Rattle.pass_run.specs.declared.status.Status.{Status}
-use Rattle.pass_run.specs.declared.status.Status.TheVariants as status
+use Rattle.pass_status.specs.declared.status.Status.{Status}
+use Rattle.pass_status.specs.declared.status.Status.TheVariants as status
 use Rattle.pass_run.specs.Ends.{EndsAs, IsEmptyStart}
 pub use Rattle.pass_session.specs.Judgements.{session_fault}
-pub use Rattle.pass_session.specs.Openings.{IsListOf, IsBare, IsLater, IsLeftAlone, HasBegun}
-pub use Rattle.pass_store.specs.Closings.{IsBackedBy}
+pub use Rattle.pass_recover.specs.Later.{IsLater, IsLeftAlone}
+pub use Rattle.pass_session.specs.Openings.{IsListOf, IsBare, HasBegun}
+pub use Rattle.pass_store.specs.Closings.{IsBackedBy, IsKeptCall, AreFilesKept, HasFileKept, HasData}
 
 -- How the store is judged
 
@@ -56,6 +61,7 @@ IsOfDisk _ = ⊥
 pub record IsOpening (m : Moment) (list : List Record) (start opened : Start) : Type 0 where
   pub logged : LogHas m (IsListOf list)
   pub told : IsStartOf list opened
+  pub files : Tells list opened
   pub bytes : IsTrue m.tells → HasBytes list m.seen.store opened
   pub outline : SameButBytes start opened
   pub bare : IsBare start
@@ -126,15 +132,22 @@ pub record HasFirst (s : Story) (least : ℕ) (c : Image) : Type 0 where
   pub records : HasRecords (list_to s count) c.log
   pub older : AreOlder s count c.store
 
--- Since the opening a crash leaves what was there before the session, or the records of its first entries; and since each sync
--- at least as many as were durable then. The syncs are of their moment.
+-- Since the opening a crash leaves what was there before the session, or the records of its first entries; since a count that the disk has
+-- reached, before each sync, the latter; and since each sync at least as many as were durable then. Each sync of a file of which the
+-- history tells is one of these, since which a crash leaves that file's data as far as the entries below the sync made it. The syncs are of
+-- their moment.
 pub record IsStored (s : Story) (m : Moment) (syncs : List Synced) : Type 0 where
   pub begun : IsBegun s m
+  pub ready : ℕ
+  pub early : ready ≤ m.calls
+  pub late : (i : ℕ) (x : Synced) → slice_get syncs i ≡ Some x → ready ≤ x.calls
+  pub opened : IsTrue m.tells → (c : Image) → m.left_since ready c → HasFirst s 0 c
   pub timed : AreTimed m (length s.history) syncs
   pub since : IsTrue m.tells → (i : ℕ) (x : Synced) → slice_get syncs i ≡ Some x → (c : Image) → m.left_since x.calls c → HasFirst s x.entries c
+  pub synced : AreFilesKept s m syncs
 
--- The last sync has all entries. Since then a crash leaves all their records, matches each range whose row comes from one of
--- them, and leaves the data from before of every other.
+-- The last sync has all entries. Since then a crash leaves all their records, has each range whose row comes from one of them, with its bytes
+-- and matched, and leaves the data from before of every other.
 pub record IsSettledRun (s : Story) (m : Moment) (syncs : List Synced) : Type 0 where
   pub front : List Synced
   pub last : Synced
@@ -143,12 +156,14 @@ pub record IsSettledRun (s : Story) (m : Moment) (syncs : List Synced) : Type 0 
   pub records : IsTrue m.tells → (c : Image) → m.left_since last.calls c → HasRecords (list_to s (length s.history)) c.log
   pub matched : IsTrue m.tells → (c : Image) → m.left_since last.calls c → (pnode block at : ℕ)
       → source_to s (length s.history) pnode block ≡ Some at → IsUnmatched (list_to s (length s.history)) c.store pnode block → ⊥
+  pub held : (f : FileMark) → IsFileNumber s.session s.history f.pnode f.number → IsTrue m.tells → (c : Image) → m.left_since last.calls c
+      → HasData s (length s.history) (length s.history) f c.store
   pub older : IsTrue m.tells → (c : Image) → m.left_since last.calls c → AreOlder s (length s.history) c.store
 
 -- each object that the history makes has a number above the start's ceiling and up to the session's, above which the next
 -- session's numbers begin
-abbrev pub AreNumbered : Story → Type 0
-AreNumbered s = (i n : ℕ) (e : Entry) → slice_get s.history i ≡ Some e → made_object e.act e.reply ≡ Some n → (s.session.start.ceiling < n) × (n ≤ s.ceiling)
+abbrev pub HaveNewNumbers : Story → Type 0
+HaveNewNumbers s = (i n : ℕ) (e : Entry) → slice_get s.history i ≡ Some e → made_object e.act e.reply ≡ Some n → (s.session.start.ceiling < n) × (n ≤ s.ceiling)
 
 -- What a run hands out
 
@@ -161,6 +176,7 @@ pub record IsOverStore (calls : ℕ) (old new : Moment) (lines : List TraceLine)
   pub some : 0 < length history
   pub recorded : HasRecorded list opened lines history
   pub stored : IsStored (story_of calls old.seen.store list opened lines history) new syncs
+  pub numbered : HaveNewNumbers (story_of calls old.seen.store list opened lines history)
 
 -- such a run that came to its end
 pub record HasEnded (calls : ℕ) (old new : Moment) (lines : List TraceLine) (list : List Record) (start : Start) (history : List Entry) (syncs : List Synced) (ended : Status) (text : List ℕ) : Type 0 where
@@ -170,4 +186,4 @@ pub record HasEnded (calls : ℕ) (old new : Moment) (lines : List TraceLine) (l
   pub reported : HasReported opened lines history ended text
   pub stored : IsStored (story_of calls old.seen.store list opened lines history) new syncs
   pub settled : IsSettledRun (story_of calls old.seen.store list opened lines history) new syncs
-  pub numbered : AreNumbered (story_of calls old.seen.store list opened lines history)
+  pub numbered : HaveNewNumbers (story_of calls old.seen.store list opened lines history)

@@ -1,16 +1,16 @@
 //! What a store hands out that was closed.
 ghost use Rattle.std.specs.Prelude.{◌≡◌, ◌≢◌, []};
-ghost use Rattle.pass_turns.specs.declared.ends.Last.TheVariants.{Failed};
-ghost use Rattle.pass_turns.specs.declared.ends.Cause.TheVariants.{TooFewPlaces, Refused};
+ghost use Rattle.pass_walk.specs.declared.ends.Last.TheVariants.{Failed};
+ghost use Rattle.pass_walk.specs.declared.ends.Cause.TheVariants.{TooFewPlaces, Refused};
 ghost use Rattle.pass_run.specs.Closing.{status_of as status_by};
 
 use crate::ending::RunEnd;
-use crate::status::Status;
-use pass_calls::CallEnd;
+use pass_answer::CallEnd;
 use pass_outside::Disk;
+use pass_status::Status;
 use pass_store::{Closed, Finished};
-use pass_turns::{Cause, Last};
 use pass_vault::Receipt;
+use pass_walk::{Cause, Last};
 use std::alloc::Global;
 
 /// How a run ended, whose store was settled with this answer; `now` is the disk's count of faults.

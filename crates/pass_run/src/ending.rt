@@ -2,9 +2,9 @@
 ghost use Rattle.std.specs.Prelude.{◌≡◌, []};
 ghost use Rattle.pass_run.specs.Ends.{IsEmptyStart};
 
-use crate::status::Status;
 use pass_entry::{Entry, Record, Synced};
 use pass_plain::Start;
+use pass_status::Status;
 use std::alloc::Global;
 
 /// How the run of a trace ended: the history that it recorded, the syncs of the store, the records and the start that its

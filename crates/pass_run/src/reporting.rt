@@ -6,8 +6,8 @@ ghost use Rattle.pass_report.specs.Reports.{IsLegalFrom, IsRunFrom, report_of};
 ghost use Rattle.pass_run.specs.Stored.{IsEnd};
 
 use crate::ending::RunEnd;
-use crate::status::Status;
 use pass_report::report;
+use pass_status::Status;
 use pass_trace::Trace;
 use std::alloc::Global;
 

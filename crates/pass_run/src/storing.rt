@@ -5,7 +5,7 @@ ghost use Rattle.pass_recover.specs.declared.fault.OpenFault.{OpenFault as AnyFa
 ghost use Rattle.pass_recover.specs.Faults.{LogHas};
 ghost use Rattle.pass_replay.specs.Needs.{places_of as places_of_trace};
 ghost use Rattle.pass_session.specs.Sessions.{HasRefused, HasSession};
-ghost use Rattle.pass_store.specs.Grounds.{ground_of};
+ghost use Rattle.pass_safe.specs.Grounds.{ground_of};
 ghost use Rattle.pass_trace.specs.TraceLines.{objects_of as objects_of_lines, plain_trace};
 ghost use Rattle.pass_run.specs.Ends.{IsTrace};
 ghost use Rattle.pass_run.specs.OpenedRuns.{IsRunOver, IsReportedOver};
@@ -15,16 +15,18 @@ use crate::closing::hand_out;
 use crate::ending::{RunEnd, unopened};
 use crate::needs::places_of;
 use crate::reporting::reported;
-use crate::status::{Status, opening_status};
+use crate::serving::serve;
 use pass_graph::laws::{edges, graph};
 use pass_outside::{Disk, Gate};
 use pass_recover::OpenFault;
+use pass_safe::Opening;
 use pass_session::{Opened, open};
-use pass_store::{Opening, Store};
+use pass_status::{Status, opening_status};
+use pass_store::Store;
 use pass_trace::laws::traces;
 use pass_trace::{Trace, objects_of};
-use pass_turns::laws::ends;
-use pass_turns::{Plan, Ran, run};
+use pass_walk::laws::ends;
+use pass_walk::{Plan, Ran};
 use std::alloc::Global;
 use std::marker::Brand;
 use std::snapshot::Snapshot;
@@ -54,7 +56,7 @@ pub fn run_trace<R: Threads + Wait + Sync, D: Disk + Send, G: Gate + Sync>(
     ensures bad_store { (fault : AnyFault) → result.status ≡ Status.BadStore fault
         → IsRefusedOpening (D.view disk) (D.view result.disk) result.status result.list.items result.start result.history.items result.syncs.items }
     // Whatever the status, also where memory was refused: the opening was refused, or no entry was made, or this is what was opened
-    // and recorded.
+    // and recorded, and what a crash leaves of it: since the opening, and since each sync, with the data of the file that was synced.
     ensures recorded { IsRefusedOpening (D.view disk) (D.view result.disk) result.status result.list.items result.start result.history.items result.syncs.items
         ⊎ (IsHeldBack (D.view disk) (D.view result.disk) trace.now.lines.items result.status result.list.items result.start result.history.items result.syncs.items
         ⊎ IsOverStore (D.view disk).calls (D.view disk) (D.view result.disk) trace.now.lines.items result.list.items result.start result.history.items result.syncs.items) }
@@ -114,7 +116,7 @@ pub fn run_unreported<R: Threads + Wait + Sync, D: Disk + Send, G: Gate + Sync>(
     ensures bad_store { (fault : AnyFault) → result.status ≡ Status.BadStore fault
         → IsRefusedOpening (D.view disk) (D.view result.disk) result.status result.list.items result.start result.history.items result.syncs.items }
     // Whatever the status, also where memory was refused: the opening was refused, or no entry was made, or this is what was opened
-    // and recorded.
+    // and recorded, and what a crash leaves of it: since the opening, and since each sync, with the data of the file that was synced.
     ensures recorded { IsRefusedOpening (D.view disk) (D.view result.disk) result.status result.list.items result.start result.history.items result.syncs.items
         ⊎ (IsHeldBack (D.view disk) (D.view result.disk) trace.now.lines.items result.status result.list.items result.start result.history.items result.syncs.items
         ⊎ IsOverStore (D.view disk).calls (D.view disk) (D.view result.disk) trace.now.lines.items result.list.items result.start result.history.items result.syncs.items) }
@@ -188,7 +190,7 @@ fn run_opened<R: Threads + Wait + Sync, J: Opening + Send, D: Disk + Send, G: Ga
         Ok(begun) => begun,
         Err(disk) => return unopened(alloc, Status::NoMemory, disk),
     };
-    let Ran { trails, last } = run(rt, alloc, &store, process, plan, room, workers, gate);
+    let Ran { trails, last } = serve(rt, alloc, &store, process, plan, room, workers, gate);
     let finished = store.finish(alloc, trails);
     graph();
     edges();

@@ -13,15 +13,15 @@ use Rattle.pass_proc.specs.Ends.{TrailView}
 use Rattle.pass_proc.specs.Procs.{ProcView}
 use Rattle.pass_progress.specs.Progress.{IsNewborn}
 use Rattle.pass_replay.specs.Members.{Member, HasMember, HasChildren, MakesSteps, AreMembers, AreStill, Waits}
-use Rattle.pass_turns.specs.declared.ends.Cause.{Cause}
-use Rattle.pass_turns.specs.declared.ends.Cause.TheVariants as causes
-use Rattle.pass_turns.specs.declared.ends.Last.{Last}
-use Rattle.pass_turns.specs.declared.ends.Last.TheVariants as lasts
-use Rattle.pass_turns.specs.Causes.{IsSeen}
+use Rattle.pass_walk.specs.declared.ends.Cause.{Cause}
+use Rattle.pass_walk.specs.declared.ends.Cause.TheVariants as causes
+use Rattle.pass_walk.specs.declared.ends.Last.{Last}
+use Rattle.pass_walk.specs.declared.ends.Last.TheVariants as lasts
+use Rattle.pass_walk.specs.Causes.{IsSeen}
 use Rattle.pass_turns.specs.Performed.{IsPerformed}
-use Rattle.pass_turns.specs.Runs.{IsRanBy, IsSomeCause, trail_of}
+use Rattle.pass_walk.specs.Runs.{IsRanBy, IsSomeCause, trail_of}
 use Rattle.pass_turns.specs.Turners.{TurnerState, task_member, task_trail, HasTask, AreTasks, AreAllStill, HasLeftFor, IsKnown, IsStill}
-use Rattle.pass_turns.proofs.Among.{Among, among, contains, of_map, to_map, all_of}
+use Rattle.pass_walk.proofs.Among.{Among, among, contains, of_map, to_map, all_of}
 
 -- a member comes of a task
 of_members : (tasks : List TurnerState) (m : Member) → Contains (map task_member tasks) m → (t : TurnerState) × Contains tasks t × (task_member t ≡ m)

@@ -5,14 +5,14 @@ use Rattle.std.proofs.lemmas.Bool.{cases_lt}
 use Rattle.pass_plain.proofs.Lists.{some_is}
 use Rattle.pass_turns.specs.Meetings.{IsLater}
 use Rattle.pass_turns.specs.Turners.{TurnerState}
-use Rattle.pass_turns.proofs.Linked.{set_other}
+use Rattle.pass_walk.proofs.Linked.{set_other}
 use Rattle.pass_entry.proofs.Places.{set_here}
 
 -- those before a place that have ended have seen no more
 abbrev pub HaveSeenNoMore : List TurnerState → ℕ → TurnerState → Type 0
 HaveSeenNoMore tasks place first = (k : ℕ) (t : TurnerState) → k < place → slice_get tasks k ≡ Some t → t.ended ≡ true → length t.seen ≤ length first.seen
 
-seen_longer : (old new : TurnerState) → IsLater old new → length old.seen ≤ length new.seen
+pub seen_longer : (old new : TurnerState) → IsLater old new → length old.seen ≤ length new.seen
 seen_longer old new is = (let a = ap length is.turned.begins.1 in let b = length-append old.seen is.turned.begins.0 in omega (arith, a, b))
 
 -- it has met one more

@@ -8,14 +8,14 @@ use Rattle.pass_sched.specs.Turns.{Rises}
 use Rattle.pass_trace.specs.declared.trace.TraceLine.{TraceLine}
 use Rattle.pass_replay.specs.Members.{Waits}
 use Rattle.pass_plain.proofs.Lists.{is_place, some_is, different}
-use Rattle.pass_turns.specs.declared.walker.Living.{Living}
-use Rattle.pass_turns.specs.declared.walker.Walker.{Walker}
-use Rattle.pass_turns.specs.declared.walker.Walker.TheVariants as walker
-use Rattle.pass_turns.specs.Causes.{IsCauseOf}
+use Rattle.pass_walk.specs.declared.walker.Living.{Living}
+use Rattle.pass_walk.specs.declared.walker.Walker.{Walker}
+use Rattle.pass_walk.specs.declared.walker.Walker.TheVariants as walker
+use Rattle.pass_walk.specs.Causes.{IsCauseOf}
 use Rattle.pass_turns.specs.Tasks.{task_of}
 use Rattle.pass_turns.specs.Turners.{HasLiving, IsKnown, IsStill, TurnerState}
-use Rattle.pass_turns.specs.Walkers.{IsWalkerOf, member_of, left_member}
-use Rattle.pass_turns.proofs.LeftLemmas.{left_at_some}
+use Rattle.pass_walk.specs.Walkers.{IsWalkerOf, member_of, left_member}
+use Rattle.pass_walk.proofs.LeftLemmas.{left_at_some}
 use Rattle.pass_entry.proofs.Places.{Contains-at}
 
 pub known : {J : Type 0} (session : Session) (places : ℕ) (lines : List TraceLine) (w : Walker J) (turns : ℕ) (last : Option Turn) (waits : Bool) → IsWalkerOf session places (plain_trace lines) w → IsKnown session places (task_of lines w turns last waits)

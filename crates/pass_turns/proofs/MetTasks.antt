@@ -5,15 +5,17 @@ use Rattle.pass_plain.specs.Sessions.{Session}
 use Rattle.pass_sched.specs.declared.task.Turn.{Turn}
 use Rattle.pass_trace.specs.TraceLines.{plain_trace}
 use Rattle.pass_trace.specs.declared.trace.TraceLine.{TraceLine}
-use Rattle.pass_turns.specs.declared.walker.Living.{Living}
-use Rattle.pass_turns.specs.declared.walker.Ended.{Ended as EndedProcess}
-use Rattle.pass_turns.specs.declared.walker.Walker.{Walker}
-use Rattle.pass_turns.specs.declared.walker.Walker.TheVariants as walker
-use Rattle.pass_turns.specs.Lefts.{left_at}
-use Rattle.pass_turns.specs.Meetings.{HaveMet, IsLater}
+use Rattle.pass_walk.specs.declared.walker.Living.{Living}
+use Rattle.pass_walk.specs.declared.walker.Ended.{Ended as EndedProcess}
+use Rattle.pass_walk.specs.declared.walker.Walker.{Walker}
+use Rattle.pass_walk.specs.declared.walker.Walker.TheVariants as walker
+use Rattle.pass_walk.specs.Lefts.{left_at}
+use Rattle.pass_walk.specs.Meetings.{HaveMet}
+use Rattle.pass_turns.specs.Meetings.{IsLater}
 use Rattle.pass_turns.specs.Tasks.{task_of}
-use Rattle.pass_turns.specs.Walkers.{IsWalkerOf, cause_of, member_of}
-use Rattle.pass_turns.proofs.Meetings.{later_same, seen_more, turned_more}
+use Rattle.pass_walk.specs.Walkers.{IsWalkerOf, cause_of, member_of}
+use Rattle.pass_walk.proofs.Meetings.{seen_more}
+use Rattle.pass_turns.proofs.Meetings.{later_same, turned_more}
 
 pub record HaveMetSo {J : Type 0} (session : Session) (places : ℕ) (lines others : List TraceLine) (v w : Walker J) (r : Walker J × Walker J) : Type 0 where
   pub first_is : IsWalkerOf session places (plain_trace lines) r.0

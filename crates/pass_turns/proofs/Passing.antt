@@ -24,7 +24,7 @@ use Rattle.pass_sched.proofs.Underway.{fits}
 use Rattle.pass_turns.specs.Tasks.{task_room}
 use Rattle.pass_turns.specs.Turners.{TurnerState, IsNewTask, HasTask, IsBirthAmong, Turned, AreTasks}
 use Rattle.pass_turns.proofs.Aside.{pass_aside, with_idle}
-use Rattle.pass_turns.proofs.Among.{Among, among, contains, all_of, in_left, in_right, in_both, of_map, to_map, of_filter, to_filter, of_flat, to_flat}
+use Rattle.pass_walk.proofs.Among.{Among, among, contains, all_of, in_left, in_right, in_both, of_map, to_map, of_filter, to_filter, of_flat, to_flat}
 
 -- no turn, and two in a row
 

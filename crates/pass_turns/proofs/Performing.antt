@@ -9,18 +9,18 @@ use Rattle.pass_replay.specs.Lines.{IsNextLine}
 use Rattle.pass_replay.proofs.Begun.{first_has_begun}
 use Rattle.pass_trace.specs.TraceLines.{plain_trace}
 use Rattle.pass_trace.specs.declared.trace.TraceLine.{TraceLine}
-use Rattle.pass_turns.specs.declared.children.Children.{Children}
-use Rattle.pass_turns.specs.declared.walker.Living.{Living}
-use Rattle.pass_turns.specs.Lefts.{left_in}
+use Rattle.pass_walk.specs.declared.children.Children.{Children}
+use Rattle.pass_walk.specs.declared.walker.Living.{Living}
+use Rattle.pass_walk.specs.Lefts.{left_in}
 use Rattle.pass_turns.specs.Tasks.{new_task, task_room}
 use Rattle.pass_turns.specs.Turners.{AreTasks, TurnerState}
-use Rattle.pass_turns.specs.Walkers.{IsLivingOf}
+use Rattle.pass_walk.specs.Walkers.{IsLivingOf}
 use Rattle.pass_turns.proofs.Crews.{first_tasks}
-use Rattle.pass_turns.proofs.Forks.{newborn_is}
-use Rattle.pass_turns.proofs.LeftLemmas.{left_some}
+use Rattle.pass_walk.proofs.Forks.{newborn_is}
+use Rattle.pass_walk.proofs.LeftLemmas.{left_some}
 use Rattle.pass_turns.proofs.Passing.{short}
-use Rattle.pass_turns.proofs.Planned.{all_left}
-use Rattle.pass_turns.proofs.Walks.{some_seen}
+use Rattle.pass_walk.proofs.Planned.{all_left}
+use Rattle.pass_walk.proofs.Walks.{some_seen}
 
 module _ (J : Type 0) (session : Session) (lines : List TraceLine) (newborn_law : NewbornLaw) (p : ProcView) (between : IsBetween session p) (first : (p.who ≡ session.start.ceiling + 1) × (p.number ≡ 0))
     (line : Option ℕ) (its_first : IsNextLine (plain_trace lines) 1 0 line) (children : Children) where

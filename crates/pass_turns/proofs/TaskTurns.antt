@@ -12,15 +12,15 @@ use Rattle.pass_sched.specs.declared.task.Turn.TheVariants as turn
 use Rattle.pass_sched.specs.Turns.{IsTurn, Rises, spent}
 use Rattle.pass_trace.specs.declared.trace.TraceLine.{TraceLine}
 use Rattle.pass_replay.specs.Members.{Waits}
-use Rattle.pass_turns.specs.declared.walker.Living.{Living}
-use Rattle.pass_turns.specs.declared.walker.Walker.{Walker}
-use Rattle.pass_turns.specs.declared.walker.Walker.TheVariants as walker
-use Rattle.pass_turns.specs.declared.walker.Went.{Went}
-use Rattle.pass_turns.specs.Lefts.{left_at}
+use Rattle.pass_walk.specs.declared.walker.Living.{Living}
+use Rattle.pass_walk.specs.declared.walker.Walker.{Walker}
+use Rattle.pass_walk.specs.declared.walker.Walker.TheVariants as walker
+use Rattle.pass_walk.specs.declared.walker.Went.{Went}
+use Rattle.pass_walk.specs.Lefts.{left_at}
 use Rattle.pass_turns.specs.Tasks.{task_of, new_task, kid_tasks}
 use Rattle.pass_turns.specs.Turners.{TurnerState, IsBirthAmong, IsNewTask, Turned}
-use Rattle.pass_turns.specs.Walkers.{IsWalkerOf, IsKidIfAny, IsBornBy, WalkerWent, HasWent, left_of, kid_left, member_of}
-use Rattle.pass_turns.proofs.LeftLemmas.{left_at_some}
+use Rattle.pass_walk.specs.Walkers.{IsWalkerOf, IsKidIfAny, IsBornBy, WalkerWent, HasWent, left_of, kid_left, member_of}
+use Rattle.pass_walk.proofs.LeftLemmas.{left_at_some}
 
 abbrev pub IsTaskTurn : TurnerState → List TurnerState → Turn → TurnerState → Type 0
 IsTaskTurn = IsTurn (λ (t : TurnerState). t.process) (λ t. t.left) (λ t. t.turns) (λ t. t.last)

@@ -1,13 +1,4 @@
-pub mod Tables
-pub mod Lefts
-pub mod Behind
-pub mod Calls
-pub mod Causes
-pub mod Local
-pub mod Walkers
 pub mod Turners
-pub mod Outcomes
 pub mod Tasks
 pub mod Meetings
 pub mod Performed
-pub mod Runs

@@ -3,11 +3,11 @@ use Rattle.std.specs.Prelude.{ℕ, Bool, false, List, [], ◌∷◌, Option, Som
 use Rattle.pass_sched.specs.declared.task.Turn.{Turn}
 use Rattle.pass_trace.specs.TraceLines.{plain_trace}
 use Rattle.pass_trace.specs.declared.trace.TraceLine.{TraceLine}
-use Rattle.pass_turns.specs.declared.walker.Living.{Living}
-use Rattle.pass_turns.specs.declared.walker.Walker.{Walker}
-use Rattle.pass_turns.specs.declared.walker.Walker.TheVariants as walker
+use Rattle.pass_walk.specs.declared.walker.Living.{Living}
+use Rattle.pass_walk.specs.declared.walker.Walker.{Walker}
+use Rattle.pass_walk.specs.declared.walker.Walker.TheVariants as walker
 use Rattle.pass_turns.specs.Turners.{TurnerState}
-use Rattle.pass_turns.specs.Walkers.{member_of, left_of, cause_of}
+use Rattle.pass_walk.specs.Walkers.{member_of, left_of, cause_of}
 
 abbrev pub task_of : {J : Type 0} → List TraceLine → Walker J → ℕ → Option Turn → Bool → TurnerState
 task_of lines w turns last waits = record {

@@ -12,8 +12,8 @@ use Rattle.pass_trace.specs.TraceLines.{plain_trace}
 use Rattle.pass_trace.specs.declared.trace.TraceLine.{TraceLine}
 use Rattle.pass_proc.specs.Ends.{TrailView}
 use Rattle.pass_replay.specs.Members.{Member, MakesSteps, Waits}
-use Rattle.pass_turns.specs.declared.ends.Cause.{Cause}
-use Rattle.pass_turns.specs.Causes.{IsCauseOf}
+use Rattle.pass_walk.specs.declared.ends.Cause.{Cause}
+use Rattle.pass_walk.specs.Causes.{IsCauseOf}
 
 -- a task: the lines of the trace, its process, its turns, whether it waits, and why it goes on no more
 pub record TurnerState : Type 0 where

@@ -1,18 +1,18 @@
 //! The processes of a run. Those that have ended are put aside, so that no pass takes longer for them.
-ghost use Rattle.std.specs.Prelude.{◌≡◌, ◌≤◌, ◌<◌, ◌+◌, ◌++◌, ℕ, [], All, IfSome, IsPermutation, List, None, Some, false, length, map, slice_get, sum_by, true, vec_capacity, vec_len};
+ghost use Rattle.std.specs.Prelude.{◌≡◌, ◌≤◌, ◌<◌, ◌+◌, ◌++◌, ℕ, [], All, Contains, IfSome, IsNone, IsPermutation, List, None, Some, false, length, map, slice_get, sum_by, true, vec_capacity, vec_len};
 ghost use Rattle.pass_trace.specs.declared.trace.TraceLine.{TraceLine as AnyLine};
-ghost use Rattle.pass_turns.specs.Causes.{IsSeen, IsTrueCause};
-ghost use Rattle.pass_turns.specs.Meetings.{AreLater};
+ghost use Rattle.pass_walk.specs.Causes.{IsSeen};
+ghost use Rattle.pass_turns.specs.Meetings.{AreLater, GoesOn, HasMetEnded};
 ghost use Rattle.pass_turns.specs.Tasks.{task_room};
 ghost use Rattle.pass_turns.specs.Turners.{AreAllStill, AreTasks, HasLeftFor, IsKnown, IsStill, TurnerState, task_trail};
 
-use crate::ends::Cause;
 use crate::meeting::meet_each;
 use crate::task::Turner;
-use pass_outside::{Disk, Gate};
+use pass_hold::Whose;
 use pass_proc::Trail;
+use pass_progress::Calls;
 use pass_sched::{PassEnd, Passed, Task, run_all};
-use pass_store::Opening;
+use pass_walk::Cause;
 use std::alloc::{AllocError, Global};
 use std::marker::Model;
 use std::sync::Wait;
@@ -20,12 +20,12 @@ use std::thread::Threads;
 
 /// Those that take turns, and behind them those that have ended.
 #[derive(Drop)]
-pub(crate) struct Crew<'a, 'g, R, J: Opening, D: Disk, G: Gate> {
-    turning: Vec<Turner<'a, 'g, R, J, D, G>>,
-    ended: Vec<Turner<'a, 'g, R, J, D, G>>,
+pub(crate) struct Crew<'a, J: Whose, S> {
+    turning: Vec<Turner<'a, J, S>>,
+    ended: Vec<Turner<'a, J, S>>,
 }
 
-impl<'a, 'g, R, J: Opening, D: Disk, G: Gate> Model for Crew<'a, 'g, R, J, D, G> {
+impl<'a, J: Whose, S> Model for Crew<'a, J, S> {
     ghost use Rattle.std.specs.Prelude.{◌≡◌, ◌++◌, All, List};
     ghost use Rattle.std.specs.Coded.{codes};
     ghost use Rattle.pass_entry.specs.contracts.entry.Entry as entry_type;
@@ -41,12 +41,9 @@ impl<'a, 'g, R, J: Opening, D: Disk, G: Gate> Model for Crew<'a, 'g, R, J, D, G>
     ghost invariant = { λ crew. All (λ t. t.left ≡ 0) crew.ended.items };
 }
 
-impl<'a, 'g, R: Wait, J: Opening, D: Disk, G: Gate> Crew<'a, 'g, R, J, D, G> {
+impl<'a, J: Whose, S: Calls<J>> Crew<'a, J, S> {
     /// These, of which none is put aside.
-    pub(crate) fn new(
-        alloc: Global,
-        turning: Vec<Turner<'a, 'g, R, J, D, G>>,
-    ) -> Crew<'a, 'g, R, J, D, G>
+    pub(crate) fn new(alloc: Global, turning: Vec<Turner<'a, J, S>>) -> Crew<'a, J, S>
         ensures { result ≡ turning.entry.items }
     {
         Crew {
@@ -64,10 +61,11 @@ impl<'a, 'g, R: Wait, J: Opening, D: Disk, G: Gate> Crew<'a, 'g, R, J, D, G> {
         Ok(())
     }
 
-    /// The first living one comes to one history with each that was put aside.
-    pub(crate) fn meet_ended(self) -> Crew<'a, 'g, R, J, D, G>
+    /// The first living one comes to one history with each that has ended.
+    pub(crate) fn meet_ended(self) -> Crew<'a, J, S>
         ensures tasks { (lines : List AnyLine) (first : ℕ) → AreTasks lines first self.entry → AreTasks lines first result }
         ensures room { sum_by task_room result ≡ sum_by task_room self.entry }
+        ensures met { (t : TurnerState) → Contains self.entry t → GoesOn t → HasMetEnded result }
     {
         let Crew {
             mut turning,
@@ -89,8 +87,7 @@ impl<'a, 'g, R: Wait, J: Opening, D: Disk, G: Gate> Crew<'a, 'g, R, J, D, G> {
 
     /// Why one was left.
     pub(crate) fn cause(&self) -> Cause
-        ensures seen { IsSeen result → HasLeftFor self.now result }
-        ensures fault { IsTrueCause D.view J.ground.opened result }
+        ensures { IsSeen result → HasLeftFor self.now result }
     {
         cause_of(self.turning.as_slice())
     }
@@ -109,21 +106,14 @@ impl<'a, 'g, R: Wait, J: Opening, D: Disk, G: Gate> Crew<'a, 'g, R, J, D, G> {
     }
 }
 
-impl<'a, 'g, R: Threads + Wait + Sync, J: Opening + Send, D: Disk + Send, G: Gate + Sync> Crew<
-    'a,
-    'g,
-    R,
-    J,
-    D,
-    G,
-> {
+impl<'a, J: Whose + Send, S: Calls<J> + Sync> Crew<'a, J, S> {
     /// Makes one pass over those that take turns.
-    pub(crate) fn pass(
+    pub(crate) fn pass<R: Threads + Wait + Sync>(
         self,
         rt: &R,
         alloc: Global,
         workers: u32,
-    ) -> (Crew<'a, 'g, R, J, D, G>, PassEnd)
+    ) -> (Crew<'a, J, S>, PassEnd)
         requires workers { (1 ≤ workers) × (workers ≤ 64) }
         ensures tasks { (lines : List AnyLine) (first : ℕ) → AreTasks lines first self.entry → AreTasks lines first result.0 }
         ensures room { sum_by task_room result.0 ≤ sum_by task_room self.entry }
@@ -140,12 +130,12 @@ impl<'a, 'g, R: Threads + Wait + Sync, J: Opening + Send, D: Disk + Send, G: Gat
 }
 
 /// Makes one pass.
-fn pass<'a, 'g, R: Threads + Wait + Sync, J: Opening + Send, D: Disk + Send, G: Gate + Sync>(
+fn pass<'a, R: Threads + Wait + Sync, J: Whose + Send, S: Calls<J> + Sync>(
     rt: &R,
     alloc: Global,
-    tasks: Vec<Turner<'a, 'g, R, J, D, G>>,
+    tasks: Vec<Turner<'a, J, S>>,
     workers: u32,
-) -> Passed<Turner<'a, 'g, R, J, D, G>>
+) -> Passed<Turner<'a, J, S>>
     requires workers { (1 ≤ workers) × (workers ≤ 64) }
     ensures tasks { (lines : List AnyLine) (first : ℕ) (aside : List TurnerState) → All (λ t. t.left ≡ 0) aside
         → AreTasks lines first (tasks.entry.items ++ aside) → AreTasks lines first (result.tasks.items ++ aside) }
@@ -155,23 +145,28 @@ fn pass<'a, 'g, R: Threads + Wait + Sync, J: Opening + Send, D: Disk + Send, G: 
     run_all(rt, alloc, tasks, workers)
 }
 
-/// The first living one of the first ones comes to one history with each of the others.
-fn meet_all<'a, 'g, R: Wait, J: Opening, D: Disk, G: Gate>(
-    turning: &mut Vec<Turner<'a, 'g, R, J, D, G>>,
-    ended: &mut Vec<Turner<'a, 'g, R, J, D, G>>,
+/// The first living one of the first ones comes to one history with each that has ended.
+fn meet_all<'a, J: Whose, S: Calls<J>>(
+    turning: &mut Vec<Turner<'a, J, S>>,
+    ended: &mut Vec<Turner<'a, J, S>>,
 )
-    ensures turning { AreLater turning.old.items turning.new.items }
+    ensures tasks { (lines : List AnyLine) (first : ℕ) → AreTasks lines first (turning.old.items ++ ended.old.items) → AreTasks lines first (turning.new.items ++ ended.new.items) }
+    ensures room { sum_by task_room (turning.new.items ++ ended.new.items) ≡ sum_by task_room (turning.old.items ++ ended.old.items) }
     ensures ended { AreLater ended.old.items ended.new.items }
+    ensures met { (t : TurnerState) → Contains turning.old.items t → GoesOn t → HasMetEnded (turning.new.items ++ ended.new.items) }
 {
     if let Some((place, _)) = first_living(turning.as_slice()) {
-        meet_each(&mut turning[place], ended);
+        let mut first = turning.swap_remove(place);
+        meet_each(&mut first, turning);
+        meet_each(&mut first, ended);
+        turning.push_reserved(first);
     }
 }
 
 /// Moves those that have ended out of the first ones, behind the others, for which there is room.
-fn set_apart<'a, 'g, R: Wait, J: Opening, D: Disk, G: Gate>(
-    turning: &mut Vec<Turner<'a, 'g, R, J, D, G>>,
-    ended: &mut Vec<Turner<'a, 'g, R, J, D, G>>,
+fn set_apart<'a, J: Whose, S: Calls<J>>(
+    turning: &mut Vec<Turner<'a, J, S>>,
+    ended: &mut Vec<Turner<'a, J, S>>,
 )
     requires room { vec_len ended.old + vec_len turning.old ≤ vec_capacity ended.old }
     ensures same { IsPermutation (turning.old.items ++ ended.old.items) (turning.new.items ++ ended.new.items) }
@@ -188,10 +183,7 @@ fn set_apart<'a, 'g, R: Wait, J: Opening, D: Disk, G: Gate>(
 }
 
 /// Puts what these had seen behind the others, for which there is room.
-fn add_trails<'a, 'g, R: Wait, J: Opening, D: Disk, G: Gate>(
-    tasks: Vec<Turner<'a, 'g, R, J, D, G>>,
-    trails: &mut Vec<Trail<J>>,
-)
+fn add_trails<'a, J: Whose, S: Calls<J>>(tasks: Vec<Turner<'a, J, S>>, trails: &mut Vec<Trail<J>>)
     requires room { vec_len trails.old + vec_len tasks ≤ vec_capacity trails.old }
     ensures trails { trails.new.items ≡ trails.old.items ++ map task_trail tasks.entry.items }
     ensures known { All (IsKnown J.book.session J.places) tasks.entry.items }
@@ -203,11 +195,8 @@ fn add_trails<'a, 'g, R: Wait, J: Opening, D: Disk, G: Gate>(
 }
 
 /// Why one was left.
-fn cause_of<'a, 'g, R: Wait, J: Opening, D: Disk, G: Gate>(
-    tasks: &[Turner<'a, 'g, R, J, D, G>],
-) -> Cause
-    ensures seen { IsSeen result → HasLeftFor tasks.now result }
-    ensures fault { IsTrueCause D.view J.ground.opened result }
+fn cause_of<'a, J: Whose, S: Calls<J>>(tasks: &[Turner<'a, J, S>]) -> Cause
+    ensures { IsSeen result → HasLeftFor tasks.now result }
 {
     for place in 0..tasks.len() {
         if let Some(cause) = tasks[place].cause() {
@@ -218,10 +207,9 @@ fn cause_of<'a, 'g, R: Wait, J: Opening, D: Disk, G: Gate>(
 }
 
 /// The place of the first living process, and how many entries it has seen.
-fn first_living<'a, 'g, R: Wait, J: Opening, D: Disk, G: Gate>(
-    tasks: &[Turner<'a, 'g, R, J, D, G>],
-) -> Option<(usize, u64)>
-    ensures { IfSome result (λ found. (found.0 < length tasks.now) × ((t : TurnerState) → slice_get tasks.now found.0 ≡ Some t → (t.ended ≡ false) × (t.cause ≡ None))) }
+fn first_living<'a, J: Whose, S: Calls<J>>(tasks: &[Turner<'a, J, S>]) -> Option<(usize, u64)>
+    ensures some { IfSome result (λ found. (found.0 < length tasks.now) × ((t : TurnerState) → slice_get tasks.now found.0 ≡ Some t → (t.ended ≡ false) × (t.cause ≡ None))) }
+    ensures none { IsNone result → All (λ t. GoesOn t → ⊥) tasks.now }
 {
     for place in 0..tasks.len() {
         if let Some(count) = tasks[place].living() {
@@ -232,10 +220,7 @@ fn first_living<'a, 'g, R: Wait, J: Opening, D: Disk, G: Gate>(
 }
 
 /// Whether each goes on no more.
-fn all_still<'a, 'g, R: Wait, J: Opening, D: Disk, G: Gate>(
-    tasks: &[Turner<'a, 'g, R, J, D, G>],
-    count: u64,
-) -> bool
+fn all_still<'a, J: Whose, S: Calls<J>>(tasks: &[Turner<'a, J, S>], count: u64) -> bool
     ensures { result ≡ true → All (IsStill J.book.session count) tasks.now }
 {
     for place in 0..tasks.len() {

@@ -1,16 +1,15 @@
 //! Passes over the processes of a run.
 ghost use Rattle.std.specs.Prelude.{◌≡◌, ◌≤◌, ℕ, All, IfSome, List, sum_by};
 ghost use Rattle.pass_trace.specs.declared.trace.TraceLine.{TraceLine as AnyLine};
-ghost use Rattle.pass_turns.specs.Causes.{IsSeen, IsTrueCause};
+ghost use Rattle.pass_walk.specs.Causes.{IsSeen};
 ghost use Rattle.pass_turns.specs.Tasks.{task_room};
 ghost use Rattle.pass_turns.specs.Turners.{AreAllStill, AreTasks, HasLeftFor};
 
 use crate::crew::Crew;
-use crate::ends::{Cause, Last};
-use crate::ground::Ground;
-use pass_outside::{Disk, Gate};
+use pass_hold::Whose;
+use pass_progress::Calls;
 use pass_sched::PassEnd;
-use pass_store::Opening;
+use pass_walk::{Cause, Ground, Last};
 use std::sync::Wait;
 use std::thread::Threads;
 
@@ -18,30 +17,23 @@ use std::thread::Threads;
 /// pass is made by one worker; where none moves in that one either, and all living ones have seen as much, none can. Behind each pass in
 /// which some moved those that have ended are put aside, its entries are made durable, and changed blocks are kept for later; where that
 /// fails, no further pass is made.
-pub(crate) fn passes<
-    'a,
-    'g,
-    R: Threads + Wait + Sync,
-    J: Opening + Send,
-    D: Disk + Send,
-    G: Gate + Sync,
->(
-    ground: &'a Ground<'a, 'g, R, J, D, G>,
-    mut crew: Crew<'a, 'g, R, J, D, G>,
+pub(crate) fn passes<'a, R: Threads + Wait + Sync, J: Whose + Send, S: Calls<J> + Sync>(
+    rt: &R,
+    ground: &'a Ground<'a, S>,
+    mut crew: Crew<'a, J, S>,
     workers: u32,
-) -> (Crew<'a, 'g, R, J, D, G>, Last)
+) -> (Crew<'a, J, S>, Last)
     requires workers { (1 ≤ workers) × (workers ≤ 64) }
     ensures tasks { (lines : List AnyLine) (first : ℕ) → AreTasks lines first crew.entry → AreTasks lines first result.0 }
     ensures room { sum_by task_room result.0 ≤ sum_by task_room crew.entry }
     ensures done { result.1 ≡ Last.Done → All (λ t. t.left ≡ 0) result.0 }
     ensures stuck { result.1 ≡ Last.Stuck → AreAllStill J.book.session result.0 }
     ensures failed { (cause : Cause) → result.1 ≡ Last.Failed cause → IsSeen cause → HasLeftFor result.0 cause }
-    ensures fault { (cause : Cause) → result.1 ≡ Last.Failed cause → IsTrueCause D.view J.ground.opened cause }
 {
     let mut now = workers;
     let mut alone = false;
-    for _ in ground.rt.forever() {
-        let (after, end) = crew.pass(ground.rt, ground.alloc, now);
+    for _ in rt.forever() {
+        let (after, end) = crew.pass(rt, ground.alloc, now);
         crew = after;
         match end {
             PassEnd::AllEnded => return (crew, Last::Done),
@@ -71,17 +63,16 @@ pub(crate) fn passes<
 }
 
 /// What is done behind a pass in which some moved. Where it fails, why.
-fn go_on<'a, 'g, R: Wait, J: Opening, D: Disk, G: Gate>(
-    ground: &Ground<'a, 'g, R, J, D, G>,
-    crew: &mut Crew<'a, 'g, R, J, D, G>,
+fn go_on<'a, J: Whose, S: Calls<J>>(
+    ground: &Ground<'a, S>,
+    crew: &mut Crew<'a, J, S>,
 ) -> Option<Cause>
     ensures tasks { (lines : List AnyLine) (first : ℕ) → AreTasks lines first crew.old → AreTasks lines first crew.new }
     ensures room { sum_by task_room crew.new ≡ sum_by task_room crew.old }
     ensures unseen { IfSome result (λ cause. IsSeen cause → ⊥) }
-    ensures fault { IfSome result (IsTrueCause D.view J.ground.opened) }
 {
     if crew.put_aside().is_err() {
         return Some(Cause::NoMemory);
     }
-    ground.trickle()
+    ground.trickle::<J>()
 }

@@ -2,24 +2,18 @@
 ghost use Rattle.std.specs.Prelude.{◌≡◌, ◌≤◌, ◌+◌, [], ◌∷◌, vec_capacity};
 ghost use Rattle.pass_trace.specs.TraceLines.{plain_trace};
 ghost use Rattle.pass_proc.specs.Ends.{trail_of_proc};
-ghost use Rattle.pass_turns.specs.Causes.{IsTrueCause};
-ghost use Rattle.pass_turns.specs.Lefts.{HasRoomFor};
+ghost use Rattle.pass_walk.specs.Lefts.{HasRoomFor};
 ghost use Rattle.pass_turns.specs.Performed.{IsPerformed};
-ghost use Rattle.pass_turns.specs.Runs.{IsRanBy};
+ghost use Rattle.pass_walk.specs.Runs.{IsRanBy};
 
-use crate::children::Children;
 use crate::crew::Crew;
-use crate::ends::{Cause, Last};
-use crate::ground::Ground;
 use crate::passes::passes;
-use crate::plan::Plan;
 use crate::task::Turner;
-use crate::walker::Living;
-use pass_outside::{Disk, Gate};
+use pass_hold::Whose;
 use pass_proc::{Proc, Trail};
-use pass_progress::between;
 use pass_progress::laws::lives;
-use pass_store::{Opening, Store};
+use pass_progress::{Calls, between};
+use pass_walk::{Cause, Children, Ground, Last, Living, Plan, Ran};
 use std::alloc::Global;
 use std::sync::Wait;
 use std::thread::Threads;
@@ -27,52 +21,36 @@ use std::thread::Threads;
 /// The number of the first process in a trace.
 const FIRST: u32 = 1;
 
-/// What each process had seen as the run ended, and how it ended.
-#[derive(Drop)]
-pub struct Ran<J: Opening> {
-    pub trails: Vec<Trail<J>>,
-    pub last: Last,
-}
-
 /// Runs a trace over a store that has just begun, by so many workers, from its first process on. `room` comes of the plan. Where memory or
 /// the disk fails the answer says so, and has the trails all the same.
-pub fn run<'g, R: Threads + Wait + Sync, J: Opening + Send, D: Disk + Send, G: Gate + Sync>(
+pub fn run<R: Threads + Wait + Sync, J: Whose + Send, S: Calls<J> + Sync>(
     rt: &R,
     alloc: Global,
-    store: &Store<'g, J, D, G>,
+    calls: &S,
     first: Proc<J>,
     plan: &Plan<'_>,
     room: Vec<Trail<J>>,
     workers: u32,
-    gate: &G,
 ) -> Ran<J>
     requires workers { (1 ≤ workers) × (workers ≤ 64) }
     requires first { (first.who ≡ J.book.session.start.ceiling + 1) × (first.number ≡ 0) }
     requires room { HasRoomFor (plain_trace plan.now) room }
-    ensures ran { IsRanBy J.book.session J.places (plain_trace plan.now) result.trails.items result.last }
-    ensures fault { (cause : Cause) → result.last ≡ Last.Failed cause → IsTrueCause D.view J.ground.opened cause }
+    ensures { IsRanBy J.book.session J.places (plain_trace plan.now) result.trails.items result.last }
 {
-    let ground = Ground {
-        rt,
-        alloc,
-        store,
-        plan,
-        gate,
-    };
-    let ran = perform(&ground, first, room, workers);
+    let ground = Ground { alloc, calls, plan };
+    let ran = perform(rt, &ground, first, room, workers);
     let Ground {
-        rt: _,
         alloc: _,
-        store: _,
+        calls: _,
         plan: _,
-        gate: _,
     } = ground;
     ran
 }
 
 /// Makes passes, and gives up what all processes had seen.
-fn perform<'a, 'g, R: Threads + Wait + Sync, J: Opening + Send, D: Disk + Send, G: Gate + Sync>(
-    ground: &'a Ground<'a, 'g, R, J, D, G>,
+fn perform<'a, R: Threads + Wait + Sync, J: Whose + Send, S: Calls<J> + Sync>(
+    rt: &R,
+    ground: &'a Ground<'a, S>,
     first: Proc<J>,
     room: Vec<Trail<J>>,
     workers: u32,
@@ -80,8 +58,7 @@ fn perform<'a, 'g, R: Threads + Wait + Sync, J: Opening + Send, D: Disk + Send, 
     requires workers { (1 ≤ workers) × (workers ≤ 64) }
     requires first { (first.who ≡ J.book.session.start.ceiling + 1) × (first.number ≡ 0) }
     requires room { HasRoomFor (plain_trace ground.now.plan.now) room }
-    ensures performed { IsPerformed J.book.session J.places ground.now.plan.now result.trails.items result.last }
-    ensures fault { (cause : Cause) → result.last ≡ Last.Failed cause → IsTrueCause D.view J.ground.opened cause }
+    ensures { IsPerformed J.book.session J.places ground.now.plan.now result.trails.items result.last }
 {
     lives();
     ground.plan.ordered();
@@ -97,7 +74,7 @@ fn perform<'a, 'g, R: Threads + Wait + Sync, J: Opening + Send, D: Disk + Send, 
     };
     tasks.push_reserved(Turner::new(ground, living));
     let crew = Crew::new(ground.alloc, tasks);
-    let (crew, last) = passes(ground, crew, workers);
+    let (crew, last) = passes(rt, ground, crew, workers);
     Ran {
         trails: crew.into_trails(room),
         last,
@@ -105,7 +82,7 @@ fn perform<'a, 'g, R: Threads + Wait + Sync, J: Opening + Send, D: Disk + Send, 
 }
 
 /// No pass was made, for want of memory.
-fn unmade<J: Opening>(first: Proc<J>, room: Vec<Trail<J>>) -> Ran<J>
+fn unmade<J: Whose>(first: Proc<J>, room: Vec<Trail<J>>) -> Ran<J>
     requires room { (room.items ≡ []) × (1 ≤ vec_capacity room) }
     ensures trails { result.trails.items ≡ trail_of_proc first ∷ [] }
     ensures last { result.last ≡ Last.Failed Cause.NoMemory }

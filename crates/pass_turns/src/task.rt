@@ -1,36 +1,31 @@
 //! The processes of a run as tasks.
-ghost use Rattle.std.specs.Prelude.{◌≡◌, ◌≢◌, ◌<◌, ◌≤◌, ◌+◌, ◌++◌, ℕ, vec_len, vec_capacity, false, true, Some, None, IfSome, IsSome, length};
+ghost use Rattle.std.specs.Prelude.{◌≡◌, ◌<◌, ◌≤◌, ◌+◌, ◌++◌, vec_len, vec_capacity, false, true, Some, None, IsNone, IsSome, length};
 ghost use Rattle.pass_trace.specs.TraceLines.{plain_trace};
 ghost use Rattle.pass_sched.specs.Turns.{Rises};
-ghost use Rattle.pass_turns.specs.Causes.{IsTrueCause};
-ghost use Rattle.pass_turns.specs.Meetings.{IsLater};
+ghost use Rattle.pass_turns.specs.Meetings.{GoesOn, IsLater};
 ghost use Rattle.pass_turns.specs.Turners.{IsKnown, IsStill, task_trail};
 ghost use Rattle.pass_turns.specs.Tasks.{kid_tasks, new_task};
-ghost use Rattle.pass_turns.specs.Walkers.{IsKidIfAny, IsLeftTruly, IsLivingOf, IsWalkerOf, WalkerWent};
+ghost use Rattle.pass_walk.specs.Walkers.{IsKidIfAny, IsLivingOf, IsWalkerOf, WalkerWent};
 
-use crate::ends::Cause;
-use crate::ground::Ground;
-use crate::meeting::met;
-use crate::walker::{Living, Walker, Went};
-use pass_outside::{Disk, Gate};
+use pass_hold::Whose;
 use pass_proc::Trail;
+use pass_progress::Calls;
 use pass_sched::{Task, Turn};
-use pass_store::Opening;
+use pass_walk::{Cause, Ground, Living, Walker, Went, met};
 use std::marker::Model;
 use std::mem;
-use std::sync::Wait;
 
 /// A process of a run that takes turns.
 #[derive(Drop)]
-pub(crate) struct Turner<'a, 'g, R, J: Opening, D: Disk, G: Gate> {
-    ground: &'a Ground<'a, 'g, R, J, D, G>,
+pub(crate) struct Turner<'a, J: Whose, S> {
+    ground: &'a Ground<'a, S>,
     walker: Walker<J>,
     turns: u64,
     last: Option<Turn>,
     waits: bool,
 }
 
-impl<'a, 'g, R, J: Opening, D: Disk, G: Gate> Model for Turner<'a, 'g, R, J, D, G> {
+impl<'a, J: Whose, S> Model for Turner<'a, J, S> {
     ghost use Rattle.std.specs.Prelude.{is_none, ◌≡◌, ◌==◌, true};
     ghost use Rattle.std.specs.Coded.{codes};
     ghost use Rattle.pass_entry.specs.contracts.entry.Entry as entry_type;
@@ -39,7 +34,7 @@ impl<'a, 'g, R, J: Opening, D: Disk, G: Gate> Model for Turner<'a, 'g, R, J, D, 
     ghost use Rattle.pass_replay.specs.Members.{Waits};
     ghost use Rattle.pass_turns.specs.Tasks.{task_of};
     ghost use Rattle.pass_turns.specs.Turners.{TurnerState};
-    ghost use Rattle.pass_turns.specs.Walkers.{IsLeftTruly, IsWalkerOf, member_of};
+    ghost use Rattle.pass_walk.specs.Walkers.{IsWalkerOf, member_of};
 
     ghost Value = { TurnerState };
 
@@ -47,10 +42,10 @@ impl<'a, 'g, R, J: Opening, D: Disk, G: Gate> Model for Turner<'a, 'g, R, J, D, 
 
     ghost view = { λ t. task_of t.ground.now.plan.now t.walker t.turns t.last t.waits };
 
-    ghost invariant = { λ t. IsWalkerOf J.book.session J.places (plain_trace t.ground.now.plan.now) t.walker × (is_none t.last ≡ (t.turns == 0)) × (t.waits ≡ true → Waits J.book.session (plain_trace t.ground.now.plan.now) (member_of t.walker)) × IsLeftTruly D.view J.ground.opened t.walker };
+    ghost invariant = { λ t. IsWalkerOf J.book.session J.places (plain_trace t.ground.now.plan.now) t.walker × (is_none t.last ≡ (t.turns == 0)) × (t.waits ≡ true → Waits J.book.session (plain_trace t.ground.now.plan.now) (member_of t.walker)) };
 }
 
-impl<'a, 'g, R: Wait, J: Opening, D: Disk, G: Gate> Task for Turner<'a, 'g, R, J, D, G> {
+impl<'a, J: Whose, S: Calls<J>> Task for Turner<'a, J, S> {
     ghost use Rattle.pass_turns.specs.Turners.{Turned};
 
     ghost order = { λ t. t.process };
@@ -89,7 +84,7 @@ impl<'a, 'g, R: Wait, J: Opening, D: Disk, G: Gate> Task for Turner<'a, 'g, R, J
         self.last
     }
 
-    fn turn(&mut self, born: &mut Vec<Turner<'a, 'g, R, J, D, G>>) -> Turn {
+    fn turn(&mut self, born: &mut Vec<Turner<'a, J, S>>) -> Turn {
         let walker = mem::replace(&mut self.walker, Walker::Gone);
         let Went {
             walker,
@@ -97,7 +92,7 @@ impl<'a, 'g, R: Wait, J: Opening, D: Disk, G: Gate> Task for Turner<'a, 'g, R, J
             kid,
         } = go(walker, self.ground);
         bear(self.ground, kid, born);
-        self.walker = walker;
+        drop(mem::replace(&mut self.walker, walker));
         self.turns = one_more(self.turns);
         self.last = Some(answer);
         self.waits = is_waiting(answer);
@@ -120,10 +115,10 @@ fn one_more(turns: u64) -> u64
 }
 
 /// Puts a child behind those that were born.
-fn bear<'a, 'g, R: Wait, J: Opening, D: Disk, G: Gate>(
-    ground: &'a Ground<'a, 'g, R, J, D, G>,
+fn bear<'a, J: Whose, S: Calls<J>>(
+    ground: &'a Ground<'a, S>,
     kid: Option<Living<J>>,
-    born: &mut Vec<Turner<'a, 'g, R, J, D, G>>,
+    born: &mut Vec<Turner<'a, J, S>>,
 )
     requires kid { IsKidIfAny J.book.session (plain_trace ground.now.plan.now) kid }
     requires room { vec_len born.old + length (kid_tasks ground.now.plan.now kid) ≤ vec_capacity born.old }
@@ -136,14 +131,9 @@ fn bear<'a, 'g, R: Wait, J: Opening, D: Disk, G: Gate>(
 }
 
 /// A turn of a process, which makes none where it has made its exit or was left.
-fn go<'a, 'g, R: Wait, J: Opening, D: Disk, G: Gate>(
-    walker: Walker<J>,
-    ground: &Ground<'a, 'g, R, J, D, G>,
-) -> Went<J>
-    requires walker { IsWalkerOf J.book.session J.places (plain_trace ground.now.plan.now) walker }
-    requires fault { IsLeftTruly D.view J.ground.opened walker }
-    ensures went { WalkerWent J.book.session J.places (plain_trace ground.now.plan.now) walker result }
-    ensures fault { IsLeftTruly D.view J.ground.opened result.walker }
+fn go<'a, J: Whose, S: Calls<J>>(walker: Walker<J>, ground: &Ground<'a, S>) -> Went<J>
+    requires { IsWalkerOf J.book.session J.places (plain_trace ground.now.plan.now) walker }
+    ensures { WalkerWent J.book.session J.places (plain_trace ground.now.plan.now) walker result }
 {
     match walker {
         Walker::Living(living) => living.turn(ground),
@@ -161,12 +151,9 @@ fn go<'a, 'g, R: Wait, J: Opening, D: Disk, G: Gate>(
     }
 }
 
-impl<'a, 'g, R: Wait, J: Opening, D: Disk, G: Gate> Turner<'a, 'g, R, J, D, G> {
+impl<'a, J: Whose, S: Calls<J>> Turner<'a, J, S> {
     /// A process that has taken no turn.
-    pub(crate) fn new(
-        ground: &'a Ground<'a, 'g, R, J, D, G>,
-        living: Living<J>,
-    ) -> Turner<'a, 'g, R, J, D, G>
+    pub(crate) fn new(ground: &'a Ground<'a, S>, living: Living<J>) -> Turner<'a, J, S>
         requires { IsLivingOf J.book.session (plain_trace ground.now.plan.now) living }
         ensures { result ≡ new_task ground.now.plan.now living }
     {
@@ -181,18 +168,20 @@ impl<'a, 'g, R: Wait, J: Opening, D: Disk, G: Gate> Turner<'a, 'g, R, J, D, G> {
 
     /// How many entries its process has seen, where it lives and was not left.
     pub(crate) fn living(&self) -> Option<u64>
-        ensures { IsSome result → (self.now.ended ≡ false) × (self.now.cause ≡ None) }
+        ensures some { IsSome result → (self.now.ended ≡ false) × (self.now.cause ≡ None) }
+        ensures none { IsNone result → GoesOn self.now → ⊥ }
     {
         match &self.walker {
             Walker::Living(living) => Some(living.proc.seen()),
-            _ => None,
+            Walker::Ended(_) => None,
+            Walker::Left(_) => None,
+            Walker::Gone => unreachable!(),
         }
     }
 
     /// Why its process was left.
     pub(crate) fn cause(&self) -> Option<Cause>
-        ensures cause { result ≡ self.now.cause }
-        ensures fault { IfSome result (IsTrueCause D.view J.ground.opened) }
+        ensures { result ≡ self.now.cause }
     {
         match &self.walker {
             Walker::Left(left) => Some(left.cause),
@@ -213,7 +202,7 @@ impl<'a, 'g, R: Wait, J: Opening, D: Disk, G: Gate> Turner<'a, 'g, R, J, D, G> {
     }
 
     /// A living process comes to one history with another one that has ended. Any other one stays as it is.
-    pub(crate) fn meet(&mut self, other: &mut Turner<'a, 'g, R, J, D, G>)
+    pub(crate) fn meet(&mut self, other: &mut Turner<'a, J, S>)
         requires living { (self.old.ended ≡ false) × (self.old.cause ≡ None) }
         ensures first { IsLater self.old self.new }
         ensures other { IsLater other.old other.new }

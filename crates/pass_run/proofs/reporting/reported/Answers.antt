@@ -1,7 +1,7 @@
 use Rattle.std.proofs.Common.{◌≡◌, List, subst, sym, ⊎_elim}
 use Rattle.pass_entry.specs.declared.entry.Entry.{Entry}
 use Rattle.pass_report.specs.Reports.{IsLegalFrom}
-use Rattle.pass_run.specs.declared.status.Status.TheVariants as status
+use Rattle.pass_status.specs.declared.status.Status.TheVariants as status
 use Rattle.pass_run.specs.Stored.{IsEnd}
 use Rattle.pass_run.proofs.reporting.reported.Goals as goal
 

@@ -3,9 +3,9 @@ use Rattle.pass_entry.specs.declared.record.Record.{Record}
 use Rattle.pass_plain.specs.declared.start.Start.{Start}
 use Rattle.pass_replay.specs.Needs.{places_of}
 use Rattle.pass_trace.specs.TraceLines.{objects_of, plain_trace}
-use Rattle.pass_report.specs.Reports.{SameButBytes}
+use Rattle.pass_plain.specs.Outlines.{SameButBytes}
 use Rattle.pass_trace.specs.declared.trace.TraceLine.{TraceLine}
-use Rattle.pass_turns.specs.Runs.{IsRanBy}
+use Rattle.pass_walk.specs.Runs.{IsRanBy}
 use Rattle.pass_run.specs.Closing.{status_of}
 use Rattle.pass_run.specs.declared.ending.RunEnd.{RunEnd}
 use Rattle.pass_run.specs.OpenedRuns.{IsRunOver}
@@ -40,16 +40,16 @@ returns-in-Err g c =
 pub hand_out-requires-clause-enough : goal.hand_out-requires-clause-enough
 hand_out-requires-clause-enough g c =
     let ran = has_ran g.D.Disk.view (g.D.Disk.view c.args.first.value) c.args.trace.now.lines.items c.args.opened c.ends.ensures.ran c.requires.trace c.requires.session g.J.Whose.book c.requires.book g.J.Whose.places c.requires.places
-    c.run-trails.result.trails.items c.run-trails.result.last c.finish-finished.result.closed.history.items
-    (subst (λ (ls : List TraceLine). IsRanBy g.J.Whose.book.session g.J.Whose.places (plain_trace ls) c.run-trails.result.trails.items c.run-trails.result.last) c.requires.plan c.run-trails.ensures.ran)
+    c.serve-trails.result.trails.items c.serve-trails.result.last c.finish-finished.result.closed.history.items
+    (subst (λ (ls : List TraceLine). IsRanBy g.J.Whose.book.session g.J.Whose.places (plain_trace ls) c.serve-trails.result.trails.items c.serve-trails.result.last) c.requires.plan c.serve-trails.ensures)
     c.finish-finished.ensures.legal c.finish-finished.ensures.trails in
     ran.enough
 
 pub hand_out-requires-clause-forked : goal.hand_out-requires-clause-forked
 hand_out-requires-clause-forked g c =
     let ran = has_ran g.D.Disk.view (g.D.Disk.view c.args.first.value) c.args.trace.now.lines.items c.args.opened c.ends.ensures.ran c.requires.trace c.requires.session g.J.Whose.book c.requires.book g.J.Whose.places c.requires.places
-    c.run-trails.result.trails.items c.run-trails.result.last c.finish-finished.result.closed.history.items
-    (subst (λ (ls : List TraceLine). IsRanBy g.J.Whose.book.session g.J.Whose.places (plain_trace ls) c.run-trails.result.trails.items c.run-trails.result.last) c.requires.plan c.run-trails.ensures.ran)
+    c.serve-trails.result.trails.items c.serve-trails.result.last c.finish-finished.result.closed.history.items
+    (subst (λ (ls : List TraceLine). IsRanBy g.J.Whose.book.session g.J.Whose.places (plain_trace ls) c.serve-trails.result.trails.items c.serve-trails.result.last) c.requires.plan c.serve-trails.ensures)
     c.finish-finished.ensures.legal c.finish-finished.ensures.trails in
     ran.forked
 
@@ -60,7 +60,7 @@ returns g c =
     let lines = c.args.trace.now.lines.items in
     let book = g.J.Whose.book in
     let ground = g.J.Opening.ground in
-    let last = c.run-trails.result.last in
+    let last = c.serve-trails.result.last in
     let settled = c.finish-finished.result.settled in
     let f = c.finish-finished.result.closed in
     let said = c.finish-finished.ensures in
@@ -68,8 +68,8 @@ returns g c =
     let h = c.hand_out.ensures in
     let e = c.hand_out.result in
     let ran = has_ran g.D.Disk.view (g.D.Disk.view c.args.first.value) c.args.trace.now.lines.items c.args.opened c.ends.ensures.ran c.requires.trace c.requires.session g.J.Whose.book c.requires.book g.J.Whose.places c.requires.places
-    c.run-trails.result.trails.items c.run-trails.result.last c.finish-finished.result.closed.history.items
-    (subst (λ (ls : List TraceLine). IsRanBy g.J.Whose.book.session g.J.Whose.places (plain_trace ls) c.run-trails.result.trails.items c.run-trails.result.last) c.requires.plan c.run-trails.ensures.ran)
+    c.serve-trails.result.trails.items c.serve-trails.result.last c.finish-finished.result.closed.history.items
+    (subst (λ (ls : List TraceLine). IsRanBy g.J.Whose.book.session g.J.Whose.places (plain_trace ls) c.serve-trails.result.trails.items c.serve-trails.result.last) c.requires.plan c.serve-trails.ensures)
     c.finish-finished.ensures.legal c.finish-finished.ensures.trails in
     let start : SameButBytes f.start book.session.start × IsBare f.start = subst (λ (s : Start). SameButBytes s book.session.start × IsBare s) (sym said.start) begun.start in
     subst (λ (r : RunEnd g.row.D.Denot). IsRunOver view old lines r)

@@ -1,4 +1,4 @@
-use Rattle.pass_store.specs.Grounds.{ground_of}
+use Rattle.pass_safe.specs.Grounds.{ground_of}
 use Rattle.pass_run.proofs.storing.run_unreported.Given as goal
 
 abbrev pub ghosts-run_opened-J-Whose : goal.ghosts-run_opened-J-Whose

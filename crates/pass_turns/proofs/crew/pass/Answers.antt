@@ -21,5 +21,4 @@ returns-clause-ended g c is = none_left _ (nat_eq c.args.workers 1) c.args.tasks
 pub run_all-requires-send-T : goal.run_all-requires-send-T
 run_all-requires-send-T g c κs within =
     param_send 1 _ (arg_send _ Exit.no _
-    (turner_send (record { mir = named 3; lft = κs.1.1.1.0 }) (record { mir = named 4; lft = κs.1.1.1.1.0 }) (param 0 g.row.R) (param 1 g.row.J) (param 2 g.row.D) (param 3 g.row.G) g.J.Opening g.J.Whose g.D.Disk
-    c.type_bounds.sync-R c.type_bounds.send-J c.type_bounds.send-D c.type_bounds.sync-G))
+    (turner_send (record { mir = named 3; lft = κs.1.1.1.0 }) (param 1 g.row.J) (param 2 g.row.S) g.J.Whose c.type_bounds.send-J c.type_bounds.sync-S))

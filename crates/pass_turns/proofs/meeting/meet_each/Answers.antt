@@ -10,6 +10,7 @@ use Rattle.pass_turns.proofs.meeting.meet_each.Goals as goal
 pub loop-place-init : goal.loop-place-init
 loop-place-init g c = record {
   size = refl;
+  room = refl;
   later = are_later_same c.args.others.now.items;
   first = later_same c.args.first.now;
   met = λ k t less at ended. absurd (omega (arith, less));
@@ -24,6 +25,7 @@ loop-place-preserved g c =
     let i : ℕ = c.loop-place.place in
     record {
       size = c.loop-place.invariant.size;
+      room = c.loop-place.invariant.room;
       later = are_later_set c.args.others.now.items us i c.meet.new.other c.loop-place.invariant.later
           (λ u there. subst (λ (u : TurnerState). IsLater u c.meet.new.other)
           (c.index_mut.ensures.value ∙ some_is (get_or us i c.index_mut.result.now) u (sym (slice_get-get_or us i c.index_mut.result.now (slice_get_within us i u there)) ∙ there)) c.meet.ensures.other);

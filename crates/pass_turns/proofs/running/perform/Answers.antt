@@ -1,20 +1,20 @@
 use Rattle.std.proofs.Common.{◌≡◌, ◌≤◌, ◌+◌, ◌∙◌, ℕ, List, [], ◌∷◌, ◌++◌, ap, arith, subst, sym, sum_by}
 use Rattle.pass_trace.specs.TraceLines.{plain_trace}
 use Rattle.pass_proc.specs.Ends.{TrailView}
-use Rattle.pass_turns.specs.declared.ends.Last.{Last}
+use Rattle.pass_walk.specs.declared.ends.Last.{Last}
 use Rattle.pass_turns.specs.Performed.{IsPerformed}
 use Rattle.pass_turns.specs.Tasks.{new_task, task_room}
 use Rattle.pass_turns.specs.Turners.{AreTasks, TurnerState}
 use Rattle.pass_turns.proofs.Crews.{unmade_so}
-use Rattle.pass_turns.proofs.LeftLemmas.{left_some}
+use Rattle.pass_walk.proofs.LeftLemmas.{left_some}
 use Rattle.pass_turns.proofs.Performing.{first_living, first_is, first_are, trails_fit}
 use Rattle.pass_turns.proofs.running.perform.Goals as goal
 
 pub unmade-requires : goal.unmade-requires
 unmade-requires g c = record { room = (c.requires.room.empty, (let some = left_some (plain_trace c.args.ground.now.plan.now) 1 in omega (arith, some, c.requires.room.fits))) }
 
-pub returns-in_default-clause-performed : goal.returns-in_default-clause-performed
-returns-in_default-clause-performed g c =
+pub returns-in_default : goal.returns-in_default
+returns-in_default g c =
     let session = g.J.Whose.book.session in
     let places = g.J.Whose.places in
     let lines = c.args.ground.now.plan.now in
@@ -35,8 +35,8 @@ into_trails-requires g c =
     let fit = trails_fit g.row.J.Denot g.J.Whose.book.session lines c.lives.ensures.newborn c.args.first c.between.ensures c.requires.first c.first.result c.first.ensures c.new.result c.passes-crew.result.0 _ fewer c.requires.room.fits in
     record { room = (c.requires.room.empty, fit) }
 
-pub returns-clause-performed : goal.returns-clause-performed
-returns-clause-performed g c =
+pub returns : goal.returns
+returns g c =
     let lines = c.args.ground.now.plan.now in
     let number : ℕ = g.J.Whose.book.session.start.ceiling + 1 in
     let one : TurnerState = new_task lines (first_living g.row.J.Denot g.J.Whose.book.session lines c.lives.ensures.newborn c.args.first c.between.ensures c.requires.first c.first.result c.first.ensures c.new.result) in

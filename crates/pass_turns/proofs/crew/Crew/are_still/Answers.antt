@@ -15,7 +15,7 @@ returns-then-all_still g c still =
     let still_so : (ts us : List TurnerState) → ts ≡ us → All (IsStill session c.in-Some.count) ts → All (IsStill session c.in-Some.count) us = λ ts us same all. subst (All (IsStill session c.in-Some.count)) same all in
     subst (AreAllStill session) c.self.view_is (record {
       count = c.in-Some.count;
-      some = living_first turning ended (subst HasLiving c.as_slice.ensures.value (some_living c.as_slice.result.now _ c.in-Some.ensures.0 c.in-Some.ensures.1));
+      some = living_first turning ended (subst HasLiving c.as_slice.ensures.value (some_living c.as_slice.result.now _ c.in-Some.ensures.some.0 c.in-Some.ensures.some.1));
       all = All-append (IsStill session c.in-Some.count) turning ended
           (still_so c.as_slice-2.result.now turning c.as_slice-2.ensures.value (c.all_still.ensures c.if-all_still.true))
           (still_so c.as_slice-then-all_still.result.now ended c.as_slice-then-all_still.ensures.value (c.all_still-then-all_still.ensures still));

@@ -4,9 +4,8 @@ use Rattle.pass_turns.specs.Tasks.{task_of}
 use Rattle.pass_turns.specs.Turners.{TurnerState}
 use Rattle.pass_turns.proofs.task.Turner.meet.Goals as goal
 use Rattle.pass_trace.specs.TraceLines.{plain_trace}
-use Rattle.pass_turns.proofs.Faults.{met_truly}
 use Rattle.pass_turns.proofs.MetTasks.{met_so}
-use Rattle.pass_turns.proofs.MetWalkers.{knows}
+use Rattle.pass_walk.proofs.MetWalkers.{knows}
 
 pub met-requires-clause-other : goal.met-requires-clause-other
 met-requires-clause-other g c = knows g.J.Whose.book.session g.J.Whose.places (plain_trace c.other.inside.ground.now.plan.now) c.other.inside.walker c.other.invariant.0
@@ -45,8 +44,7 @@ invariant_of-self g c =
     let lines = c.self.inside.ground.now.plan.now in
     let others = c.other.inside.ground.now.plan.now in
     let so = met_so session places lines others c.self.inside.walker c.other.inside.walker (c.met.new.first, c.met.new.other) c.met.ensures c.self.invariant.0 c.other.invariant.0 in
-    let truly = met_truly g.D.Disk.view g.J.Opening.ground.opened session (plain_trace lines) c.self.inside.walker c.other.inside.walker (c.met.new.first, c.met.new.other) c.met.ensures c.self.invariant.3 c.other.invariant.3 in
-    (so.first_is, c.self.invariant.1, λ h. absurd (let z : false ≡ true = h in cc), truly.0)
+    (so.first_is, c.self.invariant.1, λ h. absurd (let z : false ≡ true = h in cc))
 
 pub invariant_of-other : goal.invariant_of-other
 invariant_of-other g c =
@@ -55,5 +53,4 @@ invariant_of-other g c =
     let lines = c.self.inside.ground.now.plan.now in
     let others = c.other.inside.ground.now.plan.now in
     let so = met_so session places lines others c.self.inside.walker c.other.inside.walker (c.met.new.first, c.met.new.other) c.met.ensures c.self.invariant.0 c.other.invariant.0 in
-    let truly = met_truly g.D.Disk.view g.J.Opening.ground.opened session (plain_trace lines) c.self.inside.walker c.other.inside.walker (c.met.new.first, c.met.new.other) c.met.ensures c.self.invariant.3 c.other.invariant.3 in
-    (so.second_is, c.other.invariant.1, λ h. absurd (let z : false ≡ true = h in cc), truly.1)
+    (so.second_is, c.other.invariant.1, λ h. absurd (let z : false ≡ true = h in cc))

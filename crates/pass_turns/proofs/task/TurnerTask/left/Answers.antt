@@ -1,6 +1,6 @@
 use Rattle.std.proofs.Common.{subst}
 use Rattle.pass_trace.specs.TraceLines.{plain_trace}
-use Rattle.pass_turns.specs.Walkers.{IsWalkerOf}
+use Rattle.pass_walk.specs.Walkers.{IsWalkerOf}
 use Rattle.pass_turns.proofs.task.TurnerTask.left.Goals as goal
 
 pub left-requires : goal.left-requires

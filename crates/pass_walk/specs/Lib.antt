@@ -1,0 +1,10 @@
+pub mod Tables
+pub mod Lefts
+pub mod Behind
+pub mod Calls
+pub mod Causes
+pub mod Local
+pub mod Walkers
+pub mod Outcomes
+pub mod Meetings
+pub mod Runs

@@ -2,10 +2,11 @@
 use Rattle.std.proofs.Common.{◌≡◌, ◌∙◌, ℕ, List, refl, sym, ap, subst, arith, ⊎_elim}
 use Rattle.std.specs.Prelude.{◌≢◌, ◌++◌, None, IsTrue}
 use Rattle.pass_outside.specs.Moments.{Moment, IsAtEnd}
-use Rattle.pass_run.specs.declared.status.Status.{Status}
-use Rattle.pass_run.specs.declared.status.Status.TheVariants as status
+use Rattle.pass_status.specs.declared.status.Status.{Status}
+use Rattle.pass_status.specs.declared.status.Status.TheVariants as status
 use Rattle.pass_run.specs.Stored.{session_fault, IsEnd}
-use Rattle.pass_cli.specs.Answers.{Outcome, SourceSeen, SinkSeen, IsTraced, IsNoDiskFault, IsAnswer, text_with}
+use Rattle.pass_ask.specs.Answers.{SinkSeen, IsNoDiskFault, text_with}
+use Rattle.pass_cli.specs.Answers.{Outcome, SourceSeen, IsTraced, IsAnswer}
 
 -- what is written of a run that came to its end is its report
 report_of_end : (s : Status) (report : List ℕ) → IsEnd s → text_with s report ≡ report

@@ -6,15 +6,16 @@ use Rattle.pass_outside.specs.Faults.{HasRisen}
 use Rattle.pass_outside.specs.Moments.{Moment}
 use Rattle.pass_run.specs.Ends.{EndsAs}
 use Rattle.pass_run.specs.Stored.{session_fault, IsEnd, HasEnded}
-use Rattle.pass_run.specs.declared.status.Status.{Status}
-use Rattle.pass_run.specs.declared.status.Status.TheVariants as status
+use Rattle.pass_status.specs.declared.status.Status.{Status}
+use Rattle.pass_status.specs.declared.status.Status.TheVariants as status
 use Rattle.pass_trace.specs.TraceLines.{session_of_trace, plain_trace}
 use Rattle.pass_trace.specs.Traces.{trace_of}
 use Rattle.pass_trace.specs.declared.trace.TraceLine.{TraceLine}
 use Rattle.pass_trace.specs.declared.trace.TraceReason.{TraceReason}
 use Rattle.pass_trace.proofs.Faults.{not_text-from_fault}
 use Rattle.pass_drawn.specs.Lawful.{NeverStuckLaw}
-use Rattle.pass_cli.specs.Answers.{Outcome, HasRun, IsNoDiskFault, IsTraced, ends_run}
+use Rattle.pass_ask.specs.Answers.{IsNoDiskFault}
+use Rattle.pass_cli.specs.Answers.{Outcome, HasRun, IsTraced, ends_run}
 use Rattle.pass_cli.specs.Drawn.{HasDrawn, IsTold, drawn_bytes, ends_drawn}
 
 -- a count of 0 that stays doesn't rise

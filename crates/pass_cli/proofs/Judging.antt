@@ -11,11 +11,12 @@ use Rattle.pass_trace.specs.declared.trace.TraceLine.{TraceLine}
 use Rattle.pass_trace.specs.declared.trace.TraceReason.{TraceReason}
 use Rattle.pass_trace.specs.Traces.{trace_of, IsTraceText, IsFirstFault}
 use Rattle.pass_trace.proofs.Faults.{not_text-from_fault, same_fault}
-use Rattle.pass_run.specs.declared.status.Status.{Status}
-use Rattle.pass_run.specs.declared.status.Status.TheVariants as status
+use Rattle.pass_status.specs.declared.status.Status.{Status}
+use Rattle.pass_status.specs.declared.status.Status.TheVariants as status
 use Rattle.pass_trace.specs.Lines.{is_too_long}
 use Rattle.pass_run.specs.Stored.{session_fault, IsStoreJudged, IsEnd, IsOfDisk, IsHeldBack, IsOverStore, HasEnded}
-use Rattle.pass_cli.specs.Answers.{OfBytes, IsTraced, IsRefusal, IsTraceRead, HasFailed, IsRunJudged, Outcome, IsNothing, IsRefused, IsUnwritten, HasRun, comes_before, ends_run}
+use Rattle.pass_ask.specs.Answers.{HasFailed}
+use Rattle.pass_cli.specs.Answers.{OfBytes, IsTraced, IsRefusal, IsTraceRead, IsRunJudged, Outcome, IsNothing, IsRefused, IsUnwritten, HasRun, comes_before, ends_run}
 use Rattle.pass_run.proofs.Moved.{alone_untouched, leaves_untouched, refused_untouched}
 use Rattle.pass_trace.proofs.TooLong.{too_long_is_none, too_long_stays}
 use Rattle.pass_entry.proofs.Lists.{some_is}

@@ -1,10 +1,10 @@
 -- What the program answers, and what it writes. This project's own rule.
-use Rattle.std.specs.Prelude.{ℕ, ◌≡◌, ◌≢◌, ◌⊎◌, ◌↔◌, ◌<◌, Bool, true, false, IsTrue, List, [], ◌++◌, Some, None, Result, Ok, Err, if◌then◌else◌}
+use Rattle.std.specs.Prelude.{ℕ, ◌≡◌, ◌≢◌, ◌⊎◌, ◌↔◌, ◌<◌, Bool, true, false, IsTrue, List, [], ◌++◌, Some, None, Result, Ok, Err}
 use Rattle.pass_entry.specs.declared.entry.Entry.{Entry}
 use Rattle.pass_entry.specs.declared.entry.Synced.{Synced}
 use Rattle.pass_entry.specs.declared.record.Record.{Record}
 use Rattle.pass_outside.specs.Faults.{HasRisen}
-use Rattle.pass_outside.specs.Moments.{Moment, IsAtEnd}
+use Rattle.pass_outside.specs.Moments.{Moment}
 use Rattle.pass_plain.specs.declared.start.Start.{Start}
 use Rattle.pass_recover.specs.declared.fault.OpenFault.{OpenFault}
 use Rattle.pass_trace.specs.declared.trace.Trace.{Trace}
@@ -12,13 +12,13 @@ use Rattle.pass_trace.specs.declared.trace.TraceReason.{TraceReason}
 use Rattle.pass_trace.specs.TraceLines.{objects_of}
 use Rattle.pass_trace.specs.Traces.{trace_of, IsTraceText, IsFirstFault}
 use Rattle.pass_run.specs.declared.ending.RunEnd.{RunEnd}
-use Rattle.pass_run.specs.declared.status.Status.{Status}
-use Rattle.pass_run.specs.declared.status.Status.TheVariants as status
-use Rattle.pass_run.specs.Statuses.{status_text}
-use Rattle.pass_run.specs.Reading.{StopsInTime}
+use Rattle.pass_status.specs.declared.status.Status.{Status}
+use Rattle.pass_status.specs.declared.status.Status.TheVariants as status
+use Rattle.pass_status.specs.Reading.{StopsInTime}
 use Rattle.pass_trace.specs.Lines.{is_too_long}
 use Rattle.pass_run.specs.Stored.{session_fault, IsEnd, IsUnopened, IsLeftAlone, LeavesRead, HasBegun, IsRefusedOpening, IsHeldBack, IsOverStore, HasEnded}
-use Rattle.pass_run.specs.Writing.{IsPartOfText}
+use Rattle.pass_status.specs.Writing.{IsPartOfText}
+use Rattle.pass_ask.specs.Answers.{IsNoDiskFault, HasFailed, SinkSeen, text_with}
 use Rattle.pass_cli.specs.declared.main_call.Ended.{Ended}
 
 -- the property holds of some bytes: those that the source had left, where it tells them
@@ -59,16 +59,6 @@ ends_run (status.BadStore fault) = true
 ends_run status.Stuck = true
 ends_run status.Done = true
 ends_run _ = false
-
--- no device call failed
-abbrev pub IsNoDiskFault : Status → Type 0
-IsNoDiskFault judged = (opened now : ℕ) → judged ≢ status.DiskFault opened now
-
--- a device call failed: these are the counts of faults before and after, and the count rose, or a count stands at its end
-pub record HasFailed (old new : Moment) (opened now : ℕ) : Type 0 where
-  pub before : opened ≡ old.faults
-  pub after : now ≡ new.faults
-  pub risen : (opened < now) ⊎ IsAtEnd new
 
 -- What a run is judged by: the bytes of the source, its count of faults before and after, the bytes of the log area, and the
 -- disk before and after. The source's faults come first, then the trace's, the device's faults, and what the log has; and then the
@@ -145,28 +135,12 @@ pub record HasRun {D : Type 0} (view : D → Moment) (bytes : List ℕ) (before 
   pub recorded : IsRefused (view old) (view new) judged out ⊎ (IsHeld (view old) (view new) bytes judged out ⊎ IsRecorded (view old) (view new) bytes out)
   pub whole : IsEnd judged → IsWhole (view old) (view new) bytes out judged report
 
--- the trace was run, so that there is a report
-abbrev pub is_reported : Status → Bool
-is_reported status.Done = true
-is_reported status.Stuck = true
-is_reported _ = false
-
--- what is written for a status, given the report
-abbrev pub text_with : Status → List ℕ → List ℕ
-text_with judged report = if is_reported judged then report else status_text judged
-
 -- what a call saw of its source: whether it tells its bytes, the bytes that it had left, and its count of faults before and after
 pub record SourceSeen : Type 0 where
   pub tells : Bool
   pub left : List ℕ
   pub before : ℕ
   pub after : ℕ
-
--- what a call saw of its sink: whether it tells what it took, and the bytes that it had taken before and after
-pub record SinkSeen : Type 0 where
-  pub tells : Bool
-  pub before : List ℕ
-  pub after : List ℕ
 
 -- What stands behind the answer of a run, other than want of memory: the bytes that the source had left, where it tells
 -- them; the status that was judged by them, which is the answer unless the sink failed; and its text, which the sink took

@@ -6,15 +6,16 @@ use Rattle.pass_plain.specs.Runs.{IsRun}
 use Rattle.pass_plain.specs.Sessions.{Session}
 use Rattle.pass_gen.specs.Generated.{generated}
 use Rattle.pass_outside.specs.Moments.{Moment}
-use Rattle.pass_run.specs.declared.status.Status.{Status}
-use Rattle.pass_run.specs.declared.status.Status.TheVariants as status
+use Rattle.pass_status.specs.declared.status.Status.{Status}
+use Rattle.pass_status.specs.declared.status.Status.TheVariants as status
 use Rattle.pass_run.specs.Stored.{session_fault}
-use Rattle.pass_run.specs.Writing.{IsPartOfText}
+use Rattle.pass_status.specs.Writing.{IsPartOfText}
 use Rattle.pass_trace.specs.Texts.{text_of}
 use Rattle.pass_drawn.specs.Lawful.{IsFreshRun}
 use Rattle.pass_drawn.specs.Runs.{drawn_trace}
 use Rattle.pass_drawn.specs.Texts.{drawn_text, run_text, writes_drawn, bytes_drawn}
-use Rattle.pass_cli.specs.Answers.{Outcome, HasRun, IsNoDiskFault, IsTraced, SinkSeen, text_with}
+use Rattle.pass_ask.specs.Answers.{IsNoDiskFault, SinkSeen, text_with}
+use Rattle.pass_cli.specs.Answers.{Outcome, HasRun, IsTraced}
 
 -- the text of the trace that a number draws
 abbrev pub drawn_bytes : ℕ → ℕ → List ℕ

@@ -1,11 +1,2 @@
 pub mod Answers
-pub mod Asked
-pub mod Checks
-pub mod Follows
-pub mod GraphAnswers
-pub mod Line
-pub mod Matches
-pub mod Numbers
-pub mod Shown
-pub mod Words
 pub mod Drawn

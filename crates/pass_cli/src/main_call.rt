@@ -3,21 +3,19 @@ ghost use Rattle.std.specs.Prelude.{ℕ, ◌≡◌, ◌≢◌, ◌↔◌, ◌⊎
 ghost use Rattle.pass_outside.specs.Faults.{HasRisen};
 ghost use Rattle.pass_run.specs.Stored.{IsBackedBy, IsLater, IsLeftAlone};
 ghost use Rattle.pass_cli.specs.Answers.{OfBytes, IsReadInTime, IsAnswer, IsNothing, IsUnrecorded, IsRecorded, outcome_of};
-ghost use Rattle.pass_cli.specs.Asked.{IsAsked, IsPut, IsQuestionRead, asked_in};
-ghost use Rattle.pass_cli.specs.Follows.{IsFollowAnswer, IsFollowedOn, OfRead};
+ghost use Rattle.pass_ask.specs.Asked.{IsAsked, IsPut, IsQuestionRead, asked_in};
+ghost use Rattle.pass_ask.specs.Follows.{IsFollowAnswer, IsFollowedOn, OfRead};
 ghost use Rattle.pass_cli.specs.Drawn.{IsGenAnswer, drawn_bytes};
-ghost use Rattle.pass_cli.specs.Words.{drawn_of, is_follow, is_gen, is_run, question_of};
+ghost use Rattle.pass_ask.specs.Words.{drawn_of, is_follow, is_gen, is_run, question_of};
 
-use crate::asking::{Asked, ask_for};
 use crate::drawing::judge_drawn;
-use crate::following::{Followed, follow};
 use crate::verdict::judge;
-use crate::words::{Command, Question, read_words};
-use crate::writing::write_answer;
+use pass_ask::{Asked, Command, Followed, Question, ask_for, follow, read_words, write_answer};
 use pass_entry::{Entry, Record, Synced};
 use pass_outside::{Disk, Gate, Sink, Source};
 use pass_plain::Start;
-use pass_run::{RunEnd, Status, empty_start};
+use pass_run::{RunEnd, empty_start};
+use pass_status::Status;
 use std::alloc::Global;
 use std::sync::Wait;
 use std::thread::Threads;
@@ -49,7 +47,8 @@ pub fn pass_main<R: Threads + Wait + Sync, S: Source, K: Sink, D: Disk + Send, G
     ensures run { IsTrue (is_run (map string_bytes words.now)) → result.status ≢ Status.NoMemory → IsAnswer D.view
         (record { tells = S.tells; left = S.left source.old; before = S.fault_count source.old; after = S.fault_count source.new })
         (record { tells = K.tells; before = K.taken sink.old; after = K.taken sink.new }) disk result.disk (outcome_of result) result.status }
-    // What a run hands out, also where memory was refused.
+    // What a run hands out, also where memory was refused, and what a crash leaves of it: since the opening, and since each sync, with the
+    // data of the file that was synced.
     ensures recorded { IsTrue (is_run (map string_bytes words.now)) → OfBytes S.tells (S.left source.old)
         (λ bytes. IsUnrecorded (D.view disk) (D.view result.disk) bytes (outcome_of result) ⊎ IsRecorded (D.view disk) (D.view result.disk) bytes (outcome_of result)) }
     // Each sync of which the history tells is among the syncs: it has the entry by which its call began, and none from its own place on.

@@ -4,7 +4,7 @@ ghost use Rattle.pass_outside.specs.Faults.{HasRisen};
 ghost use Rattle.pass_cli.specs.Answers.{OfBytes, IsTraceRead, IsReadInTime};
 
 use pass_outside::Source;
-use pass_run::{ReadEnd, Status, read_source};
+use pass_status::{ReadEnd, Status, read_source};
 use pass_trace::{Trace, TraceFault, parse};
 use std::alloc::Global;
 

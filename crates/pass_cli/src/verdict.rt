@@ -6,7 +6,8 @@ ghost use Rattle.pass_cli.specs.Answers.{OfBytes, HasRun, IsUnrecorded, IsRecord
 
 use crate::reading::read_trace;
 use pass_outside::{Disk, Gate, Source};
-use pass_run::{RunEnd, Status, run_trace, unopened};
+use pass_run::{RunEnd, run_trace, unopened};
+use pass_status::Status;
 use std::alloc::Global;
 use std::sync::Wait;
 use std::thread::Threads;

@@ -16,6 +16,13 @@ use Rattle.pass_entry.proofs.Lists.{below_is, not_below}
 pub followed-append : (t : Told) (xs ys : List ℕ) → followed t (xs ++ ys) ≡ followed (followed t xs) ys
 followed-append t xs ys = fold-append arrived t xs ys
 
+-- behind a bad frame nothing counts
+pub bad_stays : (t : Told) (xs : List ℕ) → t.bad ≡ true → followed t xs ≡ t
+bad_stays t [] bad = refl
+bad_stays t (x ∷ xs) bad =
+    let one : arrived t x ≡ t = ap (λ (b : Bool). if b then t else judged t (t.begun ++ x ∷ []) (judgement t.at (t.begun ++ x ∷ []))) bad in
+    ap (λ (u : Told). followed u xs) one ∙ bad_stays t xs bad
+
 -- a judgement by its four tests
 abbrev pub by_tests : Bool → Bool → Bool → Bool → Judgement
 by_tests gate few fit less = if not gate then Bad else (if few then Begun else (if not fit then Bad else (if less then Begun else Whole)))

@@ -11,19 +11,13 @@ use Rattle.pass_standby.specs.declared.fault.StandbyFault.{StandbyFault}
 use Rattle.pass_standby.specs.declared.fault.StandbyFault.TheVariants as faults
 use Rattle.pass_standby.specs.declared.frame.Judgement.{Judgement}
 use Rattle.pass_standby.specs.declared.frame.Judgement.TheVariants.{Begun, Bad, Whole}
-use Rattle.pass_standby.specs.Streams.{head, judgement, batch_in, Told, spoiled, with_batch, judged, arrived, followed, next_stop, IsBegun, IsWhole, HasFrames, HasSomeFrames}
-use Rattle.pass_standby.specs.Standing.{told_so_far, IsFollowing, HasBegun, Spoils, LeavesEither, Stops, Starves, Undone, Ends}
+use Rattle.pass_standby.specs.Streams.{head, judgement, batch_in, Told, spoiled, with_batch, judged, arrived, followed, bytes_as, bytes_with, next_stop, IsBegun, IsWhole, HasFrames, HasSomeFrames}
+use Rattle.pass_standby.specs.Standing.{told_so_far, log_to, IsFollowing, HasBegun, Spoils, LeavesEither, Reads, Stops, Starves, Undone, Ends}
 use Rattle.pass_log.specs.Log.{log_end, LeavesStore}
 use Rattle.pass_log.proofs.Append.{leaves_more, leaves_none}
-use Rattle.pass_standby.proofs.Coming.{followed-append, gathered, below_stop, whole_is}
+use Rattle.pass_standby.proofs.Carried.{bytes_none, bytes_then}
+use Rattle.pass_standby.proofs.Coming.{followed-append, bad_stays, gathered, below_stop, whole_is}
 use Rattle.pass_standby.proofs.Keeping.{work_none, work_then, work_as}
-
--- behind a bad frame nothing counts
-pub bad_stays : (t : Told) (xs : List ℕ) → t.bad ≡ true → followed t xs ≡ t
-bad_stays t [] bad = refl
-bad_stays t (x ∷ xs) bad =
-    let one : arrived t x ≡ t = ap (λ (b : Bool). if b then t else judged t (t.begun ++ x ∷ []) (judgement t.at (t.begun ++ x ∷ []))) bad in
-    ap (λ (u : Told). followed u xs) one ∙ bad_stays t xs bad
 
 -- no byte of a frame
 pub begun_none : (at : ℕ) → IsBegun at []
@@ -69,8 +63,32 @@ module _ (t : Told) (front rest : List ℕ) where
       let all = followed-append t front rest in
       record { bad = ap (λ (u : Told). u.bad) all ∙ s.bad; list_is = s.list_is ∙ ap (λ (u : Told). u.list) (sym all); at_is = s.at_is ∙ ap (λ (u : Told). u.at) (sym all) }
 
-  pub stops_behind : (m : Moment) (list : List Record) (at : ℕ) → Stops m (followed t front) rest list at → Stops m t (front ++ rest) list at
-  stops_behind m list at s =
+  module _ (fine : t.bad ≡ false) (good : (followed t front).bad ≡ false) where
+    pub bytes_behind : (kept : List ℕ) (n : ℕ) → bytes_with (bytes_with kept t front) (followed t front) (take n rest) ≡ bytes_with kept t (take (length front + n) (front ++ rest))
+    bytes_behind kept n = bytes_then kept t front (take n rest) fine good ∙ ap (bytes_with kept t) (sym (take_behind front rest n))
+
+    -- a log with frames of the rest has them behind those of the front
+    frames_behind : (kept : List ℕ) (n : ℕ) (log : List ℕ) → HasFrames (followed (followed t front) (take n rest)) (bytes_with (bytes_with kept t front) (followed t front) (take n rest)) log
+        → HasFrames (followed t (take (length front + n) (front ++ rest))) (bytes_with kept t (take (length front + n) (front ++ rest))) log
+    frames_behind kept n log h =
+        subst (λ (u : Told). HasFrames u (bytes_with kept t (take (length front + n) (front ++ rest))) log) (sym (behind n))
+        (subst (λ (l : List ℕ). HasFrames (followed (followed t front) (take n rest)) l log) (bytes_behind kept n) h)
+
+    pub some_behind : (kept log : List ℕ) → HasSomeFrames (bytes_with kept t front) (followed t front) rest log → HasSomeFrames kept t (front ++ rest) log
+    some_behind kept log h = (length front + h.0, within_both h.0 h.1, frames_behind kept h.0 log h.2)
+
+    either_behind : (kept : List ℕ) (n : ℕ) (log : List ℕ) → HasFrames (followed (followed t front) (take n rest)) (bytes_with (bytes_with kept t front) (followed t front) (take n rest)) log
+        ⊎ HasFrames (followed (followed t front) (take (n + 1) rest)) (bytes_with (bytes_with kept t front) (followed t front) (take (n + 1) rest)) log
+        → HasFrames (followed t (take (length front + n) (front ++ rest))) (bytes_with kept t (take (length front + n) (front ++ rest))) log
+        ⊎ HasFrames (followed t (take (length front + n + 1) (front ++ rest))) (bytes_with kept t (take (length front + n + 1) (front ++ rest))) log
+    either_behind kept n log (inl h) = inl (frames_behind kept n log h)
+    either_behind kept n log (inr h) =
+        let same : length front + (n + 1) ≡ length front + n + 1 = omega arith in
+        inr (subst (λ (k : ℕ). HasFrames (followed t (take k (front ++ rest))) (bytes_with kept t (take k (front ++ rest))) log) same (frames_behind kept (n + 1) log h))
+
+  pub stops_behind : (m : Moment) (kept mid : List ℕ) (list : List Record) (at : ℕ) → (IsTrue m.tells → mid ≡ bytes_with kept t front) → t.bad ≡ false → (followed t front).bad ≡ false
+      → Stops m mid (followed t front) rest list at → Stops m kept t (front ++ rest) list at
+  stops_behind m kept mid list at same fine fine_front s =
       let all = behind s.count in
       let next : followed t (take (length front + s.count + 1) (front ++ rest)) ≡ followed (followed t front) (take (s.count + 1) rest) =
       ap (λ (n : ℕ). followed t (take n (front ++ rest))) (one_more s.count) ∙ behind (s.count + 1) in
@@ -81,8 +99,9 @@ module _ (t : Told) (front rest : List ℕ) where
         whole = omega (arith, ap (λ (u : Told). u.at) all, ap (λ (u : Told). u.at) next, s.whole);
         list_is = s.list_is ∙ ap (λ (u : Told). u.list) (sym all);
         at_is = s.at_is ∙ ap (λ (u : Told). u.at) (sym all);
-        leaves = subst (λ (u : Told). LeavesEither m u (followed t (take (length front + s.count + 1) (front ++ rest)))) (sym all)
-            (subst (LeavesEither m (followed (followed t front) (take s.count rest))) (sym next) s.leaves);
+        leaves = λ tells c may. either_behind fine fine_front kept s.count c.log (subst
+            (λ (l : List ℕ). HasFrames (followed (followed t front) (take s.count rest)) (bytes_with l (followed t front) (take s.count rest)) c.log
+            ⊎ HasFrames (followed (followed t front) (take (s.count + 1) rest)) (bytes_with l (followed t front) (take (s.count + 1) rest)) c.log) (same tells) (s.leaves tells c may));
       }
     where
       one_more : (n : ℕ) → length front + n + 1 ≡ length front + (n + 1)
@@ -100,9 +119,6 @@ module _ (t : Told) (front rest : List ℕ) where
         least = omega (arith, s.least, more);
         at_is = s.at_is ∙ ap (λ (u : Told). u.at) (sym all);
       }
-
-  pub some_behind : (log : List ℕ) → HasSomeFrames (followed t front) rest log → HasSomeFrames t (front ++ rest) log
-  some_behind log h = (length front + h.0, within_both h.0 h.1, subst (λ (u : Told). HasFrames u log) (sym (behind h.0)) h.2)
 
 -- no record goes
 judged_grows : (t : Told) (frame : List ℕ) (j : Judgement) → length t.list ≤ length (judged t frame j).list
@@ -129,16 +145,21 @@ followed_grows t [] = omega arith
 followed_grows t (x ∷ bytes) = omega (arith, arrived_grows t x, followed_grows (arrived t x) bytes)
 
 -- what a fault has left behind bytes that were taken
-pub ends_behind : {D : Type 0} (view : D → Moment) (t : Told) (front rest : List ℕ) (new : Following D) (e : StandbyFault)
-    → Ends view (followed t front) rest new e → Ends view t (front ++ rest) new e
-ends_behind view t front rest new faults.DiskFault h = stops_behind t front rest (view new.disk) new.index (log_end new.log) h
-ends_behind view t front rest new (faults.BadStream at) h = (h.0, spoils_behind t front rest new.index (log_end new.log) h.1, h.2)
-ends_behind view t front rest new faults.NoMemory h = starves_behind t front rest new.index (log_end new.log) (followed_grows t front) h
-ends_behind view t front rest new (faults.BadLog at) h = h
-ends_behind view t front rest new (faults.Closed at) h = h
+pub ends_behind : {D : Type 0} (view : D → Moment) (kept mid : List ℕ) (t : Told) (front rest : List ℕ) (new : Following D) (e : StandbyFault)
+    → (IsTrue (view new.disk).tells → mid ≡ bytes_with kept t front) → t.bad ≡ false → (followed t front).bad ≡ false → Ends view mid (followed t front) rest new e → Ends view kept t (front ++ rest) new e
+ends_behind view kept mid t front rest new faults.DiskFault same fine good h = stops_behind t front rest (view new.disk) kept mid new.index (log_end new.log) same fine good h
+ends_behind view kept mid t front rest new (faults.BadStream at) same fine good h = (
+  h.0,
+  spoils_behind t front rest new.index (log_end new.log) h.1,
+  h.2,
+  λ tells. h.3 tells ∙ ap (λ (l : List ℕ). bytes_with l (followed t front) rest) (same tells) ∙ bytes_then kept t front rest fine good,
+)
+ends_behind view kept mid t front rest new faults.NoMemory same fine good h = starves_behind t front rest new.index (log_end new.log) (followed_grows t front) h
+ends_behind view kept mid t front rest new (faults.BadLog at) same fine good h = h
+ends_behind view kept mid t front rest new (faults.Closed at) same fine good h = h
 
 -- what was left of a frame that wasn't kept
-module _ {D : Type 0} (view : D → Moment) (t u : Told) (piece : List ℕ) (used : ℕ) (fine : t.bad ≡ false) (within : used ≤ length piece) (is : followed t (take used piece) ≡ u) where
+module _ {D : Type 0} (view : D → Moment) (kept : List ℕ) (t u : Told) (piece : List ℕ) (used : ℕ) (fine : t.bad ≡ false) (within : used ≤ length piece) (is : followed t (take used piece) ≡ u) where
   bad_piece : u.bad ≡ true → followed t piece ≡ u
   bad_piece bad =
       ap (followed t) (sym (take-append-drop used piece)) ∙ followed-append t (take used piece) (drop used piece)
@@ -160,9 +181,13 @@ module _ {D : Type 0} (view : D → Moment) (t u : Told) (piece : List ℕ) (use
     at_is = at_is;
   }
 
+  -- the bytes that are kept with it
+  used_bytes : bytes_with kept t (take used piece) ≡ bytes_as kept t (t.begun ++ take used piece) u
+  used_bytes = ap (bytes_as kept t (t.begun ++ take used piece)) is
+
   -- the byte at which the frame was whole
   pub stops_here : (m : Moment) (list : List Record) (at : ℕ) → 0 < used → (begun : List ℕ) → followed t (take (used - 1) piece) ≡ record t { begun = begun } → list ≡ t.list → at ≡ t.at
-      → u.bad ≡ false → t.at < u.at → LeavesEither m t u → Stops m t piece list at
+      → u.bad ≡ false → t.at < u.at → LeavesEither m t kept u (bytes_as kept t (t.begun ++ take used piece) u) → Stops m kept t piece list at
   stops_here m list at some begun before list_is at_is good more leaves =
       let all : followed t (take (used - 1 + 1) piece) ≡ u = ap (λ (n : ℕ). followed t (take n piece)) (last used some) ∙ is in
       record {
@@ -172,15 +197,33 @@ module _ {D : Type 0} (view : D → Moment) (t u : Told) (piece : List ℕ) (use
         whole = omega (arith, ap (λ (v : Told). v.at) before, ap (λ (v : Told). v.at) all, more);
         list_is = list_is ∙ ap (λ (v : Told). v.list) (sym before);
         at_is = at_is ∙ ap (λ (v : Told). v.at) (sym before);
-        leaves = subst (λ (v : Told). LeavesEither m v (followed t (take (used - 1 + 1) piece))) (sym before) (subst (LeavesEither m t) (sym all) leaves);
+        leaves = λ tells c may. either c.log (leaves tells c may);
       }
     where
       last : (n : ℕ) → 0 < n → n - 1 + 1 ≡ n
       last n some = omega (arith, some)
 
-  pub undone_ends : (new : Following D) (e : StandbyFault) → 0 < used → (begun : List ℕ) → followed t (take (used - 1) piece) ≡ record t { begun = begun } → Undone view t u new e → Ends view t piece new e
+      either : (log : List ℕ) → HasFrames t kept log ⊎ HasFrames u (bytes_as kept t (t.begun ++ take used piece) u) log
+          → HasFrames (followed t (take (used - 1) piece)) (bytes_with kept t (take (used - 1) piece)) log
+          ⊎ HasFrames (followed t (take (used - 1 + 1) piece)) (bytes_with kept t (take (used - 1 + 1) piece)) log
+      either log (inl h) =
+          let same : bytes_with kept t (take (used - 1) piece) ≡ kept = bytes_none kept t (t.begun ++ take (used - 1) piece) (followed t (take (used - 1) piece)) (ap (λ (v : Told). v.at) before) in
+          let there : HasFrames t (bytes_with kept t (take (used - 1) piece)) log = subst (λ (l : List ℕ). HasFrames t l log) (sym same) h in
+          inl (subst (λ (v : Told). HasFrames v (bytes_with kept t (take (used - 1) piece)) log) (sym before) there)
+      either log (inr h) =
+          let there : HasFrames u (bytes_with kept t (take used piece)) log = subst (λ (l : List ℕ). HasFrames u l log) (sym used_bytes) h in
+          let all : HasFrames (followed t (take used piece)) (bytes_with kept t (take used piece)) log = subst (λ (v : Told). HasFrames v (bytes_with kept t (take used piece)) log) (sym is) there in
+          inr (subst (λ (n : ℕ). HasFrames (followed t (take n piece)) (bytes_with kept t (take n piece)) log) (sym (last used some)) all)
+
+  pub undone_ends : (new : Following D) (e : StandbyFault) → 0 < used → (begun : List ℕ) → followed t (take (used - 1) piece) ≡ record t { begun = begun }
+      → Undone view kept t (t.begun ++ take used piece) u new e → Ends view kept t piece new e
   undone_ends new faults.DiskFault some begun before h = stops_here (view new.disk) new.index (log_end new.log) some begun before h.0 h.1 h.2 h.3 h.4
-  undone_ends new (faults.BadStream at) some begun before h = (h.0, spoils_piece new.index (log_end new.log) h.1 h.2 h.3, h.4)
+  undone_ends new (faults.BadStream at) some begun before h = (
+    h.0,
+    spoils_piece new.index (log_end new.log) h.1 h.2 h.3,
+    h.4,
+    λ tells. h.6 tells ∙ sym (bytes_none kept t (t.begun ++ piece) (followed t piece) (ap (λ (v : Told). v.at) (bad_piece h.1) ∙ h.5)),
+  )
   undone_ends new faults.NoMemory some begun before (inl h) = starves_none new.index (log_end new.log) h.0 h.1
   undone_ends new faults.NoMemory some begun before (inr h) = record {
     count = used;
@@ -194,9 +237,9 @@ module _ {D : Type 0} (view : D → Moment) (t u : Told) (piece : List ℕ) (use
   undone_ends new (faults.BadLog at) some begun before h = h
   undone_ends new (faults.Closed at) some begun before h = h
 
-  pub some_of_both : (log : List ℕ) → HasFrames t log ⊎ HasFrames u log → HasSomeFrames t piece log
-  some_of_both log (inl h) = (0, omega arith, h)
-  some_of_both log (inr h) = (used, within, subst (λ (v : Told). HasFrames v log) (sym is) h)
+  pub some_of_both : (log : List ℕ) → HasFrames t kept log ⊎ HasFrames u (bytes_as kept t (t.begun ++ take used piece) u) log → HasSomeFrames kept t piece log
+  some_of_both log (inl h) = (0, omega arith, subst (λ (l : List ℕ). HasFrames t l log) (sym (bytes_none kept t (t.begun ++ []) t refl)) h)
+  some_of_both log (inr h) = (used, within, subst (λ (v : Told). HasFrames v (bytes_with kept t (take used piece)) log) (sym is) (subst (λ (l : List ℕ). HasFrames u l log) (sym used_bytes) h))
 
 -- the bytes in front of the rest were taken
 pub record IsFeeding {D : Type 0} (view : D → Moment) (piece rest : List ℕ) (first now : Following D) : Type 0 where
@@ -205,7 +248,8 @@ pub record IsFeeding {D : Type 0} (view : D → Moment) (piece rest : List ℕ) 
   pub told : told_so_far now ≡ followed (told_so_far first) front
   pub following : IsFollowing view now
   pub begun : HasBegun now
-  pub moments : IsTrue (view first.disk).tells → Adds (view first.disk) (view now.disk) (λ c. HasSomeFrames (told_so_far first) piece c.log)
+  pub bytes : Reads (view now.disk) (log_end now.log) (bytes_with (log_to (view first.disk) (log_end first.log)) (told_so_far first) front)
+  pub moments : IsTrue (view first.disk).tells → Adds (view first.disk) (view now.disk) (λ c. HasSomeFrames (log_to (view first.disk) (log_end first.log)) (told_so_far first) piece c.log)
   pub store : LeavesStore (view first.disk) (view now.disk)
   pub work : IsDeviceWork (view first.disk) (view now.disk) ⊥
 
@@ -223,6 +267,23 @@ taken_so t begun piece used fine is count some bytes =
     let more : 0 < length (take used piece) = omega (arith, size, used_some t.begun piece t.at used is count some) in
     taken_is t (take used piece) fine is more (used_stop t.begun piece t.at used is count some)
     ∙ ap (λ (f : List ℕ). judged t f (judgement t.at f)) (sym bytes) ∙ sym (judged_same t begun begun (judgement t.at begun))
+
+-- its bytes are those of what came
+pub bytes_so : (kept : List ℕ) (t : Told) (begun piece : List ℕ) (used : ℕ) (u : Told) → begun ≡ t.begun ++ take used piece → followed t (take used piece) ≡ u
+    → bytes_as kept (record t { begun = begun }) begun u ≡ bytes_with kept t (take used piece)
+bytes_so kept t begun piece used u bytes is = ap (λ (l : List ℕ). bytes_as kept t l u) bytes ∙ ap (bytes_as kept t (t.begun ++ take used piece)) (sym is)
+
+-- what was left of it is the same, however its bytes are named
+pub undone_so : {D : Type 0} (view : D → Moment) (kept : List ℕ) (t : Told) (begun frame : List ℕ) (u : Told) (new : Following D) (e : StandbyFault) → begun ≡ frame
+    → Undone view kept (record t { begun = begun }) begun u new e → Undone view kept t frame u new e
+undone_so view kept t begun frame u new e same undone = subst (λ (l : List ℕ). Undone view kept t l u new e) same (by e undone)
+  where
+    by : (k : StandbyFault) → Undone view kept (record t { begun = begun }) begun u new k → Undone view kept t begun u new k
+    by faults.DiskFault h = h
+    by (faults.BadStream at) h = h
+    by faults.NoMemory h = h
+    by (faults.BadLog at) h = h
+    by (faults.Closed at) h = h
 
 -- before the last byte of what came, no stop was reached
 pub before_so : (t : Told) (piece : List ℕ) (used : ℕ) → t.bad ≡ false → IsBegun t.at t.begun → used ≡ min (next_stop t.begun - length t.begun) (length piece) → 0 < length piece
@@ -248,20 +309,30 @@ feeding_none view piece first following begun = record {
   told = refl;
   following = following;
   begun = begun;
-  moments = λ told. adds_nothing (view first.disk) (λ c. HasSomeFrames (told_so_far first) piece c.log);
+  bytes = λ tells. sym (bytes_none (log_to (view first.disk) (log_end first.log)) (told_so_far first) (first.begun.items ++ []) (told_so_far first) refl);
+  moments = λ told. adds_nothing (view first.disk) (λ c. HasSomeFrames (log_to (view first.disk) (log_end first.log)) (told_so_far first) piece c.log);
   store = leaves_none (view first.disk);
   work = work_none (view first.disk) (λ never. never);
 }
 
 module _ {D : Type 0} (view : D → Moment) (piece rest : List ℕ) (first now : Following D) (f : IsFeeding view piece rest first now) (next : Following D) where
-  some_then : (log : List ℕ) → HasSomeFrames (told_so_far now) rest log → HasSomeFrames (told_so_far first) piece log
-  some_then log x = subst (λ (l : List ℕ). HasSomeFrames (told_so_far first) l log) (sym f.is)
-      (some_behind (told_so_far first) f.front rest log (subst (λ (u : Told). HasSomeFrames u rest log) f.told x))
+  abbrev kept : List ℕ
+  kept = log_to (view first.disk) (log_end first.log)
 
-  pub moments_on : IsTrue (view first.disk).tells → (IsTrue (view now.disk).tells → Adds (view now.disk) (view next.disk) (λ c. HasSomeFrames (told_so_far now) rest c.log))
-      → Adds (view first.disk) (view next.disk) (λ c. HasSomeFrames (told_so_far first) piece c.log)
-  moments_on told any = adds_both (λ c. HasSomeFrames (told_so_far first) piece c.log) (view first.disk) (view now.disk) (view next.disk)
-      (f.moments told) (any (subst IsTrue (sym f.work.tells) told)) (λ c x. x) (λ c x. some_then c.log x)
+  none_bad : (followed (told_so_far first) f.front).bad ≡ false
+  none_bad = ap (λ (u : Told). u.bad) (sym f.told)
+
+  some_then : (log : List ℕ) → IsTrue (view now.disk).tells → HasSomeFrames (log_to (view now.disk) (log_end now.log)) (told_so_far now) rest log → HasSomeFrames kept (told_so_far first) piece log
+  some_then log tells x = subst (λ (l : List ℕ). HasSomeFrames kept (told_so_far first) l log) (sym f.is)
+      (some_behind (told_so_far first) f.front rest refl none_bad kept log
+      (subst (λ (u : Told). HasSomeFrames (bytes_with kept (told_so_far first) f.front) u rest log) f.told (subst (λ (l : List ℕ). HasSomeFrames l (told_so_far now) rest log) (f.bytes tells) x)))
+
+  pub moments_on : IsTrue (view first.disk).tells
+      → (IsTrue (view now.disk).tells → Adds (view now.disk) (view next.disk) (λ c. HasSomeFrames (log_to (view now.disk) (log_end now.log)) (told_so_far now) rest c.log))
+      → Adds (view first.disk) (view next.disk) (λ c. HasSomeFrames kept (told_so_far first) piece c.log)
+  moments_on told any =
+      let tells : IsTrue (view now.disk).tells = subst IsTrue (sym f.work.tells) told in
+      adds_both (λ c. HasSomeFrames kept (told_so_far first) piece c.log) (view first.disk) (view now.disk) (view next.disk) (f.moments told) (any tells) (λ c x. x) (λ c x. some_then c.log tells x)
 
   pub store_on : LeavesStore (view now.disk) (view next.disk) → LeavesStore (view first.disk) (view next.disk)
   store_on more = leaves_more (view first.disk) (view now.disk) (view next.disk) f.work.tells f.store more
@@ -269,20 +340,26 @@ module _ {D : Type 0} (view : D → Moment) (piece rest : List ℕ) (first now :
   pub work_on : {G : Type 0} → IsDeviceWork (view now.disk) (view next.disk) G → IsDeviceWork (view first.disk) (view next.disk) G
   work_on {G} more = work_then (view first.disk) (view now.disk) (view next.disk) f.work (λ never. never) more
 
-  pub ends_on : (e : StandbyFault) → Ends view (told_so_far now) rest next e → Ends view (told_so_far first) piece next e
-  ends_on e ended = subst (λ (l : List ℕ). Ends view (told_so_far first) l next e) (sym f.is)
-      (ends_behind view (told_so_far first) f.front rest next e (subst (λ (u : Told). Ends view u rest next e) f.told ended))
+  pub ends_on : (e : StandbyFault) → (view next.disk).tells ≡ (view now.disk).tells → Ends view (log_to (view now.disk) (log_end now.log)) (told_so_far now) rest next e
+      → Ends view kept (told_so_far first) piece next e
+  ends_on e same ended = subst (λ (l : List ℕ). Ends view kept (told_so_far first) l next e) (sym f.is)
+      (ends_behind view kept (log_to (view now.disk) (log_end now.log)) (told_so_far first) f.front rest next e (λ tells. f.bytes (subst IsTrue same tells)) refl none_bad
+      (subst (λ (u : Told). Ends view (log_to (view now.disk) (log_end now.log)) u rest next e) f.told ended))
 
   pub feeding_more : {G : Type 0} (used : ℕ) (left : List ℕ) → left ≡ drop used rest → told_so_far next ≡ followed (told_so_far now) (take used rest) → IsFollowing view next → HasBegun next
-      → (IsTrue (view now.disk).tells → Adds (view now.disk) (view next.disk) (λ c. HasSomeFrames (told_so_far now) rest c.log)) → LeavesStore (view now.disk) (view next.disk)
-      → IsDeviceWork (view now.disk) (view next.disk) G → (G → ⊥) → IsFeeding view piece left first next
-  feeding_more {G} used left rest_is told following begun any store work fine = record {
+      → Reads (view next.disk) (log_end next.log) (bytes_with (log_to (view now.disk) (log_end now.log)) (told_so_far now) (take used rest))
+      → (IsTrue (view now.disk).tells → Adds (view now.disk) (view next.disk) (λ c. HasSomeFrames (log_to (view now.disk) (log_end now.log)) (told_so_far now) rest c.log))
+      → LeavesStore (view now.disk) (view next.disk) → IsDeviceWork (view now.disk) (view next.disk) G → (G → ⊥) → IsFeeding view piece left first next
+  feeding_more {G} used left rest_is told following begun bytes any store work fine = record {
     front = f.front ++ take used rest;
     is = f.is ∙ ap (λ (l : List ℕ). f.front ++ l) (sym (take-append-drop used rest)) ∙ sym (append_assoc f.front (take used rest) (drop used rest))
         ∙ ap (λ (l : List ℕ). (f.front ++ take used rest) ++ l) (sym rest_is);
     told = told ∙ ap (λ (u : Told). followed u (take used rest)) f.told ∙ sym (followed-append (told_so_far first) f.front (take used rest));
     following = following;
     begun = begun;
+    bytes = λ tells. bytes tells ∙ ap (λ (u : Told). bytes_with (log_to (view now.disk) (log_end now.log)) u (take used rest)) f.told
+        ∙ ap (λ (l : List ℕ). bytes_with l (followed (told_so_far first) f.front) (take used rest)) (f.bytes (subst IsTrue work.tells tells))
+        ∙ bytes_then kept (told_so_far first) f.front (take used rest) refl none_bad;
     moments = λ tells. moments_on tells any;
     store = store_on store;
     work = work_as (view first.disk) (view next.disk) (work_on work) fine (λ never. never);
@@ -292,3 +369,8 @@ pub feeding_done : {D : Type 0} (view : D → Moment) (piece rest : List ℕ) (f
     → told_so_far now ≡ followed (told_so_far first) piece
 feeding_done view piece [] first now f none = f.told ∙ ap (followed (told_so_far first)) (sym (f.is ∙ append-nil f.front))
 feeding_done view piece (x ∷ rest) first now f none = absurd (omega (arith, none))
+
+pub bytes_done : {D : Type 0} (view : D → Moment) (piece rest : List ℕ) (first now : Following D) (f : IsFeeding view piece rest first now) → length rest ≡ 0
+    → Reads (view now.disk) (log_end now.log) (bytes_with (log_to (view first.disk) (log_end first.log)) (told_so_far first) piece)
+bytes_done view piece [] first now f none = λ tells. f.bytes tells ∙ ap (bytes_with (log_to (view first.disk) (log_end first.log)) (told_so_far first)) (sym (f.is ∙ append-nil f.front))
+bytes_done view piece (x ∷ rest) first now f none = absurd (omega (arith, none))

@@ -3,7 +3,9 @@ pub mod Batching
 pub mod Keeping
 pub mod Feeding
 pub mod Framing
+pub mod Taking
 pub mod Lawful
+pub mod Carried
 pub mod Walking
 pub mod Unopened
 pub mod Begins

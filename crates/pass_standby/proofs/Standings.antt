@@ -6,7 +6,7 @@ use Rattle.pass_standby.specs.declared.following.Following.{Following}
 use Rattle.pass_standby.specs.declared.standby.Fate.{Fate}
 use Rattle.pass_standby.specs.declared.standby.Fate.TheVariants as fates
 use Rattle.pass_standby.specs.Streams.{IsBegun, HasSomeFrames}
-use Rattle.pass_standby.specs.Standing.{Standing, told_of, told_so_far, seen_as, Leaves, IsFollowing, IsStanding}
+use Rattle.pass_standby.specs.Standing.{Standing, told_of, told_so_far, seen_as, log_to, Leaves, IsFollowing, IsStanding}
 use Rattle.pass_standby.proofs.Feeding.{begun_none}
 
 -- one that begins
@@ -25,7 +25,7 @@ standing_leaves {D} view f fate s is standing which =
 
 -- the moments of what it is made of are its own
 pub standing_moments : {D : Type 0} (view : D → Moment) (f : Following D) (fate : Fate) (s : Standing D) (new : D) (piece : List ℕ) → seen_as f fate ≡ s
-    → (IsTrue (view f.disk).tells → Adds (view f.disk) (view new) (λ c. HasSomeFrames (told_so_far f) piece c.log))
-    → IsTrue (view s.disk).tells → Adds (view s.disk) (view new) (λ c. HasSomeFrames (told_of s) piece c.log)
+    → (IsTrue (view f.disk).tells → Adds (view f.disk) (view new) (λ c. HasSomeFrames (log_to (view f.disk) (log_end f.log)) (told_so_far f) piece c.log))
+    → IsTrue (view s.disk).tells → Adds (view s.disk) (view new) (λ c. HasSomeFrames (log_to (view s.disk) s.at) (told_of s) piece c.log)
 standing_moments {D} view f fate s new piece is any =
-    subst (λ (x : Standing D). IsTrue (view x.disk).tells → Adds (view x.disk) (view new) (λ c. HasSomeFrames (told_of x) piece c.log)) is any
+    subst (λ (x : Standing D). IsTrue (view x.disk).tells → Adds (view x.disk) (view new) (λ c. HasSomeFrames (log_to (view x.disk) x.at) (told_of x) piece c.log)) is any

@@ -1,12 +1,13 @@
 -- What holds of a stream, however it comes.
-use Rattle.std.specs.Prelude.{ℕ, ◌<◌, ◌≤◌, ◌≡◌, ◌+◌, true, false, List, [], ◌∷◌, ◌++◌, length, Some, Ok}
+use Rattle.std.specs.Prelude.{ℕ, ◌<◌, ◌≤◌, ◌≡◌, ◌+◌, true, false, List, [], ◌∷◌, ◌++◌, length, take, Some, Ok}
 use Rattle.std.specs.Int.{w32, to_be_bytes}
+use Rattle.std.specs.List.{All}
 use Rattle.pass_entry.specs.declared.record.Record.{Record}
-use Rattle.pass_log.specs.Frames.{longest}
+use Rattle.pass_log.specs.Frames.{Frames, frames_of, longest}
 use Rattle.pass_log.specs.Records.{Held, image_of}
 use Rattle.pass_plain.specs.WellLogged.{IsWellLogged}
 use Rattle.pass_standby.specs.Logs.{HasBadFrame}
-use Rattle.pass_standby.specs.Streams.{Told, followed, head, is_fit, batch_in}
+use Rattle.pass_standby.specs.Streams.{Told, followed, told_from, head, longest_frame, furthest, is_fit, batch_in}
 
 -- bytes in two pieces are the bytes in one
 abbrev pub CutsLaw : Type 0
@@ -33,3 +34,13 @@ abbrev pub WholeLaw : Type 0
 WholeLaw = (list : List Record) (at : ℕ) (frame : List ℕ) (batch : List Record) → is_fit at (length frame) ≡ true → batch_in list frame ≡ Some batch
     → followed (record { list = list; at = at; begun = []; bad = false }) (1 ∷ to_be_bytes w32 (length frame) ++ frame)
     ≡ record { list = list ++ batch; at = at + head + length frame; begun = []; bad = false }
+
+-- a frame that a stream may have
+abbrev pub IsFitFrame : List ℕ → Type 0
+IsFitFrame frame = (1 ≤ length frame) × (length frame ≤ longest_frame)
+
+-- Whoever takes all that a log has up to its end, from its first frame on, has its records and ends where it ends: where these are well
+-- logged, and its frames may come in a stream.
+abbrev pub AllLaw : Type 0
+AllLaw = (log : List ℕ) (frames : Frames) (held : Held) → frames_of log ≡ Ok frames → image_of log ≡ Ok held → IsWellLogged held.list → All IsFitFrame frames.list → frames.end ≤ furthest
+    → followed (told_from (record { list = []; end = 0 })) (take frames.end log) ≡ told_from held

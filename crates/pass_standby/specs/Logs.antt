@@ -1,12 +1,14 @@
 -- The frames of a standby's own log, and the first bad one (this project's own rule).
-use Rattle.std.specs.Prelude.{ℕ, ◌+◌, ◌<◌, ◌≤◌, ◌^◌, ◌≡◌, ◌⊎◌, List, ◌++◌, length, take, drop, Some, None, Ok, IsTrue, true}
+use Rattle.std.specs.Prelude.{ℕ, ◌+◌, ◌<◌, ◌≤◌, ◌^◌, ◌≡◌, ◌⊎◌, List, ◌++◌, length, take, drop, Some, None, Result, Ok, Err, IsTrue, true}
 use Rattle.std.specs.List.{All}
 use Rattle.pass_entry.specs.declared.record.Record.{Record}
 use Rattle.pass_entry.specs.Ranges.{IsInRange}
 use Rattle.pass_graph.specs.declared.logged.Logged.{Logged}
 use Rattle.pass_graph.specs.Logged.{Summarizes}
 use Rattle.pass_log.specs.Frames.{longest, IsFront}
-use Rattle.pass_log.specs.Records.{records_of, spellings, image_of}
+use Rattle.pass_log.specs.declared.fault.LogFault.{LogFault}
+use Rattle.pass_log.specs.Log.{HoldsSame}
+use Rattle.pass_log.specs.Records.{Held, records_of, spellings, image_of}
 use Rattle.pass_outside.specs.Moments.{Moment}
 use Rattle.pass_plain.specs.WellLogged.{IsWellLogged}
 use Rattle.pass_log.specs.LogImage.{IsImage}
@@ -14,6 +16,15 @@ use Rattle.pass_standby.specs.declared.opening.Found.{Found}
 use Rattle.pass_standby.specs.declared.fault.StandbyFault.{StandbyFault}
 use Rattle.pass_standby.specs.declared.fault.StandbyFault.TheVariants as faults
 use Rattle.pass_standby.specs.Streams.{batch_in, is_open, claimed}
+
+-- where the records of a log image end
+abbrev pub end_of : Result Held LogFault → ℕ
+end_of (Ok held) = held.end
+end_of (Err fault) = 0
+
+-- a log area holds what these bytes hold, byte by byte up to its end
+abbrev pub HoldsStill : List ℕ → List ℕ → Type 0
+HoldsStill old new = HoldsSame (end_of (image_of old)) old new
 
 -- records were read of a frame's bytes, and stand behind others without a flaw; the tables tell what all of them say
 pub record IsBatch (before : List Record) (frame : List ℕ) (old new : List Record) (judge : Logged) : Type 0 where

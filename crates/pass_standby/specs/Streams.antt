@@ -1,13 +1,13 @@
 -- The stream of a log: its frames one behind the other, each an open gate, four bytes that spell a length, and so many bytes of
 -- records. Each frame is judged as its bytes come (this project's own format).
-use Rattle.std.specs.Prelude.{ℕ, ◌+◌, ◌<◌, ◌≤◌, ◌==◌, ◌≡◌, Bool, true, false, not, ◌&&◌, List, [], ◌∷◌, ◌++◌, length, get_or, take, drop, fold, Option, Some, None, Result, Ok, Err, nat_lt, nat_le, if◌then◌else◌}
+use Rattle.std.specs.Prelude.{ℕ, ◌+◌, ◌-◌, ◌<◌, ◌≤◌, ◌==◌, ◌≡◌, Bool, true, false, not, ◌&&◌, List, [], ◌∷◌, ◌++◌, length, get_or, take, drop, fold, Option, Some, None, Result, Ok, Err, nat_lt, nat_le, if◌then◌else◌}
 use Rattle.std.specs.Int.{w32, to_be_bytes}
 use Rattle.std.specs.Option.{option_map_or}
 use Rattle.pass_entry.specs.declared.record.Record.{Record}
 use Rattle.pass_plain.specs.WellLogged.{first_flaw_after}
 use Rattle.pass_log.specs.declared.fault.LogFault.{LogFault}
 use Rattle.pass_log.specs.Frames.{number}
-use Rattle.pass_log.specs.Records.{records_in, image_of}
+use Rattle.pass_log.specs.Records.{Held, records_in, image_of}
 use Rattle.pass_standby.specs.declared.frame.Judgement.{Judgement}
 use Rattle.pass_standby.specs.declared.frame.Judgement.TheVariants.{Begun, Bad, Whole}
 
@@ -83,6 +83,10 @@ arrived t byte = if t.bad then t else judged t (t.begun ++ byte ∷ []) (judgeme
 abbrev pub followed : Told → List ℕ → Told
 followed t bytes = fold arrived t bytes
 
+-- a log with nothing of a stream behind it
+abbrev pub told_from : Held → Told
+told_from held = record { list = held.list; at = held.end; begun = []; bad = false }
+
 -- how many bytes of a frame there are where it is judged next
 abbrev pub next_stop : List ℕ → ℕ
 next_stop frame = if nat_lt (length frame) 1 then 1 else (if nat_lt (length frame) head then head else head + claimed frame)
@@ -103,10 +107,23 @@ pub record IsWhole (at : ℕ) (frame : List ℕ) : Type 0 where
 abbrev pub IsSpelled : List ℕ → Type 0
 IsSpelled frame = drop 1 frame ≡ to_be_bytes w32 (claimed frame) ++ drop head frame
 
--- a log area has the records of the whole frames, and ends behind them
-abbrev pub HasFrames : Told → List ℕ → Type 0
-HasFrames t log = image_of log ≡ Ok (record { list = t.list; end = t.at })
+-- a log area has these records and ends at that place, and up to there it has these bytes
+pub record HoldsLog (list : List Record) (at : ℕ) (kept log : List ℕ) : Type 0 where
+  pub image : image_of log ≡ Ok (record { list = list; end = at })
+  pub bytes : take at log ≡ kept
 
--- it has those of some beginning of these bytes
-abbrev pub HasSomeFrames : Told → List ℕ → List ℕ → Type 0
-HasSomeFrames t bytes log = (n : ℕ) × (n ≤ length bytes) × HasFrames (followed t (take n bytes)) log
+-- those of the whole frames
+abbrev pub HasFrames : Told → List ℕ → List ℕ → Type 0
+HasFrames t kept log = HoldsLog t.list t.at kept log
+
+-- the bytes that were kept, and behind them as many of these as the place has moved
+abbrev pub bytes_as : List ℕ → Told → List ℕ → Told → List ℕ
+bytes_as kept t bytes u = kept ++ take (u.at - t.at) bytes
+
+-- the bytes that were kept, and behind them those with which these bytes of a stream have made frames whole
+abbrev pub bytes_with : List ℕ → Told → List ℕ → List ℕ
+bytes_with kept t bytes = bytes_as kept t (t.begun ++ bytes) (followed t bytes)
+
+-- a log area has the frames of some beginning of these bytes, behind the bytes that were kept
+abbrev pub HasSomeFrames : List ℕ → Told → List ℕ → List ℕ → Type 0
+HasSomeFrames kept t bytes log = (n : ℕ) × (n ≤ length bytes) × HasFrames (followed t (take n bytes)) (bytes_with kept t (take n bytes)) log

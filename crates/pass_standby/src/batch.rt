@@ -12,7 +12,7 @@ use pass_record::{RecordFault, decode};
 use std::alloc::{AllocError, AllocFailed, Global};
 
 /// Why a frame gives no records.
-#[derive(Clone, Copy, Debug, PartialEq, Eq, Drop)]
+#[derive(Clone, Copy, PartialEq, Eq, Drop)]
 pub(crate) enum BatchFault {
     /// Its bytes aren't whole records, or one has a flaw.
     Bad,

@@ -6,7 +6,7 @@ use pass_outside::Failed;
 use std::alloc::{AllocError, AllocFailed};
 
 /// The faults of a standby. Places are in bytes of the log.
-#[derive(Clone, Copy, Debug, PartialEq, Eq, Drop)]
+#[derive(Clone, Copy, PartialEq, Eq, Drop)]
 pub enum StandbyFault {
     /// A device call failed.
     DiskFault,

@@ -4,12 +4,12 @@ ghost use Rattle.pass_entry.specs.declared.record.Record.{Record as AnyRecord};
 ghost use Rattle.pass_graph.specs.Logged.{Summarizes};
 ghost use Rattle.pass_outside.specs.Areas.{Image};
 ghost use Rattle.pass_outside.specs.Moments.{Adds, IsDeviceWork};
-ghost use Rattle.pass_log.specs.Log.{log_end, log_opened, IsSettled, IsFrameOf, LeavesStore};
-ghost use Rattle.pass_log.specs.Records.{image_of, with_batch, IsOldOrBoth};
+ghost use Rattle.pass_log.specs.Log.{log_end, log_opened, standing, IsOldOrMore, IsSettled, IsFrameOf, LeavesStore};
+ghost use Rattle.pass_log.specs.Records.{image_of, with_batch};
 ghost use Rattle.pass_standby.specs.declared.frame.Judgement.TheVariants as judgements;
 ghost use Rattle.pass_standby.specs.Logs.{IsBatch};
-ghost use Rattle.pass_standby.specs.Streams.{head, batch_in, judgement, judged, followed, IsWhole, IsSpelled, HasFrames, HasSomeFrames};
-ghost use Rattle.pass_standby.specs.Standing.{told_so_far, staged_of, IsFollowing, HasBegun, Undone, Ends};
+ghost use Rattle.pass_standby.specs.Streams.{head, batch_in, judgement, judged, followed, bytes_as, bytes_with, IsWhole, IsSpelled, HasFrames, HasSomeFrames};
+ghost use Rattle.pass_standby.specs.Standing.{told_so_far, staged_of, log_to, Reads, IsFollowing, HasBegun, Undone, Ends};
 
 use crate::StandbyFault;
 use crate::batch::{BatchFault, read_batch};
@@ -77,10 +77,13 @@ impl<D: Disk> Following<D> {
         requires room { log_end self.old.log + length self.old.begun.items < 2 ^ 39 }
         ensures leaves { OnOk result ((batch : List AnyRecord) → IsFrameOf batch (staged_of self.old.begun.items) → IsTrue (D.view self.old.disk).tells
             → (c : Image) → (D.view self.new.disk).may_leave c → image_of c.log ≡ with_batch batch (image_of (D.view self.old.disk).seen.log)) }
+        ensures bytes { OnOk result (IsTrue (D.view self.old.disk).tells
+            → log_to (D.view self.new.disk) (log_end self.old.log + length (staged_of self.old.begun.items)) ≡ log_to (D.view self.old.disk) (log_end self.old.log) ++ standing (staged_of self.old.begun.items)) }
+        ensures durable { OnOk result (IsTrue (D.view self.old.disk).tells → (c : Image) → (D.view self.new.disk).may_leave c → c.log ≡ (D.view self.new.disk).seen.log) }
         ensures reads { OnOk result ((batch : List AnyRecord) → IsFrameOf batch (staged_of self.old.begun.items) → IsTrue (D.view self.old.disk).tells
             → image_of (D.view self.new.disk).seen.log ≡ with_batch batch (image_of (D.view self.old.disk).seen.log)) }
         ensures any_moment { (batch : List AnyRecord) → IsFrameOf batch (staged_of self.old.begun.items) → IsTrue (D.view self.old.disk).tells
-            → Adds (D.view self.old.disk) (D.view self.new.disk) (λ c. IsOldOrBoth batch (image_of (D.view self.old.disk).seen.log) (image_of c.log)) }
+            → Adds (D.view self.old.disk) (D.view self.new.disk) (λ c. IsOldOrMore batch (staged_of self.old.begun.items) (log_end self.old.log) (D.view self.old.disk).seen.log c.log) }
         ensures store { LeavesStore (D.view self.old.disk) (D.view self.new.disk) }
         ensures work { IsDeviceWork (D.view self.old.disk) (D.view self.new.disk) (IsErrOf result StandbyFault.DiskFault) }
         ensures settled { IsSettled self.new.log (D.view self.new.disk) }
@@ -108,9 +111,14 @@ impl<D: Disk> Following<D> {
         ensures told { OnOk result (told_so_far self.new ≡ judged (told_so_far self.old) self.old.begun.items judgements.Whole) }
         ensures following { OnOk result (IsFollowing D.view self.new) }
         ensures begun { OnOk result (self.new.begun.items ≡ []) }
-        ensures err { IfErr result (Undone D.view (told_so_far self.old) (judged (told_so_far self.old) self.old.begun.items judgements.Whole) self.new) }
+        ensures bytes { OnOk result (Reads (D.view self.new.disk) (log_end self.new.log) (bytes_as (log_to (D.view self.old.disk) (log_end self.old.log)) (told_so_far self.old) self.old.begun.items
+            (judged (told_so_far self.old) self.old.begun.items judgements.Whole))) }
+        ensures err { IfErr result (Undone D.view (log_to (D.view self.old.disk) (log_end self.old.log)) (told_so_far self.old) self.old.begun.items
+            (judged (told_so_far self.old) self.old.begun.items judgements.Whole) self.new) }
         ensures any_moment { IsTrue (D.view self.old.disk).tells → Adds (D.view self.old.disk) (D.view self.new.disk)
-            (λ c. HasFrames (told_so_far self.old) c.log ⊎ HasFrames (judged (told_so_far self.old) self.old.begun.items judgements.Whole) c.log) }
+            (λ c. HasFrames (told_so_far self.old) (log_to (D.view self.old.disk) (log_end self.old.log)) c.log
+            ⊎ HasFrames (judged (told_so_far self.old) self.old.begun.items judgements.Whole) (bytes_as (log_to (D.view self.old.disk) (log_end self.old.log)) (told_so_far self.old) self.old.begun.items
+            (judged (told_so_far self.old) self.old.begun.items judgements.Whole)) c.log) }
         ensures store { LeavesStore (D.view self.old.disk) (D.view self.new.disk) }
         ensures work { IsDeviceWork (D.view self.old.disk) (D.view self.new.disk) (IsErrOf result StandbyFault.DiskFault) }
     {
@@ -138,11 +146,15 @@ impl<D: Disk> Following<D> {
         ensures told { OnOk result (told_so_far self.new ≡ judged (told_so_far self.old) self.old.begun.items (judgement (log_end self.old.log) self.old.begun.items)) }
         ensures following { OnOk result (IsFollowing D.view self.new) }
         ensures begun { OnOk result (HasBegun self.new) }
-        ensures err { IfErr result (Undone D.view (told_so_far self.old)
+        ensures bytes { OnOk result (Reads (D.view self.new.disk) (log_end self.new.log) (bytes_as (log_to (D.view self.old.disk) (log_end self.old.log)) (told_so_far self.old) self.old.begun.items
+            (judged (told_so_far self.old) self.old.begun.items (judgement (log_end self.old.log) self.old.begun.items)))) }
+        ensures err { IfErr result (Undone D.view (log_to (D.view self.old.disk) (log_end self.old.log)) (told_so_far self.old) self.old.begun.items
             (judged (told_so_far self.old) self.old.begun.items (judgement (log_end self.old.log) self.old.begun.items)) self.new) }
         ensures any_moment { IsTrue (D.view self.old.disk).tells → Adds (D.view self.old.disk) (D.view self.new.disk)
-            (λ c. HasFrames (told_so_far self.old) c.log
-            ⊎ HasFrames (judged (told_so_far self.old) self.old.begun.items (judgement (log_end self.old.log) self.old.begun.items)) c.log) }
+            (λ c. HasFrames (told_so_far self.old) (log_to (D.view self.old.disk) (log_end self.old.log)) c.log
+            ⊎ HasFrames (judged (told_so_far self.old) self.old.begun.items (judgement (log_end self.old.log) self.old.begun.items))
+            (bytes_as (log_to (D.view self.old.disk) (log_end self.old.log)) (told_so_far self.old) self.old.begun.items
+            (judged (told_so_far self.old) self.old.begun.items (judgement (log_end self.old.log) self.old.begun.items))) c.log) }
         ensures store { LeavesStore (D.view self.old.disk) (D.view self.new.disk) }
         ensures work { IsDeviceWork (D.view self.old.disk) (D.view self.new.disk) (IsErrOf result StandbyFault.DiskFault) }
     {
@@ -161,10 +173,12 @@ impl<D: Disk> Following<D> {
         requires some { 0 < length piece.now }
         ensures within { IfOk result (λ used. (0 < used) × (used ≤ length piece.now)) }
         ensures told { IfOk result (λ used. told_so_far self.new ≡ followed (told_so_far self.old) (take used piece.now)) }
+        ensures bytes { IfOk result (λ used. Reads (D.view self.new.disk) (log_end self.new.log) (bytes_with (log_to (D.view self.old.disk) (log_end self.old.log)) (told_so_far self.old) (take used piece.now))) }
         ensures following { OnOk result (IsFollowing D.view self.new) }
         ensures begun { OnOk result (HasBegun self.new) }
-        ensures err { IfErr result (Ends D.view (told_so_far self.old) piece.now self.new) }
-        ensures any_moment { IsTrue (D.view self.old.disk).tells → Adds (D.view self.old.disk) (D.view self.new.disk) (λ c. HasSomeFrames (told_so_far self.old) piece.now c.log) }
+        ensures err { IfErr result (Ends D.view (log_to (D.view self.old.disk) (log_end self.old.log)) (told_so_far self.old) piece.now self.new) }
+        ensures any_moment { IsTrue (D.view self.old.disk).tells → Adds (D.view self.old.disk) (D.view self.new.disk)
+            (λ c. HasSomeFrames (log_to (D.view self.old.disk) (log_end self.old.log)) (told_so_far self.old) piece.now c.log) }
         ensures store { LeavesStore (D.view self.old.disk) (D.view self.new.disk) }
         ensures work { IsDeviceWork (D.view self.old.disk) (D.view self.new.disk) (IsErrOf result StandbyFault.DiskFault) }
     {
@@ -182,10 +196,12 @@ impl<D: Disk> Following<D> {
         requires following { IsFollowing D.view self.old }
         requires begun { HasBegun self.old }
         ensures told { OnOk result (told_so_far self.new ≡ followed (told_so_far self.old) piece.now) }
+        ensures bytes { OnOk result (Reads (D.view self.new.disk) (log_end self.new.log) (bytes_with (log_to (D.view self.old.disk) (log_end self.old.log)) (told_so_far self.old) piece.now)) }
         ensures following { OnOk result (IsFollowing D.view self.new) }
         ensures begun { OnOk result (HasBegun self.new) }
-        ensures err { IfErr result (Ends D.view (told_so_far self.old) piece.now self.new) }
-        ensures any_moment { IsTrue (D.view self.old.disk).tells → Adds (D.view self.old.disk) (D.view self.new.disk) (λ c. HasSomeFrames (told_so_far self.old) piece.now c.log) }
+        ensures err { IfErr result (Ends D.view (log_to (D.view self.old.disk) (log_end self.old.log)) (told_so_far self.old) piece.now self.new) }
+        ensures any_moment { IsTrue (D.view self.old.disk).tells → Adds (D.view self.old.disk) (D.view self.new.disk)
+            (λ c. HasSomeFrames (log_to (D.view self.old.disk) (log_end self.old.log)) (told_so_far self.old) piece.now c.log) }
         ensures store { LeavesStore (D.view self.old.disk) (D.view self.new.disk) }
         ensures work { IsDeviceWork (D.view self.old.disk) (D.view self.new.disk) (IsErrOf result StandbyFault.DiskFault) }
     {

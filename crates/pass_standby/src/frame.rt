@@ -18,7 +18,7 @@ const LONGEST: u64 = 1 << 31;
 const FURTHEST: u64 = 1 << 38;
 
 /// What the first bytes of a frame are.
-#[derive(Clone, Copy, Debug, PartialEq, Eq)]
+#[derive(Clone, Copy, PartialEq, Eq)]
 pub(crate) enum Judgement {
     /// The beginning of a frame.
     Begun,

@@ -1,5 +1,5 @@
 //! What holds of a stream, however it comes, and of a log with a bad frame. Each function carries a law in its contract and does nothing.
-ghost use Rattle.pass_standby.specs.Laws.{CutsLaw, BadLaw, GrowsLaw, LoggedLaw, BadLogLaw, WholeLaw};
+ghost use Rattle.pass_standby.specs.Laws.{CutsLaw, BadLaw, GrowsLaw, LoggedLaw, BadLogLaw, WholeLaw, AllLaw};
 
 /// What has come is the same however the bytes are cut into pieces.
 pub fn cuts()
@@ -29,4 +29,9 @@ pub fn bad_log()
 /// A frame that stands in a log is taken whole.
 pub fn whole_frames()
     ensures { WholeLaw }
+{}
+
+/// Whoever took all that a log has to send, has the log.
+pub fn all_bytes()
+    ensures { AllLaw }
 {}

@@ -3,12 +3,11 @@ ghost use Rattle.std.specs.Prelude.{◌≡◌, ◌⊎◌, ◌+◌, ◌<◌, ◌�
 ghost use Rattle.std.specs.Int.{w32, to_be_bytes};
 ghost use Rattle.pass_graph.specs.Logged.{Summarizes};
 ghost use Rattle.pass_log.specs.Log.{log_end, LeavesStore};
-ghost use Rattle.pass_log.specs.Records.{image_of};
 ghost use Rattle.pass_outside.specs.Areas.{Image};
 ghost use Rattle.pass_outside.specs.Moments.{IsAtEnd, Adds, IsDeviceWork};
 ghost use Rattle.pass_plain.specs.WellLogged.{IsWellLogged};
-ghost use Rattle.pass_standby.specs.Logs.{HasBadFrame, IsBroken, IsFound, IsFoundOn, IsGoodLog, IsLeftUnread, IsUnopened};
-ghost use Rattle.pass_standby.specs.Standing.{IsKept};
+ghost use Rattle.pass_standby.specs.Logs.{HasBadFrame, HoldsStill, IsBroken, IsFound, IsFoundOn, IsGoodLog, IsLeftUnread, IsUnopened};
+ghost use Rattle.pass_standby.specs.Standing.{log_to, IsKept, Reads};
 ghost use Rattle.pass_standby.specs.Streams.{is_open};
 
 use crate::StandbyFault;
@@ -225,7 +224,8 @@ fn open_found<D: Disk>(alloc: Global, disk: &mut D, found: Found) -> Result<Open
     ensures end { IfOk result (λ o. log_end o.log ≡ found.image.end) }
     ensures kept { IfOk result (λ o. IsKept (D.view disk.new) o.log o.index o.judge) }
     ensures err { IfErr result (λ e. (e ≡ StandbyFault.DiskFault) ⊎ (e ≡ StandbyFault.NoMemory)) }
-    ensures any_moment { IsTrue (D.view disk.old).tells → Adds (D.view disk.old) (D.view disk.new) (λ c. image_of c.log ≡ image_of (D.view disk.old).seen.log) }
+    ensures bytes { IfOk result (λ o. Reads (D.view disk.new) (log_end o.log) (log_to (D.view disk.old) (log_end o.log))) }
+    ensures any_moment { IsTrue (D.view disk.old).tells → Adds (D.view disk.old) (D.view disk.new) (λ c. HoldsStill (D.view disk.old).seen.log c.log) }
     ensures store { LeavesStore (D.view disk.old) (D.view disk.new) }
     ensures work { IsDeviceWork (D.view disk.old) (D.view disk.new) (IsErrOf result StandbyFault.DiskFault) }
 {
@@ -245,9 +245,10 @@ fn open_found<D: Disk>(alloc: Global, disk: &mut D, found: Found) -> Result<Open
 pub(crate) fn prepare<D: Disk>(alloc: Global, disk: &mut D) -> Result<Opened, StandbyFault>
     ensures good { IfOk result (λ o. IsGoodLog (D.view disk.old) o.index (log_end o.log)) }
     ensures kept { IfOk result (λ o. IsKept (D.view disk.new) o.log o.index o.judge) }
+    ensures bytes { IfOk result (λ o. Reads (D.view disk.new) (log_end o.log) (log_to (D.view disk.old) (log_end o.log))) }
     ensures cause { IfErr result (IsUnopened (D.view disk.old)) }
     ensures any_moment { IsTrue (D.view disk.old).tells
-        → Adds (D.view disk.old) (D.view disk.new) (λ c. (D.view disk.old).may_leave c ⊎ (image_of c.log ≡ image_of (D.view disk.old).seen.log)) }
+        → Adds (D.view disk.old) (D.view disk.new) (λ c. (D.view disk.old).may_leave c ⊎ HoldsStill (D.view disk.old).seen.log c.log) }
     ensures store { LeavesStore (D.view disk.old) (D.view disk.new) }
     ensures work { IsDeviceWork (D.view disk.old) (D.view disk.new) (IsErrOf result StandbyFault.DiskFault) }
 {

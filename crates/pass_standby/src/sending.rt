@@ -18,7 +18,7 @@ use pass_recover::OpenFault;
 use std::alloc::Global;
 
 /// Why nothing is sent.
-#[derive(Clone, Copy, Debug, PartialEq, Eq, Drop)]
+#[derive(Clone, Copy, PartialEq, Eq, Drop)]
 pub enum SendFault {
     /// The log doesn't open, as of a store.
     Unopened(OpenFault),

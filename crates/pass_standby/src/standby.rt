@@ -10,7 +10,7 @@ use std::alloc::Global;
 use std::marker::Model;
 
 /// What has come of a standby.
-#[derive(Clone, Copy, Debug, PartialEq, Eq)]
+#[derive(Clone, Copy, PartialEq, Eq)]
 pub enum Fate {
     /// It takes what comes.
     Going,
@@ -48,12 +48,11 @@ impl<D: Disk> Standby<D> {
     ghost use Rattle.std.specs.Prelude.{◌≡◌, ◌⊎◌, [], ℕ, length, IsTrue, IfOk, OnOk, IfErr, IsErrOf, Err};
     ghost use Rattle.pass_outside.specs.Moments.{Adds, IsDeviceWork};
     ghost use Rattle.pass_log.specs.Log.{LeavesStore};
-    ghost use Rattle.pass_log.specs.Records.{image_of};
     ghost use Rattle.pass_plain.specs.WellLogged.{IsWellLogged};
     ghost use Rattle.pass_standby.specs.declared.standby.Fate.TheVariants as fates;
-    ghost use Rattle.pass_standby.specs.Logs.{IsGoodLog, IsUnopened};
-    ghost use Rattle.pass_standby.specs.Streams.{followed, HasSomeFrames};
-    ghost use Rattle.pass_standby.specs.Standing.{told_of, Leaves, HasEnded};
+    ghost use Rattle.pass_standby.specs.Logs.{HoldsStill, IsGoodLog, IsUnopened};
+    ghost use Rattle.pass_standby.specs.Streams.{bytes_with, followed, HasSomeFrames};
+    ghost use Rattle.pass_standby.specs.Standing.{told_of, log_to, Leaves, Reads, HasEnded};
 
     /// Opens a standby on a disk whose log it goes on with, which may be empty. After a fault the disk is handed back.
     pub fn open(alloc: Global, disk: D) -> Result<Standby<D>, (StandbyFault, D)>
@@ -63,17 +62,18 @@ impl<D: Disk> Standby<D> {
         ensures begun { IfOk result (λ s. s.begun ≡ []) }
         // From then on each crash leaves them.
         ensures leaves { IfOk result (λ s. Leaves (D.view s.disk) s.list s.at) }
+        ensures bytes { IfOk result (λ s. Reads (D.view s.disk) s.at (log_to (D.view disk) s.at)) }
         ensures work { IfOk result (λ s. IsDeviceWork (D.view disk) (D.view s.disk) ⊥) }
         // A crash at any moment leaves what it might have left before, or the log as it was.
         ensures any_moment { IfOk result (λ s. IsTrue (D.view disk).tells
-            → Adds (D.view disk) (D.view s.disk) (λ c. (D.view disk).may_leave c ⊎ (image_of c.log ≡ image_of (D.view disk).seen.log))) }
+            → Adds (D.view disk) (D.view s.disk) (λ c. (D.view disk).may_leave c ⊎ HoldsStill (D.view disk).seen.log c.log)) }
         ensures store { IfOk result (λ s. LeavesStore (D.view disk) (D.view s.disk)) }
 
         // A device call failed; or the log has a bad frame, and this is the first one; or memory was refused.
         ensures cause { IfErr result (λ e. IsUnopened (D.view disk) e.0) }
         ensures failed_work { IfErr result (λ e. IsDeviceWork (D.view disk) (D.view e.1) (e.0 ≡ StandbyFault.DiskFault)) }
         ensures failed_moment { IfErr result (λ e. IsTrue (D.view disk).tells
-            → Adds (D.view disk) (D.view e.1) (λ c. (D.view disk).may_leave c ⊎ (image_of c.log ≡ image_of (D.view disk).seen.log))) }
+            → Adds (D.view disk) (D.view e.1) (λ c. (D.view disk).may_leave c ⊎ HoldsStill (D.view disk).seen.log c.log)) }
         ensures failed_store { IfErr result (λ e. LeavesStore (D.view disk) (D.view e.1)) }
     {
         let mut disk = disk;
@@ -103,8 +103,10 @@ impl<D: Disk> Standby<D> {
         ensures place { IfOk result (λ at. at ≡ self.new.at) }
         ensures logged { OnOk result (IsWellLogged self.new.list) }
         ensures going { OnOk result ((self.old.fate ≡ fates.Going) × (self.new.fate ≡ fates.Going)) }
-        // From then on each crash leaves them.
+        // From then on each crash leaves them, and byte by byte what the log area reads: what it read before, and then the bytes that
+        // made frames whole.
         ensures leaves { OnOk result (Leaves (D.view self.new.disk) self.new.list self.new.at) }
+        ensures bytes { OnOk result (Reads (D.view self.new.disk) self.new.at (bytes_with (log_to (D.view self.old.disk) self.old.at) (told_of self.old) piece.now)) }
 
         // A frame of the bytes is bad, a device call failed, or memory was refused: the whole frames before stand.
         ensures ended { self.old.fate ≡ fates.Going → IfErr result (HasEnded D.view self.old piece.now self.new) }
@@ -113,7 +115,7 @@ impl<D: Disk> Standby<D> {
         ensures starved { self.old.fate ≡ fates.Starved → (result ≡ Err StandbyFault.NoMemory) × (self.new ≡ self.old) }
 
         // A crash at any moment of the call leaves the records from before, with those of some of the whole frames of the piece.
-        ensures any_moment { IsTrue (D.view self.old.disk).tells → Adds (D.view self.old.disk) (D.view self.new.disk) (λ c. HasSomeFrames (told_of self.old) piece.now c.log) }
+        ensures any_moment { IsTrue (D.view self.old.disk).tells → Adds (D.view self.old.disk) (D.view self.new.disk) (λ c. HasSomeFrames (log_to (D.view self.old.disk) self.old.at) (told_of self.old) piece.now c.log) }
         ensures store { LeavesStore (D.view self.old.disk) (D.view self.new.disk) }
         ensures work { IsDeviceWork (D.view self.old.disk) (D.view self.new.disk) (IsErrOf result StandbyFault.DiskFault) }
     {
@@ -134,8 +136,9 @@ impl<D: Disk> Standby<D> {
         ensures logged { OnOk result (IsWellLogged self.new.list) }
         ensures going { OnOk result (self.new.fate ≡ fates.Going) }
         ensures leaves { OnOk result (Leaves (D.view self.new.disk) self.new.list self.new.at) }
+        ensures bytes { OnOk result (Reads (D.view self.new.disk) self.new.at (bytes_with (log_to (D.view self.old.disk) self.old.at) (told_of self.old) piece.now)) }
         ensures ended { IfErr result (HasEnded D.view self.old piece.now self.new) }
-        ensures any_moment { IsTrue (D.view self.old.disk).tells → Adds (D.view self.old.disk) (D.view self.new.disk) (λ c. HasSomeFrames (told_of self.old) piece.now c.log) }
+        ensures any_moment { IsTrue (D.view self.old.disk).tells → Adds (D.view self.old.disk) (D.view self.new.disk) (λ c. HasSomeFrames (log_to (D.view self.old.disk) self.old.at) (told_of self.old) piece.now c.log) }
         ensures store { LeavesStore (D.view self.old.disk) (D.view self.new.disk) }
         ensures work { IsDeviceWork (D.view self.old.disk) (D.view self.new.disk) (IsErrOf result StandbyFault.DiskFault) }
     {

@@ -4,7 +4,7 @@ use pass_trace::TraceReason;
 use std::alloc::{AllocError, AllocFailed};
 
 /// Why a line of strace is refused.
-#[derive(Clone, Copy, Debug, PartialEq, Eq)]
+#[derive(Clone, Copy, PartialEq, Eq)]
 pub enum StraceReason {
     /// It is none that strace writes of a call, a signal or an end.
     Form,
@@ -29,7 +29,7 @@ impl StraceReason {
 }
 
 /// Why there is no trace.
-#[derive(Clone, Copy, Debug, PartialEq, Eq)]
+#[derive(Clone, Copy, PartialEq, Eq)]
 pub enum StraceFault {
     /// A line that is refused, by its number from 1.
     BadStrace { line: u64, reason: StraceReason },

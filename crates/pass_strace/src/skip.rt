@@ -1,7 +1,7 @@
 //! What a run does that a trace can't say.
 
 /// Why a call of the run is in no line of the trace.
-#[derive(Clone, Copy, Debug, PartialEq, Eq)]
+#[derive(Clone, Copy, PartialEq, Eq)]
 pub enum Skip {
     /// It speaks with a socket, or makes one.
     Socket,

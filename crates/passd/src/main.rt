@@ -1,10 +1,18 @@
-//! Runs a command on the store of a folder. The first argument is the folder, and the others are the words of the command;
-//! a trace comes on standard input, and the answer goes to standard output.
+//! Runs a command on the store of a folder. The first argument is the folder, and the others are the words of the command; a trace
+//! comes on standard input, and the answer goes to standard output.
+//!
+//! All that is promised is a clause of `pass_cli::pass_main`. The opening of the folder, exit 11, and that questions open it beside
+//! others are tested.
 #![tactic(auto)]
 
+mod help;
+
+use crate::help::HELP;
 use pass_cli::{Status, ask, asks, pass_main};
+use pass_help::{Request, VERSION, asked};
 use pass_host::{HostDisk, HostFault, HostSink, HostSource};
 use pass_outside::{NoDisk, OpenGate};
+use std::alloc::AllocError;
 use std::fs::File;
 use std::process::ExitCode;
 use std::{env, io};
@@ -16,6 +24,9 @@ fn main(rt: HostRuntime) -> ExitCode {
     let Ok(arguments) = arguments(&rt) else {
         return ExitCode::from(Status::NoMemory.number());
     };
+    if let Some(request) = asked(arguments.as_slice()) {
+        return ExitCode::from(told(&rt, request));
+    }
     let [folder, words @ ..] = arguments.as_slice() else {
         return ExitCode::from(without_folder(&rt));
     };
@@ -40,10 +51,22 @@ fn main(rt: HostRuntime) -> ExitCode {
 
 // Opens the folder beside others for words that ask a question, and else for this program alone.
 fn open(rt: &HostRuntime, folder: &str, words: &[String]) -> Result<HostDisk<File>, HostFault> {
-    if asks(rt.alloc(), words) {
-        HostDisk::open_to_read(rt, rt.alloc(), folder)
-    } else {
-        HostDisk::open(rt, rt.alloc(), folder)
+    match asks(rt.alloc(), words) {
+        Ok(true) => HostDisk::open_to_read(rt, rt.alloc(), folder),
+        Ok(false) => HostDisk::open(rt, rt.alloc(), folder),
+        Err(AllocError) => Err(HostFault::NoMemory),
+    }
+}
+
+// Tells the words of the program, or its version.
+fn told(rt: &HostRuntime, request: Request) -> u8 {
+    let written = match request {
+        Request::Help => print!(rt; "{HELP}"),
+        Request::Version => println!(rt; "passd {VERSION}"),
+    };
+    match written {
+        Ok(()) => Status::Done.number(),
+        Err(_) => Status::WriteFault.number(),
     }
 }
 

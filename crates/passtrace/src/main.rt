@@ -2,15 +2,20 @@
 //! why there is none, goes to standard error.
 #![tactic(auto)]
 
+mod help;
 mod passing;
 
+use crate::help::HELP;
 use crate::passing::{Fault, pass_on};
+use pass_help::{Request, VERSION, asked};
 use pass_host::{HostSink, HostSource};
 use pass_strace::Skip;
 use std::process::ExitCode;
 use std::{env, io};
 
 // The exit statuses are those of `passd` for the same causes.
+const DONE: u8 = 0;
+
 const BAD_WORDS: u8 = 2;
 
 const BAD_STRACE: u8 = 3;
@@ -22,9 +27,14 @@ const WRITE_FAULT: u8 = 7;
 const NO_MEMORY: u8 = 10;
 
 fn main(rt: HostRuntime) -> ExitCode {
-    if has_words(&rt) {
-        let _told = eprintln!(rt; "fault words");
-        return ExitCode::from(BAD_WORDS);
+    let Ok(words) = words(&rt) else {
+        return ExitCode::from(bad_words(&rt));
+    };
+    if let Some(request) = asked(words.as_slice()) {
+        return ExitCode::from(told(&rt, request));
+    }
+    if !words.is_empty() {
+        return ExitCode::from(bad_words(&rt));
     }
     let mut source = HostSource::new(rt.reader());
     let mut sink = HostSink::new(io::writer(&rt));
@@ -37,11 +47,27 @@ fn main(rt: HostRuntime) -> ExitCode {
     }
 }
 
-// Whether the program was called with words, of which it takes none.
-fn has_words(rt: &HostRuntime) -> bool {
-    match env::args(rt) {
-        Ok(words) => words.skip(1).count() > 0,
-        Err(_) => true,
+// The words with which the program was called.
+fn words(rt: &HostRuntime) -> io::Result<Vec<String>> {
+    let words = env::args(rt)?;
+    Ok(words.skip(1).collect(rt.alloc())?)
+}
+
+// Refuses the words: it takes none, but for what it tells of itself.
+fn bad_words(rt: &HostRuntime) -> u8 {
+    let _told = eprintln!(rt; "fault words");
+    BAD_WORDS
+}
+
+// Tells the words of the program, or its version.
+fn told(rt: &HostRuntime, request: Request) -> u8 {
+    let written = match request {
+        Request::Help => print!(rt; "{HELP}"),
+        Request::Version => println!(rt; "passtrace {VERSION}"),
+    };
+    match written {
+        Ok(()) => DONE,
+        Err(_) => WRITE_FAULT,
     }
 }
 

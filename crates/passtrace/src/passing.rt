@@ -13,7 +13,7 @@ use std::alloc::{AllocError, Global};
 const PIECE: usize = 4_096;
 
 /// Why no trace was written, or not the whole one.
-#[derive(Clone, Copy, Debug, PartialEq, Eq)]
+#[derive(Clone, Copy, PartialEq, Eq)]
 pub(crate) enum Fault {
     /// The source failed.
     Unread,

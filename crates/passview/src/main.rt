@@ -1,8 +1,14 @@
 //! Shows the graph of the store of a folder. The first argument is the folder, and the others say what is to be shown and how:
 //! `dot` or `prov`, and a node behind it for what that node came from.
+//!
+//! All that is promised is a clause of `pass_ask::show`.
 #![tactic(auto)]
 
-use pass_cli::{Status, show};
+mod help;
+
+use crate::help::HELP;
+use pass_ask::{Status, show};
+use pass_help::{Request, VERSION, asked};
 use pass_host::{HostDisk, HostFault, HostSink};
 use pass_outside::NoDisk;
 use std::process::ExitCode;
@@ -15,6 +21,9 @@ fn main(rt: HostRuntime) -> ExitCode {
     let Ok(arguments) = arguments(&rt) else {
         return ExitCode::from(Status::NoMemory.number());
     };
+    if let Some(request) = asked(arguments.as_slice()) {
+        return ExitCode::from(told(&rt, request));
+    }
     let mut sink = HostSink::new(io::writer(&rt));
     let [folder, words @ ..] = arguments.as_slice() else {
         // A call without a folder has no words either.
@@ -28,6 +37,18 @@ fn main(rt: HostRuntime) -> ExitCode {
             ExitCode::from(ended.status.number())
         }
         Err(fault) => ExitCode::from(unopened(&rt, fault)),
+    }
+}
+
+// Tells the words of the program, or its version.
+fn told(rt: &HostRuntime, request: Request) -> u8 {
+    let written = match request {
+        Request::Help => print!(rt; "{HELP}"),
+        Request::Version => println!(rt; "passview {VERSION}"),
+    };
+    match written {
+        Ok(()) => Status::Done.number(),
+        Err(_) => Status::WriteFault.number(),
     }
 }
 

@@ -1,6 +1,6 @@
 use Rattle.std.proofs.Common.{◌≡◌, ◌⊎◌, ◌∙◌, sym, subst, inl, ⊎_elim}
-use Rattle.pass_run.specs.declared.status.Status.{Status}
-use Rattle.pass_run.specs.declared.status.Status.TheVariants as status
+use Rattle.pass_status.specs.declared.status.Status.{Status}
+use Rattle.pass_status.specs.declared.status.Status.TheVariants as status
 use Rattle.pass_run.specs.Stored.{IsBackedBy, IsLater}
 use Rattle.pass_run.proofs.Moved.{none_backed}
 use Rattle.pass_cli.specs.Answers.{Outcome, HasRun, IsUnrecorded, IsRecorded, outcome_of_run}

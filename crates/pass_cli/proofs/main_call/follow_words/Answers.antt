@@ -1,9 +1,9 @@
 use Rattle.std.proofs.Common.{◌≡◌, ℕ, List, sym, ap, ◌∙◌, subst}
-use Rattle.pass_run.specs.declared.status.Status.{Status}
-use Rattle.pass_run.specs.declared.status.Status.TheVariants as status
-use Rattle.pass_cli.specs.Answers.{SinkSeen, text_with}
-use Rattle.pass_cli.specs.Follows.{IsFollowAnswer, OfStream, place_text}
-use Rattle.pass_cli.proofs.Written.{stands_as, refusal_text}
+use Rattle.pass_status.specs.declared.status.Status.{Status}
+use Rattle.pass_status.specs.declared.status.Status.TheVariants as status
+use Rattle.pass_ask.specs.Answers.{SinkSeen, text_with}
+use Rattle.pass_ask.specs.Follows.{IsFollowAnswer, OfStream, place_text}
+use Rattle.pass_ask.proofs.Written.{stands_as, refusal_text}
 use Rattle.pass_cli.proofs.main_call.follow_words.Goals as goal
 
 pub returns-clause-answer : goal.returns-clause-answer

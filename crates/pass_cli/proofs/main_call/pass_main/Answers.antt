@@ -3,12 +3,12 @@ use Rattle.std.specs.Prelude.{ℕ, Option, Some, None, Err, map, string_bytes}
 use Rattle.pass_plain.proofs.Lists.{some_is}
 use Rattle.pass_cli.specs.Answers.{IsUnrecorded, IsRecorded, outcome_of}
 use Rattle.pass_cli.specs.Drawn.{IsGenAnswer, drawn_bytes}
-use Rattle.pass_cli.specs.Asked.{IsAsked, IsPut}
-use Rattle.pass_cli.specs.declared.words.Question.{Question}
-use Rattle.pass_cli.specs.declared.words.Command.TheVariants.{Run, Gen, Ask, Follow}
-use Rattle.pass_cli.proofs.Commands.{ok_same, runs, runs_only, follows, asks, refuses, refusal_read, draws, draws_so, refuses_drawn}
+use Rattle.pass_ask.specs.Asked.{IsAsked, IsPut}
+use Rattle.pass_ask.specs.declared.words.Question.{Question}
+use Rattle.pass_ask.specs.declared.words.Command.TheVariants.{Run, Gen, Ask, Follow}
+use Rattle.pass_ask.proofs.Commands.{ok_same, runs, runs_only, follows, asks, refuses, refusal_read, draws, draws_so, refuses_drawn}
 use Rattle.pass_cli.proofs.Judging.{still_unwritten}
-use Rattle.pass_cli.proofs.Streams.{untouched_on_disk}
+use Rattle.pass_ask.proofs.Streams.{untouched_on_disk}
 use Rattle.pass_cli.proofs.main_call.pass_main.Goals as goal
 
 pub returns-in-Ok-Run-clause-asked : goal.returns-in-Ok-Run-clause-asked

@@ -1,7 +1,7 @@
 use Rattle.std.proofs.Common.{ℕ, List, ◌++◌, ap, ◌∙◌, subst}
-use Rattle.pass_run.specs.Writing.{IsPartOfText}
-use Rattle.pass_cli.specs.Answers.{text_with}
-use Rattle.pass_cli.proofs.Written.{stands_as}
+use Rattle.pass_status.specs.Writing.{IsPartOfText}
+use Rattle.pass_ask.specs.Answers.{text_with}
+use Rattle.pass_ask.proofs.Written.{stands_as}
 use Rattle.pass_cli.proofs.main_call.run_words.Goals as goal
 
 pub returns-clause-run : goal.returns-clause-run

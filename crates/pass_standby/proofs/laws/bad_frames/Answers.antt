@@ -1,4 +1,4 @@
-use Rattle.pass_standby.proofs.Feeding.{bad_stays}
+use Rattle.pass_standby.proofs.Coming.{bad_stays}
 use Rattle.pass_standby.proofs.laws.bad_frames.Goals as goal
 
 pub returns : goal.returns

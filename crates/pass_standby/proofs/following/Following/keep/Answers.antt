@@ -6,8 +6,9 @@ use Rattle.pass_outside.specs.Runs.{adds_nothing}
 use Rattle.pass_standby.specs.declared.frame.Judgement.TheVariants.{Whole}
 use Rattle.pass_standby.specs.Logs.{IsBatch}
 use Rattle.pass_standby.specs.Streams.{head, batch_in, judged}
-use Rattle.pass_standby.specs.Standing.{told_so_far, IsKept}
-use Rattle.pass_standby.proofs.Keeping.{IsNotRead, work_none, work_as, moments_with, stopped_with, kept_with, told_with, undone_with, undone_before, undone_unread, unread_no_fault}
+use Rattle.pass_log.specs.Log.{log_end}
+use Rattle.pass_standby.specs.Standing.{told_so_far, log_to, IsKept}
+use Rattle.pass_standby.proofs.Keeping.{IsNotRead, work_none, work_as, moments_with, stopped_with, kept_with, frame_kept, told_with, undone_with, undone_before, undone_unread, unread_no_fault}
 use Rattle.pass_standby.proofs.following.Following.keep.Goals as goal
 use Rattle.pass_log.proofs.Append.{leaves_none}
 
@@ -36,7 +37,7 @@ returns-in-Err-append-clause-err g c =
     let old = c.args.self.now in
     let b : IsBatch old.index (drop head old.begun.items) [] c.in-Ok.batch.items c.read_whole.new.judge =
     subst (λ (l : List ℕ). IsBatch old.index (drop head l) [] c.in-Ok.batch.items c.read_whole.new.judge) c.deref.ensures.value (c.in-Ok.ensures.batch old.index c.requires.following.says) in
-    undone_before g.D.Disk.view (told_so_far old) (judged (told_so_far old) old.begun.items Whole) c.append.new.self c.in-Err-append.fault c.in-Err-append.ensures.fault
+    undone_before g.D.Disk.view (log_to (g.D.Disk.view old.disk) (log_end old.log)) (told_so_far old) old.begun.items (judged (told_so_far old) old.begun.items Whole) c.append.new.self c.in-Err-append.fault c.in-Err-append.ensures.fault
     c.append.ensures.index c.in-Err-append.ensures.same_end
     (λ disk. stopped_with g.D.Disk.view old c.requires.following c.requires.whole c.requires.spelled c.in-Ok.batch.items c.read_whole.new.judge b (g.D.Disk.view c.append.new.self.disk)
     c.append.ensures.work.tells c.calls-calls.ensures.now (λ i may later. g.met.D.Disk.counts_now c.append.new.self.disk (g.D.Disk.view old.disk).calls i later may) c.append.ensures.any_moment)
@@ -88,7 +89,15 @@ returns-clause-following g c =
     c.in_default-index_all.ensures.ok ∙ ap (λ (l : List Record). l ++ c.deref-2.result.now) c.append.ensures.index ∙ ap (λ (l : List Record). old.index ++ l) c.deref-2.ensures.value in
     subst (λ (j : Logged). IsKept (g.D.Disk.view c.append.new.self.disk) c.append.new.self.log c.index_all.new.index j) (sym c.append.ensures.judge)
     (kept_with g.D.Disk.view old c.requires.following c.requires.whole c.requires.spelled c.in-Ok.batch.items c.read_whole.new.judge b c.append.new.self.disk c.append.new.self.log c.in_default.ensures.end
-    c.index_all.new.index put c.append.ensures.settled c.in_default.ensures.healthy c.append.ensures.work.tells c.in_default.ensures.leaves c.in_default.ensures.reads)
+    c.index_all.new.index put c.append.ensures.settled c.in_default.ensures.healthy c.append.ensures.work.tells c.in_default.ensures.leaves c.in_default.ensures.reads c.in_default.ensures.durable)
+
+pub returns-clause-bytes : goal.returns-clause-bytes
+returns-clause-bytes g c =
+    let old = c.args.self.now in
+    let b : IsBatch old.index (drop head old.begun.items) [] c.in-Ok.batch.items c.read_whole.new.judge =
+    subst (λ (l : List ℕ). IsBatch old.index (drop head l) [] c.in-Ok.batch.items c.read_whole.new.judge) c.deref.ensures.value (c.in-Ok.ensures.batch old.index c.requires.following.says) in
+    frame_kept g.D.Disk.view old c.requires.following c.requires.whole c.requires.spelled c.in-Ok.batch.items c.read_whole.new.judge b c.append.new.self.disk c.append.new.self.log c.in_default.ensures.end
+    c.index_all.new.index c.append.ensures.work.tells c.in_default.ensures.bytes
 
 pub returns-clause-any_moment : goal.returns-clause-any_moment
 returns-clause-any_moment g c = λ told.

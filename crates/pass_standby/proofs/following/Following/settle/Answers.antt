@@ -8,8 +8,9 @@ use Rattle.pass_log.proofs.Append.{leaves_none}
 use Rattle.pass_standby.specs.declared.fault.StandbyFault.TheVariants as faults
 use Rattle.pass_standby.specs.declared.frame.Judgement.{Judgement}
 use Rattle.pass_standby.specs.declared.frame.Judgement.TheVariants.{Begun, Bad, Whole}
-use Rattle.pass_standby.specs.Streams.{judgement, judged, IsBegun, HasFrames}
-use Rattle.pass_standby.specs.Standing.{told_so_far, Undone}
+use Rattle.pass_standby.specs.Streams.{Told, judgement, judged, bytes_as, IsBegun, HasFrames}
+use Rattle.pass_standby.specs.Standing.{told_so_far, log_to, Reads, Undone}
+use Rattle.pass_standby.proofs.Carried.{bytes_none}
 use Rattle.pass_standby.proofs.Coming.{begun_is}
 use Rattle.pass_standby.proofs.Feeding.{begun_none}
 use Rattle.pass_standby.proofs.following.Following.settle.Goals as goal
@@ -44,7 +45,15 @@ returns-in-Bad-clause-err g c =
     let j : judgement (log_end f.log) f.begun.items ≡ Bad = search rules in
     let place : c.end-at.result ≡ log_end f.log = search rules in
     let kept = c.requires.following in
-    subst (λ (k : Judgement). Undone g.D.Disk.view (told_so_far f) (judged (told_so_far f) f.begun.items k) f (faults.BadStream c.end-at.result)) (sym j) (place, refl, refl, refl, kept.leaves)
+    subst (λ (k : Judgement). Undone g.D.Disk.view (log_to (g.D.Disk.view f.disk) (log_end f.log)) (told_so_far f) f.begun.items (judged (told_so_far f) f.begun.items k) f (faults.BadStream c.end-at.result))
+    (sym j) (place, refl, refl, refl, kept.leaves, refl, λ tells. refl)
+
+pub returns-in-Begun-clause-bytes : goal.returns-in-Begun-clause-bytes
+returns-in-Begun-clause-bytes g c = λ tells.
+    let f = c.args.self.now in
+    let j : judgement (log_end f.log) f.begun.items ≡ Begun = search rules in
+    sym (bytes_none (log_to (g.D.Disk.view f.disk) (log_end f.log)) (told_so_far f) f.begun.items (judged (told_so_far f) f.begun.items (judgement (log_end f.log) f.begun.items))
+    (ap (λ (k : Judgement). (judged (told_so_far f) f.begun.items k).at) j))
 
 pub keep-requires-clause-whole : goal.keep-requires-clause-whole
 keep-requires-clause-whole g c =
@@ -58,6 +67,13 @@ returns-in-Whole-clause-told g c =
     let j : judgement (log_end f.log) f.begun.items ≡ Whole = search rules in
     subst (λ (k : Judgement). OnOk c.keep.result (told_so_far c.keep.new.self ≡ judged (told_so_far f) f.begun.items k)) (sym j) c.keep.ensures.told
 
+pub returns-in-Whole-clause-bytes : goal.returns-in-Whole-clause-bytes
+returns-in-Whole-clause-bytes g c =
+    let f = c.args.self.now in
+    let j : judgement (log_end f.log) f.begun.items ≡ Whole = search rules in
+    subst (λ (k : Judgement). OnOk c.keep.result (Reads (g.D.Disk.view c.keep.new.self.disk) (log_end c.keep.new.self.log)
+    (bytes_as (log_to (g.D.Disk.view f.disk) (log_end f.log)) (told_so_far f) f.begun.items (judged (told_so_far f) f.begun.items k)))) (sym j) c.keep.ensures.bytes
+
 pub returns-in-Whole-clause-begun : goal.returns-in-Whole-clause-begun
 returns-in-Whole-clause-begun g c =
     on_ok_weaker c.keep.result (λ none. subst (IsBegun (log_end c.keep.new.self.log)) (sym none) (begun_none (log_end c.keep.new.self.log))) c.keep.ensures.begun
@@ -66,11 +82,14 @@ pub returns-in-Whole-clause-err : goal.returns-in-Whole-clause-err
 returns-in-Whole-clause-err g c =
     let f = c.args.self.now in
     let j : judgement (log_end f.log) f.begun.items ≡ Whole = search rules in
-    subst (λ (k : Judgement). IfErr c.keep.result (Undone g.D.Disk.view (told_so_far f) (judged (told_so_far f) f.begun.items k) c.keep.new.self)) (sym j) c.keep.ensures.err
+    subst (λ (k : Judgement). IfErr c.keep.result (Undone g.D.Disk.view (log_to (g.D.Disk.view f.disk) (log_end f.log)) (told_so_far f) f.begun.items (judged (told_so_far f) f.begun.items k) c.keep.new.self))
+    (sym j) c.keep.ensures.err
 
 pub returns-in-Whole-clause-any_moment : goal.returns-in-Whole-clause-any_moment
 returns-in-Whole-clause-any_moment g c =
     let f = c.args.self.now in
     let j : judgement (log_end f.log) f.begun.items ≡ Whole = search rules in
     subst (λ (k : Judgement). IsTrue (g.D.Disk.view f.disk).tells → Adds (g.D.Disk.view f.disk) (g.D.Disk.view c.keep.new.self.disk)
-    (λ i. HasFrames (told_so_far f) i.log ⊎ HasFrames (judged (told_so_far f) f.begun.items k) i.log)) (sym j) c.keep.ensures.any_moment
+    (λ i. HasFrames (told_so_far f) (log_to (g.D.Disk.view f.disk) (log_end f.log)) i.log
+    ⊎ HasFrames (judged (told_so_far f) f.begun.items k) (bytes_as (log_to (g.D.Disk.view f.disk) (log_end f.log)) (told_so_far f) f.begun.items (judged (told_so_far f) f.begun.items k)) i.log)) (sym j)
+    c.keep.ensures.any_moment

@@ -1,11 +1,11 @@
-use Rattle.std.proofs.Common.{refl, sym, ◌∙◌, arith}
+use Rattle.std.proofs.Common.{refl, sym, ◌∙◌, subst, ◌⊎◌, List, ℕ, take, ◌++◌, arith}
 use Rattle.pass_outside.specs.Runs.{adds_nothing, adds_weaker}
 use Rattle.pass_log.specs.Log.{log_end}
 use Rattle.pass_log.proofs.Append.{leaves_none}
 use Rattle.pass_standby.specs.declared.fault.StandbyFault.TheVariants as faults
-use Rattle.pass_standby.specs.Streams.{HasSomeFrames}
-use Rattle.pass_standby.specs.Standing.{told_so_far}
-use Rattle.pass_standby.proofs.Feeding.{taken_so, before_so, whole_so, some_so, used_within, used_some, undone_ends, starves_none, some_of_both}
+use Rattle.pass_standby.specs.Streams.{Told, judged, judgement, HasFrames, HasSomeFrames, bytes_as}
+use Rattle.pass_standby.specs.Standing.{told_so_far, log_to}
+use Rattle.pass_standby.proofs.Feeding.{taken_so, bytes_so, undone_so, before_so, whole_so, some_so, used_within, used_some, undone_ends, starves_none, some_of_both}
 use Rattle.pass_standby.proofs.Keeping.{work_none, work_as, work_err}
 use Rattle.pass_standby.proofs.following.Following.take.Goals as goal
 
@@ -13,7 +13,7 @@ pub returns-in_default-clause-err : goal.returns-in_default-clause-err
 returns-in_default-clause-err g c =
     let f = c.args.self.now in
     let t = told_so_far f in
-    starves_none g.D.Disk.view t t c.args.piece.now 0 refl (omega arith) refl f.index (log_end f.log) refl refl
+    starves_none g.D.Disk.view (log_to (g.D.Disk.view f.disk) (log_end f.log)) t t c.args.piece.now 0 refl (omega arith) refl f.index (log_end f.log) refl refl
 
 pub returns-in_default-clause-any_moment : goal.returns-in_default-clause-any_moment
 returns-in_default-clause-any_moment g c = λ told. adds_nothing _ _
@@ -41,7 +41,10 @@ returns-in-Err-clause-err g c =
     let is = taken_so t begun piece c.in-Ok.used refl c.requires.begun c.in-Ok.ensures.count c.requires.some c.in-Ok.ensures.bytes in
     let some = used_some f.begun.items piece (log_end f.log) c.in-Ok.used c.requires.begun c.in-Ok.ensures.count c.requires.some in
     let before = before_so t piece c.in-Ok.used refl c.requires.begun c.in-Ok.ensures.count c.requires.some in
-    undone_ends g.D.Disk.view t _ piece c.in-Ok.used refl within is c.settle.new.self c.in-Err.fault some _ before c.in-Err.ensures.err
+    let kept = log_to (g.D.Disk.view f.disk) (log_end f.log) in
+    let u : Told = judged (record t { begun = begun }) begun (judgement (log_end f.log) begun) in
+    undone_ends g.D.Disk.view kept t u piece c.in-Ok.used refl within is c.settle.new.self c.in-Err.fault some _ before
+    (undone_so g.D.Disk.view kept t begun (f.begun.items ++ take c.in-Ok.used piece) u c.settle.new.self c.in-Err.fault c.in-Ok.ensures.bytes c.in-Err.ensures.err)
 
 pub returns-in-Err-clause-any_moment : goal.returns-in-Err-clause-any_moment
 returns-in-Err-clause-any_moment g c = λ told.
@@ -51,8 +54,11 @@ returns-in-Err-clause-any_moment g c = λ told.
     let piece = c.args.piece.now in
     let within = used_within f.begun.items piece (log_end f.log) c.in-Ok.used c.requires.begun c.in-Ok.ensures.count c.requires.some in
     let is = taken_so t begun piece c.in-Ok.used refl c.requires.begun c.in-Ok.ensures.count c.requires.some c.in-Ok.ensures.bytes in
-    adds_weaker (λ i. HasSomeFrames t piece i.log) (g.D.Disk.view f.disk) (g.D.Disk.view c.settle.new.self.disk) (c.settle.ensures.any_moment told)
-    (λ i x. some_of_both g.D.Disk.view t _ piece c.in-Ok.used refl within is i.log x)
+    let kept = log_to (g.D.Disk.view f.disk) (log_end f.log) in
+    let u : Told = judged (record t { begun = begun }) begun (judgement (log_end f.log) begun) in
+    adds_weaker (λ i. HasSomeFrames kept t piece i.log) (g.D.Disk.view f.disk) (g.D.Disk.view c.settle.new.self.disk) (c.settle.ensures.any_moment told)
+    (λ i x. some_of_both g.D.Disk.view kept t u piece c.in-Ok.used refl within is i.log
+    (subst (λ (l : List ℕ). HasFrames t kept i.log ⊎ HasFrames u (bytes_as kept t l u) i.log) c.in-Ok.ensures.bytes x))
 
 pub returns-clause-within : goal.returns-clause-within
 returns-clause-within g c =
@@ -67,6 +73,16 @@ returns-clause-told g c =
     c.in_default-settle.ensures.told
     ∙ sym (taken_so t c.gather.new.frame.items c.args.piece.now c.in-Ok.used refl c.requires.begun c.in-Ok.ensures.count c.requires.some c.in-Ok.ensures.bytes)
 
+pub returns-clause-bytes : goal.returns-clause-bytes
+returns-clause-bytes g c = λ tells.
+    let f = c.args.self.now in
+    let t = told_so_far f in
+    let begun = c.gather.new.frame.items in
+    let piece = c.args.piece.now in
+    c.in_default-settle.ensures.bytes tells
+    ∙ bytes_so (log_to (g.D.Disk.view f.disk) (log_end f.log)) t begun piece c.in-Ok.used _ c.in-Ok.ensures.bytes
+    (taken_so t begun piece c.in-Ok.used refl c.requires.begun c.in-Ok.ensures.count c.requires.some c.in-Ok.ensures.bytes)
+
 pub returns-clause-any_moment : goal.returns-clause-any_moment
 returns-clause-any_moment g c = λ told.
     let f = c.args.self.now in
@@ -75,8 +91,11 @@ returns-clause-any_moment g c = λ told.
     let piece = c.args.piece.now in
     let within = used_within f.begun.items piece (log_end f.log) c.in-Ok.used c.requires.begun c.in-Ok.ensures.count c.requires.some in
     let is = taken_so t begun piece c.in-Ok.used refl c.requires.begun c.in-Ok.ensures.count c.requires.some c.in-Ok.ensures.bytes in
-    adds_weaker (λ i. HasSomeFrames t piece i.log) (g.D.Disk.view f.disk) (g.D.Disk.view c.settle.new.self.disk) (c.settle.ensures.any_moment told)
-    (λ i x. some_of_both g.D.Disk.view t _ piece c.in-Ok.used refl within is i.log x)
+    let kept = log_to (g.D.Disk.view f.disk) (log_end f.log) in
+    let u : Told = judged (record t { begun = begun }) begun (judgement (log_end f.log) begun) in
+    adds_weaker (λ i. HasSomeFrames kept t piece i.log) (g.D.Disk.view f.disk) (g.D.Disk.view c.settle.new.self.disk) (c.settle.ensures.any_moment told)
+    (λ i x. some_of_both g.D.Disk.view kept t u piece c.in-Ok.used refl within is i.log
+    (subst (λ (l : List ℕ). HasFrames t kept i.log ⊎ HasFrames u (bytes_as kept t l u) i.log) c.in-Ok.ensures.bytes x))
 
 pub returns-in_default-clause-work : goal.returns-in_default-clause-work
 returns-in_default-clause-work g c = work_none _ (λ err. absurd (cc))

@@ -1,0 +1,10 @@
+pub mod Answering
+pub mod Commands
+pub mod Counted
+pub mod Listed
+pub mod Patterns
+pub mod Sent
+pub mod Shown
+pub mod Streams
+pub mod TakenWords
+pub mod Written

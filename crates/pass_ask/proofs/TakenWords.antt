@@ -1,0 +1,76 @@
+-- The words that the command line takes.
+use Rattle.std.proofs.Common.{◌≡◌, ◌∙◌, true, refl, sym, ap, subst, List, [], ◌∷◌, ◌⊎◌, inl, inr}
+use Rattle.std.specs.Prelude.{Option, None, Result, Ok, Err, option_and_then, unwrap_or, codes}
+use Rattle.clap.specs.Faults.{fault_of, is_simple_and_free}
+use Rattle.clap.specs.Kinds.{FailsBy, HasKind, IsAmong, Kinds}
+use Rattle.clap.specs.Matches.{found_of}
+use Rattle.clap.specs.Simple.{App, HasMatchesOf, is_simple, matches_of}
+use Rattle.clap.specs.Values.{kind_of}
+use Rattle.clap.specs.Walk.{Row, all_of, first_of, rows_of}
+use Rattle.clap.specs.declared.error.Error.{Error}
+use Rattle.clap.specs.declared.error.kind.ErrorKind.{ErrorKind}
+use Rattle.clap.specs.declared.error.kind.ErrorKind.TheVariants.{OutOfMemory}
+use Rattle.clap.specs.declared.parser.matches.ArgMatches.{ArgMatches}
+use Rattle.clap.proofs.OnLiterals.{clap_on_literals}
+use Rattle.pass_status.specs.declared.status.Status.{Status}
+use Rattle.pass_status.specs.declared.status.Status.TheVariants as status
+use Rattle.pass_ask.specs.Line.{command_line}
+use Rattle.pass_ask.specs.Words.{Reads, Text, command_found, command_in, command_of, is_set, unless_fault}
+use Rattle.pass_ask.specs.declared.words.Command.{Command}
+
+line_is_free : is_simple_and_free command_line ≡ true
+unfolding clap_on_literals command_line
+line_is_free = refl
+
+line_is_simple : is_simple command_line ≡ true
+unfolding clap_on_literals command_line
+line_is_simple = refl
+
+ok_fails : (kinds : Kinds) (r : Result ArgMatches Error) (m : ArgMatches) → r ≡ Ok m → FailsBy kinds r → kinds ≡ []
+ok_fails kinds r m is fails = subst (λ (x : Result ArgMatches Error). FailsBy kinds x) is fails
+
+err_fails : (kinds : Kinds) (r : Result ArgMatches Error) (e : Error) → r ≡ Err e → FailsBy kinds r → HasKind kinds e
+err_fails kinds r e is fails = subst (λ (x : Result ArgMatches Error). FailsBy kinds x) is fails
+
+-- words that are taken name the command that is found
+pub taken_words : (app : App) (words : List Text) (r : Result ArgMatches Error) (m : ArgMatches) → app ≡ command_line → r ≡ Ok m
+    → (is_simple_and_free app ≡ true → FailsBy (fault_of app words) r) → HasMatchesOf app words m → command_of words ≡ command_found (rows_of (found_of m))
+unfolding command_of
+taken_words app words r m is ok fails has =
+    let none : fault_of command_line words ≡ [] = ap (λ (a : App). fault_of a words) (sym is) ∙ ok_fails (fault_of app words) r m ok (fails (ap is_simple_and_free is ∙ line_is_free)) in
+    let rows : rows_of (found_of m) ≡ matches_of command_line words = (has (ap is_simple is ∙ line_is_simple)).0 ∙ ap (λ (a : App). matches_of a words) is in
+    ap (λ (kinds : Kinds). unless_fault kinds (command_found (matches_of command_line words))) none ∙ ap command_found (sym rows)
+
+none_taken : {X : Type 0} (kinds : Kinds) (k : ErrorKind) (found : Option X) → IsAmong k kinds → unless_fault kinds found ≡ None
+none_taken [] k found among = absurd among
+none_taken (x ∷ xs) k found among = refl
+
+-- words that aren't name none, unless memory was refused
+pub refused_words : (app : App) (words : List Text) (r : Result ArgMatches Error) (e : Error) (s : Status) → app ≡ command_line → r ≡ Err e
+    → (is_simple_and_free app ≡ true → FailsBy (fault_of app words) r) → (s ≡ status.NoMemory) ⊎ (s ≡ status.BadWords) → (kind_of e ≡ OutOfMemory → s ≡ status.NoMemory)
+    → Reads {X = Command} (Err s) (command_of words)
+unfolding command_of
+refused_words app words r e s is err fails only memory =
+    by (err_fails (fault_of app words) r e err (fails (ap is_simple_and_free is ∙ line_is_free))) only
+  where
+    to : (t : Status) → s ≡ t → Reads {X = Command} (Err t) (command_of words) → Reads {X = Command} (Err s) (command_of words)
+    to t same holds = subst (λ (u : Status). Reads {X = Command} (Err u) (command_of words)) (sym same) holds
+
+    by : HasKind (fault_of app words) e → (s ≡ status.NoMemory) ⊎ (s ≡ status.BadWords) → Reads {X = Command} (Err s) (command_of words)
+    by kind (inl starved) = to status.NoMemory starved tt
+    by (inl starved) (inr bad) = to status.NoMemory (memory starved) tt
+    by (inr among) (inr bad) = to status.BadWords bad
+        (ap (λ (a : App). unless_fault (fault_of a words) (command_found (matches_of command_line words))) (sym is)
+        ∙ none_taken (fault_of app words) (kind_of e) (command_found (matches_of command_line words)) among)
+
+abbrev found_by : Option Text → Option Text → Option Text → List Text → Option Command
+found_by json workers name words = option_and_then (λ n. command_in (is_set json) workers n words) name
+
+-- what was found, by what each option and word gave
+pub found_as : (rows : List Row) (json workers name : Option Text) (words : List Text) → first_of (codes "json") rows ≡ json → first_of (codes "workers") rows ≡ workers
+    → first_of (codes "command") rows ≡ name → unwrap_or (all_of (codes "word") rows) [] ≡ words → command_found rows ≡ option_and_then (λ n. command_in (is_set json) workers n words) name
+found_as rows json workers name words a b c d =
+    ap (λ j. found_by j (first_of (codes "workers") rows) (first_of (codes "command") rows) (unwrap_or (all_of (codes "word") rows) [])) a
+    ∙ ap (λ w. found_by json w (first_of (codes "command") rows) (unwrap_or (all_of (codes "word") rows) [])) b
+    ∙ ap (λ n. found_by json workers n (unwrap_or (all_of (codes "word") rows) [])) c
+    ∙ ap (λ ws. found_by json workers name ws) d

@@ -1,0 +1,14 @@
+use Rattle.std.proofs.Common.{◌≡◌, sym, subst}
+use Rattle.std.specs.Prelude.{◌↔◌, Err}
+use Rattle.pass_query.specs.declared.fault.QueryFault.TheVariants.{NoObject}
+use Rattle.pass_ask.specs.GraphAnswers.{IsMissing}
+use Rattle.pass_ask.specs.declared.words.GraphQuestion.{GraphQuestion}
+use Rattle.pass_ask.proofs.graph.graph_answer.Goals as goal
+
+pub returns-in-Recipe-clause-absent : goal.returns-in-Recipe-clause-absent
+returns-in-Recipe-clause-absent c = λ n.
+    subst (λ (q : GraphQuestion). (c.recipe_answer.result ≡ Err (NoObject n)) ↔ IsMissing c.args.index.now q n) (sym c.in-Recipe.is) (c.recipe_answer.ensures.absent n)
+
+pub returns-in-View-clause-absent : goal.returns-in-View-clause-absent
+returns-in-View-clause-absent c = λ n.
+    subst (λ (q : GraphQuestion). (c.view_text.result ≡ Err (NoObject n)) ↔ IsMissing c.args.index.now q n) (sym c.in-View.is) (c.view_text.ensures.absent n)

@@ -1,0 +1,12 @@
+use Rattle.std.proofs.Common.{ap₂, ◌∙◌}
+use Rattle.clap.specs.Simple.{with_rule}
+use Rattle.pass_ask.specs.Line.{command_line}
+use Rattle.pass_ask.proofs.line.command_line.Goals as goal
+
+pub returns : goal.returns
+unfolding command_line
+returns c =
+    let flagged = c.in_ok-flagged.ensures.shape c.json.ensures.local ∙ ap₂ with_rule c.bare_line.ensures c.json.ensures.rule in
+    let optional = c.in_ok-optional.ensures.shape c.workers.ensures.local ∙ ap₂ with_rule flagged c.workers.ensures.rule in
+    let named = c.in_ok-named.ensures.shape c.command.ensures.local ∙ ap₂ with_rule optional c.command.ensures.rule in
+    c.in_ok-whole.ensures.shape c.words.ensures.local ∙ ap₂ with_rule named c.words.ensures.rule

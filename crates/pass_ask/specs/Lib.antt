@@ -1,0 +1,11 @@
+pub mod Answers
+pub mod Asked
+pub mod Checks
+pub mod Follows
+pub mod GraphAnswers
+pub mod Laws
+pub mod Line
+pub mod Matches
+pub mod Numbers
+pub mod Shown
+pub mod Words

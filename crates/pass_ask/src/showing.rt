@@ -1,0 +1,86 @@
+//! The call of the program that shows graphs.
+ghost use Rattle.std.specs.Prelude.{◌≡◌, ◌≢◌, ◌↔◌, map, string_bytes};
+ghost use Rattle.pass_outside.specs.Faults.{HasRisen};
+ghost use Rattle.pass_recover.specs.Later.{IsLater, IsLeftAlone};
+ghost use Rattle.pass_ask.specs.Asked.{IsAsked, IsPut};
+ghost use Rattle.pass_ask.specs.Numbers.{node_in};
+ghost use Rattle.pass_ask.specs.Shown.{form_in, part_of, shown_in, whole_of};
+ghost use Rattle.pass_ask.specs.Words.{Reads};
+
+use crate::asking::{Asked, ask_for};
+use crate::numbers::node_in;
+use crate::words::{GraphQuestion, Question};
+use pass_entry::Node;
+use pass_outside::{Disk, Sink};
+use pass_status::Status;
+use pass_view::Form;
+use std::alloc::Global;
+
+/// Shows the graph of a store, or what a node came from, and writes nothing to its disk. `words` are the words of passview
+/// after the folder.
+pub fn show<K: Sink, D: Disk>(alloc: Global, words: &[String], sink: &mut K, disk: D) -> Asked<D>
+    ensures answer { result.status ≢ Status.NoMemory → IsAsked (shown_in (map string_bytes words.now)) (D.view disk) (D.view result.disk)
+        (record { tells = K.tells; before = K.taken sink.old; after = K.taken sink.new }) result.status }
+    ensures write_fault { result.status ≢ Status.NoMemory → (result.status ≡ Status.WriteFault
+        ↔ HasRisen (K.fault_count sink.old) (K.fault_count sink.new)) }
+    ensures unwritten { result.status ≡ Status.NoMemory → sink.new ≡ sink.old }
+    ensures unopened { ¬ IsPut (shown_in (map string_bytes words.now)) → result.disk ≡ disk }
+    // Nothing is written to the disk.
+    ensures alone { IsLeftAlone (D.view disk) (D.view result.disk) }
+    ensures later { IsLater (D.view disk) (D.view result.disk) }
+{
+    let question = shown_in(words);
+    ask_for(alloc, question, sink, disk)
+}
+
+// What the words ask to be shown.
+#[tactic(auto, using(crate::proofs::Shown::none_shown, crate::proofs::Shown::too_many_shown))]
+fn shown_in(words: &[String]) -> Result<Question, Status>
+    ensures { Reads result (shown_in (map string_bytes words.now)) }
+{
+    match words {
+        [] => Err(Status::BadWords),
+        [form] => whole_of(form_in(form.as_str().as_bytes())),
+        [form, node] => part_of(
+            form_in(form.as_str().as_bytes()),
+            node_in(node.as_str().as_bytes()),
+        ),
+        [_, _, _, ..] => Err(Status::BadWords),
+    }
+}
+
+// The form that the word names.
+fn form_in(word: &[u8]) -> Option<Form>
+    ensures { result ≡ form_in word.now }
+{
+    if word == b"dot".as_slice() {
+        Some(Form::Dot)
+    } else if word == b"prov".as_slice() {
+        Some(Form::Prov)
+    } else {
+        None
+    }
+}
+
+// The whole graph.
+fn whole_of(form: Option<Form>) -> Result<Question, Status>
+    ensures { Reads result (whole_of form) }
+{
+    match form {
+        Some(form) => Ok(Question::Graph(GraphQuestion::View { form, node: None })),
+        None => Err(Status::BadWords),
+    }
+}
+
+// What the node came from.
+fn part_of(form: Option<Form>, node: Option<Node>) -> Result<Question, Status>
+    ensures { Reads result (part_of form node) }
+{
+    match (form, node) {
+        (Some(form), Some(node)) => Ok(Question::Graph(GraphQuestion::View {
+            form,
+            node: Some(node),
+        })),
+        _ => Err(Status::BadWords),
+    }
+}

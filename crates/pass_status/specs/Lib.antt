@@ -1,0 +1,4 @@
+pub mod Statuses
+pub mod Stores
+pub mod Reading
+pub mod Writing

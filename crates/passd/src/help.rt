@@ -1,0 +1,21 @@
+//! The words of the program.
+
+pub const HELP: &str = "passd DIR COMMAND: a file store that records which data came from where
+
+  run                      runs the trace on standard input, and writes the report
+  gen NUMBER LINES         runs a trace of 15 to 100000 lines that the number draws
+  check                    counts what the store has, and lists blocks with other bytes than were recorded
+  ancestors NODE           lists what the version came from
+  descendants NODE         lists what came from the version
+  path NODE NODE           gives a shortest way from the first version back to the second, or none
+  named NAME               lists the files that ever had the name, each at its current version
+  recipe NODE              lists what the version came from, in an order in which it can be made again
+  match NODE PATTERN       follows paths of the pattern
+  send FROM                writes the log from this place on
+  follow                   keeps the log that comes on standard input
+
+  --workers N              with run and gen: 1 to 64 threads (4 if not given)
+  --json                   with ancestors, descendants, path, named and match
+
+passd --help, passd --version. A NODE is P.V, version V of object P. DIR has to be there.
+";

@@ -1,0 +1,9 @@
+//! The words of the program.
+
+pub const HELP: &str = "passview DIR COMMAND: the graph of a store as a picture
+
+  dot [NODE]     for Graphviz: the whole graph, or what the version came from
+  prov [NODE]    the same as PROV-JSON of W3C
+
+passview --help, passview --version. A NODE is P.V, version V of object P. DIR has to be there.
+";

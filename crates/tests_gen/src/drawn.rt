@@ -13,7 +13,9 @@ fn drawn(alloc: Global, number: u64) -> Result<Vec<u8>, Fail> {
 
 /// The text of a trace with the bytes of each write in base 16.
 fn written_out(alloc: Global, text: &[u8]) -> Result<Vec<u8>, Fail> {
-    let trace = parse(alloc, text)?;
+    let Ok(trace) = parse(alloc, text) else {
+        return Err(Fail::new("the text is no trace"));
+    };
     Ok(print(alloc, &trace)?)
 }
 

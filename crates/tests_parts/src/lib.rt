@@ -11,3 +11,13 @@ mod pool;
 mod record;
 #[cfg(test)]
 mod trace;
+
+use std::test::Fail;
+
+// What a test needs, whatever the fault by which it isn't had.
+fn had<T, E: Drop>(found: Result<T, E>) -> Result<T, Fail> {
+    match found {
+        Ok(value) => Ok(value),
+        Err(_fault) => Err(Fail::new("what a test needs isn't had")),
+    }
+}

@@ -2,6 +2,7 @@
 ghost use Rattle.pass_plain.specs.Legal.{session_of};
 ghost use Rattle.pass_plain.specs.Sound.{IsSound};
 
+use crate::had;
 use pass_entry::{
     Act, Bytes, CallName, Descriptor, Descriptors, Entry, Inherited, Kind, Mode, Node, Pnode,
     Record, Reply, Text,
@@ -75,12 +76,12 @@ fn held(alloc: Global, has_second: bool) -> Result<Inherited, AllocError> {
 fn act_of(alloc: Global, step: Step) -> Result<Act, Fail> {
     Ok(match step {
         Step::Bind(letter) => Act::Bind {
-            name: Text::name(alloc, &[letter])?,
+            name: had(Text::name(alloc, &[letter]))?,
         },
         Step::Put(out) => Act::Put {
             out,
             at: 0,
-            bytes: Bytes::of(alloc, b"x")?,
+            bytes: had(Bytes::of(alloc, b"x"))?,
         },
         Step::Born(out, has_second) => Act::Born {
             out,
@@ -283,12 +284,18 @@ fn node(pnode: u64, version: u64) -> Node {
 
 /// Whether the last two of seven records are the new version, and what the reader has from the one before.
 fn are_wanted(records: &[Record]) -> bool {
-    let version = Record::Version { node: node(2, 2) };
-    let input = Record::Input {
-        target: node(3, 1),
-        source: node(2, 1),
-    };
-    records.len() == 7 && records[5] == version && records[6] == input
+    match records {
+        [
+            _,
+            _,
+            _,
+            _,
+            _,
+            Record::Version { node: version },
+            Record::Input { target, source },
+        ] => { *version == node(2, 2) && *target == node(3, 1) && *source == node(2, 1) }
+        _ => false,
+    }
 }
 
 fn freezes(alloc: Global) -> Result<bool, Fail> {

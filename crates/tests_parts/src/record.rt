@@ -1,4 +1,5 @@
 //! The spelling of a record of each tag.
+use crate::had;
 use pass_entry::{Kind, Node, Pnode, Record, Text};
 use pass_record::{RecordFault, decode, encode};
 use std::alloc::Global;
@@ -31,12 +32,12 @@ fn records(alloc: Global) -> Result<[Record; 8], Fail> {
         },
         Record::Name {
             pnode: Pnode(5),
-            name: Text::name(alloc, b"ab")?,
+            name: had(Text::name(alloc, b"ab"))?,
         },
         Record::Attr {
             node: node(5, 7),
-            attr: Text::name(alloc, b"EXE")?,
-            value: Text::line(alloc, b"a b~")?,
+            attr: had(Text::name(alloc, b"EXE"))?,
+            value: had(Text::line(alloc, b"a b~"))?,
         },
         Record::Input {
             target: node(5, 7),
@@ -56,22 +57,31 @@ fn records(alloc: Global) -> Result<[Record; 8], Fail> {
     ])
 }
 
-// Whether the bytes are read as the record, whole, and written again as the same bytes.
-fn agrees(alloc: Global, bytes: &[u8], record: &Record) -> Result<bool, RecordFault> {
-    let (found, len) = decode(alloc, bytes)?;
-    if !found.is_in_range() || len != bytes.len() {
+// Whether the record is in range, and these are its bytes.
+fn are_bytes_of(alloc: Global, bytes: &[u8], record: &Record) -> Result<bool, RecordFault> {
+    if !record.is_in_range() {
         return Ok(false);
     }
     let mut out = Vec::new(alloc);
-    encode(&found, &mut out)?;
-    Ok(&found == record && out.as_slice() == bytes)
+    encode(record, &mut out)?;
+    Ok(out.as_slice() == bytes)
+}
+
+// Whether the bytes are the record's, are read as a record, whole, and are that one's too: so the two are the same.
+fn agrees(alloc: Global, bytes: &[u8], record: &Record) -> Result<bool, RecordFault> {
+    let (found, len) = decode(alloc, bytes)?;
+    Ok(
+        len == bytes.len()
+            && are_bytes_of(alloc, bytes, &found)?
+            && are_bytes_of(alloc, bytes, record)?,
+    )
 }
 
 #[test]
 fn a_record_of_each_tag(rt: HostRuntime) -> Result<(), Fail> {
     let records = records(rt.alloc())?;
     for (bytes, record) in EACH.iter().zip(records.iter()) {
-        assert!(rt; agrees(rt.alloc(), bytes, record)?, "{bytes:?}");
+        assert!(rt; had(agrees(rt.alloc(), bytes, record))?);
     }
     Ok(())
 }

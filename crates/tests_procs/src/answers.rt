@@ -3,16 +3,17 @@ ghost use Rattle.std.specs.Prelude.{◌≡◌, ◌≤◌, ◌<◌, ℕ};
 ghost use Rattle.pass_entry.specs.Limits.{number_limit};
 ghost use Rattle.pass_plain.specs.Legal.{session_of};
 ghost use Rattle.pass_plain.specs.Sound.{IsSound};
-ghost use Rattle.pass_store.specs.Grounds.{HasGoneOn, ground_of};
+ghost use Rattle.pass_safe.specs.Grounds.{HasGoneOn, ground_of};
 
 use crate::calls::{Answer, Call, Procs, called};
 use pass_entry::{Entry, Node, Record};
 use pass_outside::{Disk, MemDisk, OpenGate};
 use pass_plain::Start;
 use pass_proc::{Proc, Trail};
-use pass_reference::Plain;
+use pass_reference::{Plain, same_reply};
+use pass_safe::Opening;
 use pass_session::{Opened, open};
-use pass_store::{Finished, Opening, Store};
+use pass_store::{Finished, Store};
 use std::alloc::Global;
 use std::marker::Brand;
 use std::process::Abort;
@@ -54,7 +55,7 @@ fn ended<J: Opening, D: Disk, R: Wait>(
     let mut trails = Vec::new(alloc);
     for slot in procs {
         if let Some(proc) = slot {
-            trails.push(store.retire(rt, alloc, proc))?;
+            trails.push(pass_shared::retire(&store.locks, rt, alloc, proc))?;
         }
     }
     Ok(trails)
@@ -153,7 +154,10 @@ fn judged<R: Abort>(
     let start = nothing(alloc);
     let mut plain = Plain::new(alloc, &start, objects)?;
     for entry in history {
-        let is_so = plain.step(entry)?.as_ref() == Some(&entry.reply);
+        let is_so = match plain.step(entry)? {
+            Some(reply) => same_reply(&reply, &entry.reply),
+            None => false,
+        };
         assert!(rt; is_so);
     }
     Ok(plain.records()?)

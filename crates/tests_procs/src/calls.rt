@@ -2,11 +2,12 @@
 ghost use Rattle.std.specs.Prelude.{◌≡◌, ◌≤◌, ◌<◌, true, IfOk};
 ghost use Rattle.pass_entry.specs.Texts.{is_name};
 
-use pass_calls::{CallEnd, Moved};
+use pass_answer::{CallEnd, Moved};
 use pass_entry::{Bytes, CallFault, Text};
 use pass_outside::{Disk, Gate};
 use pass_proc::{Proc, Trail};
-use pass_store::{Opening, Store};
+use pass_safe::Opening;
+use pass_store::Store;
 use std::alloc::Global;
 use std::sync::Wait;
 use std::test::*;
@@ -114,8 +115,10 @@ fn write<J: Opening, D: Disk, G: Gate, R: Wait>(
     count: usize,
 ) -> Result<Answer, Fail> {
     let letters = vec![in alloc; letter; count]?;
-    let bytes = Bytes::of(alloc, &letters)?;
-    Ok(told(store.pass_write(rt, alloc, proc, low(fd), &bytes)))
+    let Ok(bytes) = Bytes::of(alloc, &letters) else {
+        return Err(Fail::new("the bytes are too many"));
+    };
+    Ok(told(pass_shared::pass_write(&store.locks, rt, alloc, proc, low(fd), &bytes)))
 }
 
 /// A call on what the process holds, or by which it holds something, or a look at it.
@@ -127,18 +130,51 @@ fn on_held<J: Opening, D: Disk, G: Gate, R: Wait>(
     call: Call,
 ) -> Answer {
     match call {
-        Call::Read(fd, len) => told(store.pass_read(rt, alloc, proc, low(fd), few(len))),
-        Call::Pipe(reader, writer) => told(store.pipe(rt, alloc, proc, low(reader), low(writer))),
-        Call::MakeObject(fd) => told(store.pass_mkobj(rt, alloc, proc, low(fd))),
-        Call::Freeze(fd) => told(store.pass_freeze(rt, alloc, proc, low(fd))),
-        Call::Sync(fd) => told(store.pass_sync(rt, alloc, proc, low(fd))),
+        Call::Read(fd, len) => told(pass_shared::pass_read(
+            &store.locks,
+            rt,
+            alloc,
+            proc,
+            low(fd),
+            few(len),
+        )),
+        Call::Pipe(reader, writer) => told(pass_shared::pipe(
+            &store.locks,
+            rt,
+            alloc,
+            proc,
+            low(reader),
+            low(writer),
+        )),
+        Call::MakeObject(fd) => told(pass_shared::pass_mkobj(
+            &store.locks,
+            rt,
+            alloc,
+            proc,
+            low(fd),
+        )),
+        Call::Freeze(fd) => told(pass_shared::pass_freeze(&store.locks, rt, alloc, proc, low(fd))),
+        Call::Sync(fd) => told(pass_kept::pass_sync(
+            &store.locks,
+            &store.vault,
+            rt,
+            alloc,
+            proc,
+            low(fd),
+        )),
         Call::Number => Answer::Number(proc.number()),
         Call::Seen => Answer::Number(proc.seen()),
-        Call::Settle => match store.settle(rt, alloc, proc) {
+        Call::Settle => match pass_kept::settle(&store.locks, &store.vault, rt, alloc, proc) {
             Ok(receipt) => Answer::Synced(receipt.calls, receipt.entries),
             Err(end) => ended(&end),
         },
-        Call::Trickle(limit) => match store.trickle(rt, alloc, limit) {
+        Call::Trickle(limit) => match pass_kept::trickle(
+            &store.locks,
+            &store.vault,
+            rt,
+            alloc,
+            limit,
+        ) {
             Ok(count) => Answer::Number(u64::from(count)),
             Err(end) => ended(&end),
         },
@@ -157,7 +193,7 @@ fn on_process<J: Opening, D: Disk, G: Gate, R: Wait>(
     match call {
         Call::Creat(fd, name) => {
             let name = name_of(alloc, name)?;
-            Ok(told(store.creat(rt, alloc, proc, low(fd), &name)))
+            Ok(told(pass_shared::creat(&store.locks, rt, alloc, proc, low(fd), &name)))
         }
         Call::Write(fd, letter, count) => write(rt, alloc, store, proc, fd, letter, count),
         _ => Ok(on_held(rt, alloc, store, proc, call)),
@@ -175,7 +211,7 @@ fn fork<J: Opening, D: Disk, G: Gate, R: Wait>(
     let Some(Some(parent)) = procs.get_mut(who) else {
         return Ok(Answer::Other);
     };
-    match store.fork(rt, alloc, parent) {
+    match pass_shared::fork(&store.locks, rt, alloc, parent) {
         Ok(child) => {
             let made = Answer::Made(child.pnode().0);
             procs.push(Some(child))?;
@@ -196,7 +232,7 @@ fn met<J: Opening, D: Disk, G: Gate, R: Wait>(
     let Some(Some(proc)) = procs.get_mut(who) else {
         return Answer::Other;
     };
-    store.meet(rt, other, proc);
+    pass_shared::meet(&store.locks, rt, other, proc);
     Answer::Number(proc.seen())
 }
 
@@ -211,7 +247,7 @@ fn met_ended<J: Opening, D: Disk, G: Gate, R: Wait>(
     let Some(Some(proc)) = procs.get_mut(who) else {
         return Answer::Other;
     };
-    store.meet_ended(rt, proc, trail);
+    pass_shared::meet_ended(&store.locks, rt, proc, trail);
     Answer::Number(proc.seen())
 }
 
@@ -259,7 +295,7 @@ pub fn called<J: Opening, D: Disk, G: Gate, R: Wait>(
     };
     match call {
         Call::Retire(other) => {
-            let mut trail = store.retire(rt, alloc, proc);
+            let mut trail = pass_shared::retire(&store.locks, rt, alloc, proc);
             Ok(met_ended(rt, store, procs, other, &mut trail))
         }
         _ => {

@@ -150,7 +150,7 @@ fn a_stop_after_each_call(rt: HostRuntime) -> Result<(), Fail> {
         for (keep, left) in keeps.iter().zip(row.iter()) {
             let found = after_a_stop(rt.alloc(), stop as u64, *keep);
             let want = Some((came(*answered), behind(*left), behind(3)));
-            assert_eq!(rt; found, want, "stop {stop} {keep:?}");
+            assert!(rt; found == want, "stop {stop}");
         }
     }
     Ok(())
@@ -182,7 +182,7 @@ fn each_call_fails_in_turn(rt: HostRuntime) -> Result<(), Fail> {
     for (call, (answered, left)) in table.iter().enumerate() {
         let found = after_a_fault(rt.alloc(), call as u64);
         let want = Some((came(*answered), behind(*left), behind(3)));
-        assert_eq!(rt; found, want, "call {call}");
+        assert!(rt; found == want, "call {call}");
     }
     Ok(())
 }

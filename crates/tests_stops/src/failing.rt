@@ -26,11 +26,8 @@ fn each_device_call_fails_in_turn(rt: HostRuntime) -> Result<(), Fail> {
     for call in 1..16 {
         // The store is opened by the first nine.
         let entries = if call < 10 { 0 } else { 6 };
-        assert_eq!(rt;
-            with_disk_fault(&rt, call)?,
-            (fault, entries),
-            "call {call}"
-        );
+        let (status, count) = with_disk_fault(&rt, call)?;
+        assert!(rt; status == fault && count == entries, "call {call}");
     }
     Ok(())
 }

@@ -4,7 +4,7 @@ use pass_cli::Status;
 use pass_entry::Pnode;
 use pass_outside::{Keep, MemDisk, MemSink, MemSource};
 use pass_range::Range;
-use pass_recover::{OpenFault, recover};
+use pass_recover::recover;
 use std::alloc::{AllocError, Global};
 use std::process::Abort;
 use std::sync::Wait;
@@ -27,13 +27,13 @@ fn left_after(call: u64, keep: Keep) -> (usize, bool) {
 }
 
 // How many records a disk opens with, and whether one range is unmatched, the file's block.
-fn found(alloc: Global, disk: &mut MemDisk) -> Result<(usize, bool), OpenFault> {
-    let opening = recover(alloc, disk)?;
+fn found(alloc: Global, disk: &mut MemDisk) -> Option<(usize, bool)> {
+    let opening = recover(alloc, disk).ok()?;
     let block = Range {
         pnode: Pnode(2),
         block: 0,
     };
-    Ok((
+    Some((
         opening.image.list.len(),
         opening.unmatched.as_slice() == [block].as_slice(),
     ))
@@ -66,9 +66,9 @@ fn a_stop_after_each_device_call(rt: HostRuntime) -> Result<(), Fail> {
             Keep::Fill(7),
         ] {
             let (status, _text, disk) = run(&rt, SYNC, new_disk(&rt, &[], Some(call))?)?;
-            assert_eq!(rt; status, want, "call {call}");
-            let left = found(rt.alloc(), &mut disk.after_crash(keep)?)?;
-            assert_eq!(rt; left, left_after(call, keep), "call {call} {keep:?}");
+            assert!(rt; status == want, "call {call}");
+            let left = found(rt.alloc(), &mut disk.after_crash(keep)?);
+            assert!(rt; left == Some(left_after(call, keep)), "call {call}");
         }
     }
     Ok(())
@@ -85,12 +85,9 @@ fn a_torn_gate_is_open_or_closed(rt: HostRuntime) -> Result<(), Fail> {
     ] {
         let (_status, _text, disk) = run(&rt, SYNC, new_disk(&rt, &[], Some(call))?)?;
         let (status, text, _disk) = run(&rt, b"", disk.after_crash(keep)?)?;
-        assert_eq!(rt; status, Status::Done);
+        assert!(rt; status == Status::Done);
         assert!(rt; text.as_slice().starts_with(b"call "), "call {call}");
-        assert!(rt;
-            text.as_slice()[5..].starts_with(process),
-            "call {call} {keep:?}"
-        );
+        assert!(rt; text.as_slice()[5..].starts_with(process), "call {call}");
     }
     Ok(())
 }

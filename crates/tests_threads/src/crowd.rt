@@ -74,7 +74,7 @@ fn eight_threads_make_one_legal_history(rt: HostRuntime) -> Result<(), Fail> {
         come: Meeting::new(),
     };
     let ended = run(&rt, alloc, trace(alloc)?, new_disk(alloc)?, &gate)?;
-    assert_eq!(rt; ended.status, Status::Done);
+    assert!(rt; ended.status == Status::Done);
     assert_eq!(rt; gate.come.late(), 0);
     judge(&rt, alloc, &ended.history)
 }

@@ -35,7 +35,7 @@ fn a_process_goes_on_while_another_is_held(rt: HostRuntime) -> Result<(), Fail> 
         third: Meeting::new(),
     };
     let status = status_of(&rt, alloc, TRACE, new_disk(alloc)?, &gate)?;
-    assert_eq!(rt; status, Status::Done);
+    assert!(rt; status == Status::Done);
     assert_eq!(rt; gate.third.late(), 0);
     Ok(())
 }

@@ -34,7 +34,7 @@ fn two_files_are_written_at_once(rt: HostRuntime) -> Result<(), Fail> {
         inside: Meeting::new(),
     };
     let status = status_of(&rt, alloc, TRACE, new_disk(alloc)?, &gate)?;
-    assert_eq!(rt; status, Status::Done);
+    assert!(rt; status == Status::Done);
     assert!(rt; gate.inside.has(2));
     assert_eq!(rt; gate.inside.late(), 0);
     Ok(())

@@ -85,7 +85,7 @@ fn run_held<R: Threads + Wait + Sync>(
 fn a_call_is_answered_while_a_frame_is_written(rt: HostRuntime) -> Result<(), Fail> {
     let stage = Stage::new();
     let status = run_held(&rt, rt.alloc(), &stage)?;
-    assert_eq!(rt; status, Status::Done);
+    assert!(rt; status == Status::Done);
     assert_eq!(rt; stage.at_disk.late(), 0);
     assert_eq!(rt; stage.answered.late(), 0);
     Ok(())

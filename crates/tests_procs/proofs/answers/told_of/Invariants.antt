@@ -1,4 +1,4 @@
-use Rattle.pass_store.specs.Grounds.{ground_of}
+use Rattle.pass_safe.specs.Grounds.{ground_of}
 use Rattle.tests_procs.proofs.answers.told_of.Given as goal
 
 abbrev pub ghosts-told_over-J-Whose : goal.ghosts-told_over-J-Whose

@@ -45,14 +45,14 @@ pub record HasSynced (calls entries : ℕ) (ss : List VaultSync) : Type 0 where
   pub called : s.calls ≡ calls
   pub has : s.entries ≡ entries
 
--- where the object is a file, the list has a sync of its data of so many entries, which is no staging
-abbrev pub BacksFile : Session → List Entry → ℕ → ℕ → List VaultSync → Type 0
-BacksFile session seen what entries ss = (number : ℕ) → IsFileNumber session seen what number
-    → (i : ℕ) × (s : VaultSync) × (f : FileMark) × (slice_get ss i ≡ Some s) × (s.file ≡ Some f) × (f.number ≡ number) × (s.staged ≡ None) × (s.entries ≡ entries)
+-- where the object is a file, the list has a sync of its data with these numbers, which is no staging
+abbrev pub BacksFile : Session → List Entry → ℕ → ℕ → ℕ → List VaultSync → Type 0
+BacksFile session seen what calls entries ss = (number : ℕ) → IsFileNumber session seen what number
+    → (i : ℕ) × (s : VaultSync) × (f : FileMark) × (slice_get ss i ≡ Some s) × (s.file ≡ Some f) × (f.number ≡ number) × (s.staged ≡ None) × (s.calls ≡ calls) × (s.entries ≡ entries)
 
 -- the list has the sync that a call answers, and for a file one of its data; `seen` is what stands before the call
 abbrev pub HasAnswered : Session → List Entry → ℕ → Moved → List VaultSync → Type 0
-HasAnswered session seen what (moved.Synced calls entries) ss = HasSynced calls entries ss × BacksFile session seen what entries ss
+HasAnswered session seen what (moved.Synced calls entries) ss = HasSynced calls entries ss × BacksFile session seen what calls entries ss
 HasAnswered session seen what _ ss = ⊥
 
 -- One call that is a sync of what the process holds under this number. Where a device call failed, or memory was refused, its first entry stands.

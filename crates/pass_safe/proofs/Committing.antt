@@ -142,7 +142,7 @@ module _ (session : Session) (who number : ℕ) (before seen : List Entry) (fd w
       in_one (suc j) is = absurd (cc)
 
   -- there is a sync above it, and one of the file's data where the object is a file
-  pub kept_backs : (calls entries : ℕ) (ss : List VaultSync) → HasSynced calls entries ss → place < entries → entries ≤ length seen → BacksFile session seen what entries ss
+  pub kept_backs : (calls entries : ℕ) (ss : List VaultSync) → HasSynced calls entries ss → place < entries → entries ≤ length seen → BacksFile session seen what calls entries ss
       → Backs session seen (length seen) ss (kept_entry who number fd)
   kept_backs calls entries ss synced above within file = λ fd n k is at by counted keep.
       let (there, same) = only n k at by counted in
@@ -150,7 +150,7 @@ module _ (session : Session) (who number : ℕ) (before seen : List Entry) (fd w
         (synced.i, synced.s, synced.is, (synced.whole, omega (arith, there, above, has), omega (arith, within, has))),
         λ m also.
             let mine = subst (λ o. IsFileNumber session (take n seen) o m) (ap (λ (e : Entry). e.what) same) also in
-            let (i, s, f, here, mark, equal, whole, all) = file m (number_stays session (take n seen) seen what m (front n seen) mine) in
+            let (i, s, f, here, mark, equal, whole, timed, all) = file m (number_stays session (take n seen) seen what m (front n seen) mine) in
             (i, s, f, here, mark, equal, (whole, omega (arith, there, above, all), omega (arith, within, all))),
       )
     where

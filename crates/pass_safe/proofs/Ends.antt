@@ -53,15 +53,15 @@ use Rattle.pass_safe.proofs.Committing.{keeping_looked, kept_backs}
 pub synced_on : (calls entries : ℕ) (xs ys : List VaultSync) → HasSynced calls entries xs → IsPrefix xs ys → HasSynced calls entries ys
 synced_on calls entries xs ys s more = record { i = s.i; s = s.s; is = prefix_get xs ys s.i s.s more s.is; whole = s.whole; called = s.called; has = s.has }
 
-pub backs_on : (session : Session) (seen : List Entry) (what entries : ℕ) (xs ys : List VaultSync) → BacksFile session seen what entries xs → IsPrefix xs ys → BacksFile session seen what entries ys
-backs_on session seen what entries xs ys backs more = λ number is. let b = backs number is in (b.0, b.1, b.2, prefix_get xs ys b.0 b.1 more b.3, b.4, b.5, b.6, b.7)
+pub backs_on : (session : Session) (seen : List Entry) (what calls entries : ℕ) (xs ys : List VaultSync) → BacksFile session seen what calls entries xs → IsPrefix xs ys → BacksFile session seen what calls entries ys
+backs_on session seen what calls entries xs ys backs more = λ number is. let b = backs number is in (b.0, b.1, b.2, prefix_get xs ys b.0 b.1 more b.3, b.4, b.5, b.6, b.7, b.8)
 
 -- a file has one number, that of its desk
 pub file_backs : (session : Session) → IsSound session → (file : FileDeskView) → IsFileNumber session file.seen file.what file.number → (s : Saved) → IsPrefix file.seen s.told.seen → IsFileSaved file.what file.number s
-    → (seen : List Entry) → IsPrefix s.told.seen seen → IsLegal session seen → BacksFile session seen file.what s.receipt.entries s.told.syncs
+    → (seen : List Entry) → IsPrefix s.told.seen seen → IsLegal session seen → BacksFile session seen file.what s.receipt.calls s.receipt.entries s.told.syncs
 file_backs session sound file known s begins saved seen told legal = λ number is.
     let mine = number_stays session file.seen seen file.what file.number (prefix_trans file.seen s.told.seen seen begins told) known in
-    (saved.i, saved.sync, record { pnode = file.what; number = file.number }, saved.is, saved.mark, number_one session sound seen legal file.what file.number number mine is, saved.whole, saved.has)
+    (saved.i, saved.sync, record { pnode = file.what; number = file.number }, saved.is, saved.mark, number_one session sound seen legal file.what file.number number mine is, saved.whole, saved.called, saved.has)
 
 -- a file among objects is one of them
 file_exists : (objects : List (ℕ × Kind)) (k p : ℕ) → slice_get (files_of objects) k ≡ Some p → (i : ℕ) × (a : ℕ × Kind) × (slice_get objects i ≡ Some a) × (a.0 ≡ p) × (same_kind a.1 kind.File ≡ true)
@@ -76,9 +76,9 @@ file_exists (o ∷ objects) k p at = by_kind (same_kind o.1 kind.File) refl k at
     by_kind false is k at later = later k at
 
 -- what a descriptor of another kind names is no file
-pub other_backs : (session : Session) → IsSound session → (who : ℕ) (p : Process) (fd : ℕ) (d : Descriptor) → finite_map.get p.descriptors fd ≡ Some d → is_file d ≡ false → (entries : ℕ) (ss : List VaultSync)
-    → (seen : List Entry) → IsLegal session seen → process_after seen who ≡ p → BacksFile session seen d.pnode entries ss
-other_backs session sound who p fd d held no_file entries ss seen legal state = λ number is.
+pub other_backs : (session : Session) → IsSound session → (who : ℕ) (p : Process) (fd : ℕ) (d : Descriptor) → finite_map.get p.descriptors fd ≡ Some d → is_file d ≡ false → (calls entries : ℕ) (ss : List VaultSync)
+    → (seen : List Entry) → IsLegal session seen → process_after seen who ≡ p → BacksFile session seen d.pnode calls entries ss
+other_backs session sound who p fd d held no_file calls entries ss seen legal state = λ number is.
     let (i, a, at, same, file) = file_exists (registry_after session seen).objects number d.pnode is in
     let good = descriptor_law session sound seen legal who in
     let known = (good.held fd d (ap (λ (p : Process). finite_map.get p.descriptors fd) state ∙ held)).known in
@@ -106,12 +106,12 @@ kept_left session k now what kept =
 
 -- or its last one stands, too
 pub ended_ok : (session : Session) (places : ℕ) (k : KeepingView) (now : ProcView) (what : ℕ) → HasKept session k now what → (new : ProcView) → new.who ≡ now.who → new.way ≡ now.way → (calls entries : ℕ)
-    → HasMoved session now.who k.before.seen new.seen new.state (requests.Sync k.fd) (moved.Synced calls entries) → HasSynced calls entries new.syncs → BacksFile session k.before.seen what entries new.syncs
+    → HasMoved session now.who k.before.seen new.seen new.state (requests.Sync k.fd) (moved.Synced calls entries) → HasSynced calls entries new.syncs → BacksFile session k.before.seen what calls entries new.syncs
     → SyncAnswers session places k.before new k.fd (Ok (moved.Synced calls entries))
 ended_ok session places k now what kept new who way calls entries made synced backs = (
   subst (λ w. HasMoved session w k.before.seen new.seen new.state (requests.Sync k.fd) (moved.Synced calls entries)) kept.who made,
   record { who = who ∙ kept.who; grows = made.call.begins; way = way ∙ kept.way },
-  (synced, subst (λ (o : ℕ). BacksFile session k.before.seen o entries new.syncs) (sym kept.keeping.object ∙ ap (λ (p : Process). (descriptor_at p k.fd).pnode) kept.state) backs),
+  (synced, subst (λ (o : ℕ). BacksFile session k.before.seen o calls entries new.syncs) (sym kept.keeping.object ∙ ap (λ (p : Process). (descriptor_at p k.fd).pnode) kept.state) backs),
 )
 
 pub no_way : (session : Session) (who number : ℕ) (seen : List Entry) (now : Process) (o : Option Way) → o ≡ None → IsWay session who number seen now o
@@ -129,11 +129,11 @@ module _ (session : Session) (k : KeepingView) (process : ProcessView) (number :
   keeping_met = keeping_looked session process.who number k.before.seen caller.seen k.fd what process.state k.place by_parts.keeping met.seen (subst (λ w. HasLooked session w caller.seen met.seen) of_who looked)
 
   -- of a file it has a sync of the data, which had its number before the call
-  pub file_backed : (s : Saved) → IsBacking session now.who now.state what s → IsPrefix s.told.seen met.seen → IsPrefix s.told.syncs met.syncs → BacksFile session k.before.seen what s.receipt.entries met.syncs
+  pub file_backed : (s : Saved) → IsBacking session now.who now.state what s → IsPrefix s.told.seen met.seen → IsPrefix s.told.syncs met.syncs → BacksFile session k.before.seen what s.receipt.calls s.receipt.entries met.syncs
   file_backed s backing told listed = λ number is.
       let here = subst (λ (v : ProcView). IsBacking session v.who v.state what s) (sym is_now) backing in
       let going = keeping_met.gone.is in
-      backs_on session met.seen what s.receipt.entries s.told.syncs met.syncs (here met.seen told going.legal going.state) listed number (number_stays session k.before.seen met.seen what number going.begins is)
+      backs_on session met.seen what s.receipt.calls s.receipt.entries s.told.syncs met.syncs (here met.seen told going.legal going.state) listed number (number_stays session k.before.seen met.seen what number going.begins is)
 
   pub met_backs : (s : Saved) → IsBacking session now.who now.state what s → IsPrefix s.told.seen met.seen → IsPrefix s.told.syncs met.syncs → HasSynced s.receipt.calls s.receipt.entries s.told.syncs
       → k.place < s.receipt.entries → s.receipt.entries ≤ length s.told.seen → Backs session met.seen (length met.seen) met.syncs (kept_entry process.who number k.fd)
@@ -143,7 +143,7 @@ module _ (session : Session) (k : KeepingView) (process : ProcessView) (number :
       let is = keeping_met.gone.is in
       kept_backs session process.who number k.before.seen met.seen k.fd what process.state k.place keeping_met s.receipt.calls s.receipt.entries met.syncs
       (synced_on s.receipt.calls s.receipt.entries s.told.syncs met.syncs synced listed) above (omega (arith, within, longer))
-      (backs_on session met.seen what s.receipt.entries s.told.syncs met.syncs (here met.seen told is.legal is.state) listed)
+      (backs_on session met.seen what s.receipt.calls s.receipt.entries s.told.syncs met.syncs (here met.seen told is.legal is.state) listed)
 
 -- The process refused it
 

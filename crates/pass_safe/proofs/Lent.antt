@@ -64,7 +64,7 @@ module _ {D : Type 0} (book : BookId) (v w : Vaulted D) (file : FileDeskView) (r
   }
 
   pub file_saved_of : IsFileSaved file.what file.number (record { receipt = r; told = told })
-  file_saved_of = record { i = length v.syncs; sync = last; is = there; mark = refl; whole = refl; has = refl }
+  file_saved_of = record { i = length v.syncs; sync = last; is = there; mark = refl; whole = refl; called = refl; has = refl }
 
 -- What a flush has come to
 

@@ -106,8 +106,9 @@ pub record IsFileSaved (what number : ℕ) (s : Saved) : Type 0 where
   pub is : slice_get s.told.syncs i ≡ Some sync
   pub mark : sync.file ≡ Some (record { pnode = what; number = number })
   pub whole : sync.staged ≡ None
+  pub called : sync.calls ≡ s.receipt.calls
   pub has : sync.entries ≡ s.receipt.entries
 
 -- so it is whatever more the process sees
 abbrev pub IsBacking : Session → ℕ → Process → ℕ → Saved → Type 0
-IsBacking session who p what s = (seen : List Entry) → IsPrefix s.told.seen seen → IsLegal session seen → process_after seen who ≡ p → BacksFile session seen what s.receipt.entries s.told.syncs
+IsBacking session who p what s = (seen : List Entry) → IsPrefix s.told.seen seen → IsLegal session seen → process_after seen who ≡ p → BacksFile session seen what s.receipt.calls s.receipt.entries s.told.syncs

@@ -64,7 +64,7 @@ returns g c =
     (e.call k.before.seen q.0 k.place s.receipt.calls s.receipt.entries here c.requires.above) in
     ended_ok S g.J.Whose.places k (proc_with i.process i.number i.caller i.way) q.0 there (proc_with c.kept_step.new.process i.number c.kept_step.new.caller i.way) e.who.0 refl s.receipt.calls s.receipt.entries made
     (synced_on s.receipt.calls s.receipt.entries s.told.syncs c.kept_step.new.caller.syncs c.requires.saved.1.synced (prefix_trans s.told.syncs met.syncs c.kept_step.new.caller.syncs c.meet_told.ensures.told.1 e.grows))
-    (backs_on S k.before.seen q.0 s.receipt.entries met.syncs c.kept_step.new.caller.syncs
+    (backs_on S k.before.seen q.0 s.receipt.calls s.receipt.entries met.syncs c.kept_step.new.caller.syncs
     (file_backed S k i.process i.number i.caller met i.way c.args.proc.now c.proc.view_is q.0 q.1 c.meet_told.ensures.looked c.proc.invariant.0.of_who s q.2 c.meet_told.ensures.told.0 c.meet_told.ensures.told.1) e.grows)
 
 pub invariant_of-proc : goal.invariant_of-proc

@@ -8,5 +8,5 @@ end_sync-requires-clause-kept g c =
     let p = a.proc.now in (
       a.descriptor.now.pnode,
       q.kept,
-      λ seen told legal state. other_backs g.J.Whose.book.session q.saved.1.sound p.who p.state a.keeping.now.fd a.descriptor.now q.descriptor q.no_file a.saved.receipt.entries a.saved.told.syncs seen legal state,
+      λ seen told legal state. other_backs g.J.Whose.book.session q.saved.1.sound p.who p.state a.keeping.now.fd a.descriptor.now q.descriptor q.no_file a.saved.receipt.calls a.saved.receipt.entries a.saved.told.syncs seen legal state,
     )

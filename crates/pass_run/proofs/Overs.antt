@@ -1,6 +1,6 @@
 -- What a run over an opened session hands out, whose store was closed.
 use Rattle.std.proofs.Common.{◌≡◌, ◌≢◌, ◌⊎◌, ◌<◌, ◌+◌, ◌∷◌, ℕ, Bool, List, [], length, refl, ap, sym, ◌∙◌, subst, inl, inr, ⊎_elim, arith, length-append}
-use Rattle.std.specs.Prelude.{Option, Result, Ok, Err, IfOk, IfErr, OnOk}
+use Rattle.std.specs.Prelude.{Option, None, Result, Ok, Err, IfOk, IfErr, OnOk}
 use mathlib.Core.List.{IsPrefix}
 use Rattle.pass_answer.specs.declared.answer.CallEnd.{CallEnd}
 use Rattle.pass_answer.specs.declared.answer.CallEnd.TheVariants as ends
@@ -35,7 +35,12 @@ use Rattle.pass_vault.specs.declared.vault.Receipt.{Receipt}
 use Rattle.pass_book.specs.Tokens.{BookId}
 use Rattle.pass_run.specs.Closing.{status_of}
 use Rattle.pass_run.specs.Ends.{EndsAs}
+use Rattle.pass_order.specs.Replayed.{IsReplayedTo}
+use Rattle.pass_replay.specs.Orders.{IsReplay, due}
 use Rattle.pass_run.specs.declared.ending.RunEnd.{RunEnd}
+use Rattle.pass_run.specs.declared.order.Order.{Order}
+use Rattle.pass_run.specs.declared.order.Order.TheVariants as orders
+use Rattle.pass_run.specs.Orders.{IsReplayedOver}
 use Rattle.pass_status.specs.declared.status.Status.{Status}
 use Rattle.pass_status.specs.declared.status.Status.TheVariants as status
 use Rattle.pass_run.specs.OpenedRuns.{IsRunOver}
@@ -158,7 +163,8 @@ module _ {D : Type 0} (view : D → Moment) (old : Moment) (lines : List TraceLi
   module _ (e : RunEnd D) (last : Last) (settled : Result Receipt CallEnd) (status_is : e.status ≡ status_of (view e.disk).faults last settled)
       (silent : e.report.items ≡ []) (list_is : e.list.items ≡ ground.before) (same : SameButBytes e.start book.session.start) (bare : IsBare e.start)
       (closed : IsClosed (story_at book ground e.history.items) ground.ready (view e.disk) e.syncs.items)
-      (later : IsLater old (view e.disk)) (laws : GraphLaw × VersionRecordLaw × InputRecordLaw) (ran : IsRanTo book.session (plain_trace lines) e.history.items last) where
+      (later : IsLater old (view e.disk)) (laws : GraphLaw × VersionRecordLaw × InputRecordLaw) (ran : IsRanTo book.session (plain_trace lines) e.history.items last)
+      (order : Order) (replayed : order ≡ orders.Lines → IsReplayedTo book.session (plain_trace lines) e.history.items last) where
     list_too : e.list.items ≡ list
     list_too = list_is ∙ sym (ap (λ (g : Ground). g.before) ground_is)
 
@@ -190,6 +196,18 @@ module _ {D : Type 0} (view : D → Moment) (old : Moment) (lines : List TraceLi
     over : IsOverStore old.calls old (view e.disk) lines e.list.items e.start e.history.items e.syncs.items
     over = record { opened = start; opening = is_opening; some = some_entry (first_entry book.session) e.history.items ran.has.starts; recorded = recorded; stored = stored; numbered = numbered (session_of_trace start lines) e.history.items run.legal }
 
+    -- a replay
+    in_order : order ≡ orders.Lines → IsReplayedOver old lines e.list.items e.start e.history.items e.status
+    in_order is = record {
+      opened = start;
+      opening = is_opening;
+      replay = subst (λ (s : Session). IsReplay s (plain_trace lines) e.history.items) session_is (replayed is).replay;
+      whole = λ end.
+          let (receipt, ok, by) = of_end (view e.disk).faults last settled e.status status_is end in
+          subst (λ (s : Session). due s (plain_trace lines) e.history.items ≡ None) session_is
+          ((replayed is).whole (⊎_elim (λ (d : (e.status ≡ status.Done) × (last ≡ lasts.Done)). inl d.1) (λ (s : (e.status ≡ status.Stuck) × (last ≡ lasts.Stuck)). inr s.1) by));
+    }
+
     -- a fault of the disk
     module _ (refused : IfErr settled (IsUnsettled ground.opened (view e.disk))) where
       lost : (opened counted : ℕ) → e.status ≡ status.DiskFault opened counted → (opened ≡ old.faults) × (counted ≡ (view e.disk).faults) × ((opened < counted) ⊎ IsAtEnd (view e.disk))
@@ -198,7 +216,7 @@ module _ {D : Type 0} (view : D → Moment) (old : Moment) (lines : List TraceLi
           let fault : IsLost (view e.disk) ground.opened (record { opened = opened; found = found }) = subst (λ (r : Result Receipt CallEnd). IfErr r (IsUnsettled ground.opened (view e.disk))) failed refused in (
             fault.first ∙ opened_is,
             sym now,
-            ⊎_elim (λ (rose : opened < found). inl (omega (arith, rose, fault.within, now))) (λ (end : IsAtEnd (view e.disk)). inr end) fault.above,
+            ⊎_elim (λ (rose : opened < found). inl (omega (arith, rose, fault.last, now))) (λ (end : IsAtEnd (view e.disk)). inr end) fault.above,
           )
 
       -- all of it
@@ -242,7 +260,7 @@ module _ {D : Type 0} (view : D → Moment) (old : Moment) (lines : List TraceLi
         quiet : e.status ≢ status.NoMemory → (IsOfDisk e.status → ⊥) → IsEnd e.status
         quiet some other = quiet_end (view e.disk).faults last settled e.status status_is some other
 
-        pub over_run : IsRunOver view old lines e
+        pub over_run : IsRunOver view old lines order e
         over_run = record {
           disk_fault = lost;
           no_fault = λ some other. fine (quiet some other);
@@ -252,5 +270,6 @@ module _ {D : Type 0} (view : D → Moment) (old : Moment) (lines : List TraceLi
           backed = backed_by (story_at book ground e.history.items) ground.ready (view e.disk) e.syncs.items closed;
           ended = (report_of start e.history.items lines, ended);
           silent = silent;
+          replayed = λ is. inr (in_order is);
           later = later;
         }

@@ -66,7 +66,7 @@ module _ {D : Type 0} (book : BookId) (laid : Ground) (tells : Bool) (view : D �
       stands = record {
         first = opened ∙ sym first;
         rises = let count = safe.stands.0 in omega (arith, opened, now, more, count);
-        within = omega (arith, now);
+        last = now;
         above = elim fault [
           | inl rose ↦ inl (let count = safe.stands.0 in omega (arith, opened, now, rose, count))
           | inr ended ↦ inr ended

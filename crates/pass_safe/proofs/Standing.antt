@@ -16,7 +16,7 @@ pub lost_since : {D : Type 0} (book : BookId) (laid : Ground) (tells : Bool) (vi
 lost_since book laid tells view v o l f safe lost is =
     let stands : IsLost (view v.disk) v.opened l = subst (Stands view v) lost safe.stands in
     subst (λ (f : SafeFault). IsFaultSince view laid.opened f) (sym is)
-    (record { disk = v.disk; lost = record { first = stands.first ∙ ap (λ (g : Ground). g.opened) safe.opened_as; rises = stands.rises; within = stands.within; above = stands.above } })
+    (record { disk = v.disk; lost = record { first = stands.first ∙ ap (λ (g : Ground). g.opened) safe.opened_as; rises = stands.rises; last = stands.last; above = stands.above } })
 
 -- that of a call after which the vault is safe
 pub since_of : {D T : Type 0} (book : BookId) (laid : Ground) (tells : Bool) (view : D → Moment) (v : Vaulted D) (answer : Result T SafeFault) → IsSafe book laid tells view v (lost_in answer)

@@ -17,12 +17,12 @@ pub record SafeView (D : Type 0) : Type 0 where
   pub vault : Vaulted D
   pub lost : Option Lost
 
--- A device call failed, and the disk's count of faults was found to be that. It had risen since the vault was opened, or a count
--- stands at its end.
+-- A device call failed, the disk's count of faults was found to be that, and no call has failed since. It had risen since the vault was
+-- opened, or a count stands at its end.
 pub record IsLost (m : Moment) (opened : ℕ) (l : Lost) : Type 0 where
   pub first : l.opened ≡ opened
   pub rises : l.opened ≤ l.found
-  pub within : l.found ≤ m.faults
+  pub last : l.found ≡ m.faults
   pub above : (l.opened < l.found) ⊎ IsAtEnd m
 
 -- Before a fault the count of faults is the one of the opening, and all is durable that the vault has seen.
@@ -63,8 +63,8 @@ pub record Leaves {D T : Type 0} (view : D → Moment) (old new : SafeView D) (a
   pub failed : (opened found : ℕ) → answer ≡ Err (DiskFault opened found) → IsLost (view new.vault.disk) old.vault.opened (record { opened = opened; found = found })
   pub goes_on : GoesOn (view old.vault.disk) (view new.vault.disk)
 
--- A device call has failed since the store was opened, as the disk was at some moment: the count of faults as the store was opened, and a later
--- one, which is above it unless a count of the disk stands at its end.
+-- A device call has failed since the store was opened, and none behind it, as a disk was at some moment: the count of faults as the store was
+-- opened, and the disk's then, which is above it unless a count of the disk stands at its end.
 pub record HasFailed {D : Type 0} (view : D → Moment) (opened first now : ℕ) : Type 0 where
   pub disk : D
   pub lost : IsLost (view disk) opened (record { opened = first; found = now })

@@ -1,0 +1,12 @@
+//! The calls that give and take descriptors and names, followed one after the other, and the lines that they are in a trace. No
+//! clause says which lines.
+#![tactic(auto)]
+
+mod descriptors;
+mod naming;
+mod opening;
+mod output;
+mod run;
+
+pub use output::Output;
+pub use run::{Known, Opening, Run, Setting, What};

@@ -1,0 +1,16 @@
+//! The calls that move bytes between processes, files, pipes and memory, and the lines that they are in a trace. No clause says
+//! which lines.
+#![tactic(auto)]
+
+mod executing;
+mod leaving;
+mod mappings;
+mod transfers;
+
+pub use executing::exec;
+pub use leaving::leave;
+pub use mappings::{map, unmap_part};
+pub use transfers::{
+    ATTRIBUTE, UNKNOWN, copy_range, cut, cut_name, device, payload_of, pour, seek, send_file, tee,
+    transfer,
+};

@@ -1,75 +1,71 @@
-//! Why a text of strace isn't translated.
+//! Why there is no trace of a text of strace.
 
+use pass_syscall::{LineFault, StraceFault, StraceReason};
 use pass_trace::TraceReason;
-use std::alloc::{AllocError, AllocFailed};
+use std::alloc::AllocError;
 
 /// Why a line of strace is refused.
 #[derive(Clone, Copy, PartialEq, Eq)]
-pub enum StraceReason {
-    /// It is none that strace writes of a call, a signal or an end.
-    Form,
-    /// The text ends within it, or before some process has ended.
-    Cut,
-    /// It is of a process that no call began, or goes on with a call that hasn't begun.
-    Process,
+pub enum Refusal {
+    /// It can't be read.
+    Strace(StraceReason),
     /// What it does has no line that may stand in a trace, or one too many.
     Trace(TraceReason),
 }
 
-impl StraceReason {
+impl Refusal {
     /// The word by which a report of a fault tells the reason.
     pub fn word(&self) -> &'static str {
         match self {
-            StraceReason::Form => "form",
-            StraceReason::Cut => "cut",
-            StraceReason::Process => "process",
-            StraceReason::Trace(reason) => reason.word(),
+            Refusal::Strace(reason) => reason.word(),
+            Refusal::Trace(reason) => reason.word(),
+        }
+    }
+
+    /// The word of strace's command line with which the line would have had another form.
+    pub fn expected(&self) -> Option<&'static str> {
+        match self {
+            Refusal::Strace(reason) => reason.expected(),
+            Refusal::Trace(_) => None,
         }
     }
 }
 
 /// Why there is no trace.
 #[derive(Clone, Copy, PartialEq, Eq)]
-pub enum StraceFault {
+pub enum TranslationFault {
     /// A line that is refused, by its number from 1.
-    BadStrace { line: u64, reason: StraceReason },
+    Refused { line: u64, reason: Refusal },
     NoMemory,
 }
 
-// Why a line isn't read.
-#[derive(Clone, Copy)]
-pub(crate) enum LineFault {
-    Bad(StraceReason),
-    NoMemory,
-}
-
-// Whether a line, or a part of it, was taken.
-pub(crate) type Taken = Result<(), LineFault>;
-
-impl LineFault {
+impl TranslationFault {
     // The fault of the text, where the line with this number is refused.
-    pub(crate) fn at_line(self, line: u64) -> StraceFault {
-        match self {
-            LineFault::Bad(reason) => StraceFault::BadStrace { line, reason },
-            LineFault::NoMemory => StraceFault::NoMemory,
+    pub(crate) fn at_line(line: u64, fault: LineFault) -> TranslationFault {
+        match fault {
+            LineFault::Bad(reason) => TranslationFault::Refused {
+                line,
+                reason: Refusal::Strace(reason),
+            },
+            LineFault::NoMemory => TranslationFault::NoMemory,
         }
     }
 }
 
-impl From<AllocError> for LineFault {
-    fn from(_refused: AllocError) -> LineFault {
-        LineFault::NoMemory
+impl From<AllocError> for TranslationFault {
+    fn from(_refused: AllocError) -> TranslationFault {
+        TranslationFault::NoMemory
     }
 }
 
-impl<T: Drop> From<AllocFailed<T>> for LineFault {
-    fn from(_refused: AllocFailed<T>) -> LineFault {
-        LineFault::NoMemory
-    }
-}
-
-impl From<AllocError> for StraceFault {
-    fn from(_refused: AllocError) -> StraceFault {
-        StraceFault::NoMemory
+impl From<StraceFault> for TranslationFault {
+    fn from(fault: StraceFault) -> TranslationFault {
+        match fault {
+            StraceFault::BadStrace { line, reason } => TranslationFault::Refused {
+                line,
+                reason: Refusal::Strace(reason),
+            },
+            StraceFault::NoMemory => TranslationFault::NoMemory,
+        }
     }
 }

@@ -1,17 +1,21 @@
 //! The trace of what strace wrote.
 ghost use Rattle.std.specs.Prelude.{◌≡◌, ◌+◌, false, Err, IsTrue, IfOk, OnOk, length};
-ghost use Rattle.pass_strace.specs.declared.fault.StraceFault.TheVariants.{BadStrace};
-ghost use Rattle.pass_strace.specs.declared.fault.StraceReason.TheVariants.{Cut};
+ghost use Rattle.pass_strace.specs.declared.fault.TranslationFault.TheVariants.{Refused};
+ghost use Rattle.pass_strace.specs.declared.fault.Refusal.TheVariants.{Strace};
+ghost use Rattle.pass_syscall.specs.declared.fault.StraceReason.TheVariants.{Cut};
 ghost use Rattle.pass_trace.specs.Traces.{trace_of, IsTraceText};
 ghost use Rattle.pass_strace.specs.Translations.{count_lines, is_whole, IsInOrder};
 
 use crate::acting::Tracing;
-use crate::fault::{LineFault, StraceFault, StraceReason};
-use crate::lines::{Joining, join};
-use crate::run::{Output, Run};
-use crate::skip::Skip;
+use crate::fault::{Refusal, TranslationFault};
+use crate::telling::Telling;
+use pass_descriptor::{Known, Output, Run, Setting};
+use pass_entry::KIND_LIMIT;
+use pass_observed::{Ledger, Origin, Skipped, Stored, Survey, Told, below};
+use pass_syscall::{Joining, LineFault, Skip, Step, StraceReason, join};
 use pass_trace::{Command, Trace, TraceFault, TraceLine, TraceReason, parse, print};
-use std::alloc::Global;
+use std::alloc::{AllocError, Global};
+use std::collections::BTreeSet;
 
 /// The trace of a run.
 #[derive(Drop)]
@@ -22,43 +26,87 @@ pub struct Translated {
     pub lines: Vec<TraceLine>,
     /// For each of its lines the line of strace, from 1, from which it comes; 0 where it comes from none.
     pub origins: Vec<u64>,
-    /// Why calls are in none of its lines, in their order.
-    pub skipped: Vec<Skip>,
+    /// The lines of strace whose calls are in none of its lines, and why.
+    pub skipped: Vec<Skipped>,
+    /// What can't be told, by files and calls.
+    pub told: Vec<Told>,
 }
 
 // The lines of the trace: what was there before the run, and the calls of its processes.
-fn assemble(alloc: Global, run: &mut Run) -> Result<Output, StraceFault> {
-    let mut whole = Output::new(alloc);
-    run.files.tell(alloc, &mut whole)?;
-    if !run.out.lines.is_empty() {
-        whole.push(0, 1, Command::Fork { child: 2 })?;
+fn assemble(alloc: Global, run: Run<'_>) -> Result<(Output, Ledger), LineFault> {
+    let Run {
+        setting,
+        files,
+        stale,
+        out,
+        ledger,
+        ..
+    } = run;
+    let (mut whole, mut ledger, mut out) = (Output::new(alloc), ledger, out);
+    for name in &stale {
+        let name = name.clone()?;
+        whole.push(0, 1, Command::Unlink { name })?;
     }
-    whole.lines.append(&mut run.out.lines)?;
-    whole.origins.append(&mut run.out.origins)?;
-    Ok(whole)
+    let mut telling = Telling {
+        alloc,
+        stored: setting.stored,
+        out: &mut whole,
+        ledger: &mut ledger,
+    };
+    for (place, file) in files.files.iter().enumerate() {
+        if !setting.known.left_out.contains(&place) {
+            telling.tell(file)?;
+        }
+    }
+    begin_run(&mut out)?;
+    whole.lines.append(&mut out.lines)?;
+    whole.origins.append(&mut out.origins)?;
+    Ok((whole, ledger))
+}
+
+// Process 1 begins the first process of the run, behind the FIFOs' pipes.
+fn begin_run(out: &mut Output) -> Result<(), AllocError> {
+    let begun = out.lines.iter().position(|line| line.process != 1);
+    let Some(begun) = begun else {
+        return Ok(());
+    };
+    let fork = TraceLine {
+        number: 0,
+        process: 1,
+        command: Command::Fork { child: 2 },
+    };
+    out.lines.insert(begun, fork)?;
+    // There are as many origins as lines.
+    let place = begun.min(out.origins.len());
+    out.origins.insert(place, 0)?;
+    Ok(())
 }
 
 // The lines of the text, where it is one of a trace.
-fn read_again(alloc: Global, text: &[u8], origins: &[u64]) -> Result<Vec<TraceLine>, StraceFault>
+fn read_again(
+    alloc: Global,
+    text: &[u8],
+    origins: &[u64],
+) -> Result<Vec<TraceLine>, TranslationFault>
     ensures text { OnOk result (IsTraceText text.now) }
     ensures lines { IfOk result (λ l. l.items ≡ trace_of text.now) }
 {
     match parse(alloc, text) {
         Ok(Trace { lines }) => Ok(lines),
         Err(TraceFault::BadTrace { line, reason }) => Err(refused(origins, line, reason)),
-        Err(TraceFault::NoMemory) => Err(StraceFault::NoMemory),
+        Err(TraceFault::NoMemory) => Err(TranslationFault::NoMemory),
     }
 }
 
 // The fault of the line of strace from which a line of the trace comes.
-fn refused(origins: &[u64], line: u32, reason: TraceReason) -> StraceFault {
+fn refused(origins: &[u64], line: u32, reason: TraceReason) -> TranslationFault {
     let place = (line as usize).saturating_sub(1);
     let line = match origins.get(place) {
         Some(origin) => (*origin).max(1),
         None => 1,
     };
-    let reason = StraceReason::Trace(reason);
-    StraceFault::BadStrace { line, reason }
+    let reason = Refusal::Trace(reason);
+    TranslationFault::Refused { line, reason }
 }
 
 fn are_in_order(origins: &[u64], count: u64) -> bool
@@ -79,15 +127,16 @@ fn are_in_order(origins: &[u64], count: u64) -> bool
 fn checked(
     alloc: Global,
     out: Output,
-    skipped: Vec<Skip>,
+    ledger: Ledger,
     count: u64,
-) -> Result<Translated, StraceFault>
+) -> Result<Translated, TranslationFault>
     ensures text { IfOk result (λ t. IsTraceText t.text.items) }
     ensures lines { IfOk result (λ t. t.lines.items ≡ trace_of t.text.items) }
     ensures origins { IfOk result (λ t. length t.origins.items ≡ length t.lines.items) }
     ensures order { IfOk result (λ t. IsInOrder t.origins.items count) }
 {
     let Output { lines, origins } = out;
+    let Ledger { skipped, told, .. } = ledger;
     let text = print(alloc, &Trace { lines })?;
     let lines = read_again(alloc, &text, &origins)?;
     if lines.len() != origins.len() || !are_in_order(&origins, count) {
@@ -98,6 +147,7 @@ fn checked(
         lines,
         origins,
         skipped,
+        told,
     })
 }
 
@@ -115,31 +165,124 @@ fn count_lines(text: &[u8]) -> usize
     text.iter().filter(|byte| **byte == b'\n').count()
 }
 
-// What the run is in a trace, whose processes have all ended by the last of so many lines.
-fn traced(alloc: Global, lines: &[u8], count: u64) -> Result<Run, StraceFault> {
-    let Joining { steps, alive, .. } = join(alloc, lines)?;
-    let mut tracing = Tracing::new(alloc);
-    for step in &steps {
-        if step.answered {
-            if let Err(fault) = tracing.take(alloc, step) {
-                return Err(fault.at_line(step.line));
-            }
+// What the run is in a trace.
+fn traced<'a>(
+    alloc: Global,
+    steps: &[Step<'_>],
+    survey: &'a Survey,
+    setting: Setting<'a>,
+) -> Result<Run<'a>, TranslationFault> {
+    let mut tracing = Tracing::new(alloc, survey, setting);
+    for step in steps {
+        if let Err(fault) = tracing.take(alloc, step) {
+            return Err(TranslationFault::at_line(step.place, fault));
         }
-    }
-    if !alive.is_empty() {
-        return Err(LineFault::Bad(StraceReason::Cut).at_line(count));
     }
     let Tracing { run, .. } = tracing;
     Ok(run)
 }
 
-/// The trace of a run of which `strace -f -xx -s 4096 -o` wrote this text.
+// The files that a store has no room for. What the run wrote stays, and what lies below the user's folder, before what a system brings.
+fn without_room(alloc: Global, run: &Run<'_>) -> Result<BTreeSet<usize>, AllocError> {
+    let Setting {
+        stored,
+        root,
+        base,
+        ..
+    } = run.setting;
+    let folder = if root.is_empty() { base } else { root };
+    let mut left_out = BTreeSet::new(alloc);
+    let mut room = (KIND_LIMIT as usize).saturating_sub(stored.len());
+    for prefers in [true, false] {
+        for (place, file) in run.files.files.iter().enumerate() {
+            let is_ours = file.written || below(folder, &file.first.path).is_some();
+            let is_there = file.origin == Origin::Before
+                && stored.named(file.first.name.as_bytes()).is_some();
+            if is_ours != prefers || is_there || file.origin == Origin::Given {
+                continue;
+            }
+            if room == 0 {
+                left_out.insert(place)?;
+            }
+            room = room.saturating_sub(1);
+        }
+    }
+    Ok(left_out)
+}
+
+// The files that were copied before their bytes were shown, and of which all bytes that the run used are shown somewhere.
+fn shown_later(alloc: Global, run: &Run<'_>) -> Result<BTreeSet<usize>, AllocError> {
+    let mut shown = BTreeSet::new(alloc);
+    for place in run.copied.iter() {
+        if let Some(file) = run.files.get(*place) {
+            if file.image.before(alloc)?.is_whole() {
+                shown.insert(*place)?;
+            }
+        }
+    }
+    Ok(shown)
+}
+
+// What is known of a run by a reading of all its steps.
+fn learned(alloc: Global, run: &Run<'_>) -> Result<Known, AllocError> {
+    Ok(Known {
+        left_out: without_room(alloc, run)?,
+        shown: shown_later(alloc, run)?,
+    })
+}
+
+// The lines of a reading. Without paths beside the descriptors some things can't be known.
+fn lines_of(
+    alloc: Global,
+    survey: &Survey,
+    run: Run<'_>,
+) -> Result<(Output, Ledger), TranslationFault> {
+    let (out, mut ledger) = assemble(alloc, run).map_err(at_front)?;
+    if !survey.has_paths && !out.lines.is_empty() {
+        ledger.tell(1, Skip::Paths, b"-y")?;
+    }
+    Ok((out, ledger))
+}
+
+// A fault of none of the text's lines.
+fn at_front(fault: LineFault) -> TranslationFault {
+    TranslationFault::at_line(1, fault)
+}
+
+// The lines of a trace of all steps. Where a first reading shows that some files have no room, or that bytes are shown later than they
+// are copied, they are read once more.
+fn translated_steps<'a>(
+    alloc: Global,
+    steps: &[Step<'_>],
+    stored: &'a Stored,
+    root: &'a [u8],
+) -> Result<(Output, Ledger), TranslationFault> {
+    let survey = Survey::of(alloc, steps)?;
+    let nothing = Known::nothing(alloc);
+    let first = Setting::of(&survey, stored, root, &nothing);
+    let run = traced(alloc, steps, &survey, first)?;
+    let known = learned(alloc, &run)?;
+    if known.is_empty() {
+        return lines_of(alloc, &survey, run);
+    }
+    let second = Setting::of(&survey, stored, root, &known);
+    let run = traced(alloc, steps, &survey, second)?;
+    lines_of(alloc, &survey, run)
+}
+
+/// The trace of a run of which `strace -f -y -xx -s 1073741823 -o` wrote this text, to be recorded in a store that has these files.
 ///
 /// The calls that move bytes, open, close, name or cut files, and begin, end or wait for processes are lines of the trace. Process
-/// 1 makes the files that were there before the run, with the bytes that are read of them, and begins the run's first process.
-pub fn translate(alloc: Global, text: &[u8]) -> Result<Translated, StraceFault>
+/// 1 makes the files that were there before the run, with the bytes that are read of them, and begins the run's first process. Names
+/// of files below the root are relative to it, and others absolute.
+pub fn translate<'a>(
+    alloc: Global,
+    text: &[u8],
+    stored: &'a Stored,
+    root: &'a [u8],
+) -> Result<Translated, TranslationFault>
     // A text that ends within a line is refused with that line.
-    ensures cut { is_whole text.now ≡ false → result ≡ Err (BadStrace (count_lines text.now + 1) Cut) }
+    ensures cut { is_whole text.now ≡ false → result ≡ Err (Refused (count_lines text.now + 1) (Strace Cut)) }
     // What is to be written is the text of a trace, and its lines are those that it says.
     ensures text { IfOk result (λ t. IsTraceText t.text.items) }
     ensures lines { IfOk result (λ t. t.lines.items ≡ trace_of t.text.items) }
@@ -150,14 +293,20 @@ pub fn translate(alloc: Global, text: &[u8]) -> Result<Translated, StraceFault>
     let count = count_lines(text) as u64;
     if !is_whole(text) {
         let line = count.saturating_add(1);
-        let reason = StraceReason::Cut;
-        return Err(StraceFault::BadStrace { line, reason });
+        let reason = Refusal::Strace(StraceReason::Cut);
+        return Err(TranslationFault::Refused { line, reason });
     }
     if text.is_empty() {
-        return checked(alloc, Output::new(alloc), Vec::new(alloc), count);
+        return checked(alloc, Output::new(alloc), Ledger::new(alloc), count);
     }
-    let mut run = traced(alloc, &text[..text.len() - 1], count)?;
-    let out = assemble(alloc, &mut run)?;
-    let Run { skipped, .. } = run;
-    checked(alloc, out, skipped, count)
+    let Joining { steps, alive, .. } = join(alloc, &text[..text.len() - 1])?;
+    let (out, ledger) = translated_steps(alloc, &steps, stored, root)?;
+    if !alive.is_empty() {
+        let reason = Refusal::Strace(StraceReason::Cut);
+        return Err(TranslationFault::Refused {
+            line: count,
+            reason,
+        });
+    }
+    checked(alloc, out, ledger, count)
 }

@@ -1,15 +1,25 @@
-//! Reads on standard input what strace wrote of a run, and writes its trace to standard output. What the trace can't say, and
-//! why there is none, goes to standard error.
+//! Reads on standard input what strace wrote of a run, and writes its trace to standard output. What the trace can't say, and why
+//! there is none, goes to standard error. It is called as `passtrace [DIR] [--root FOLDER]`: the trace is for the store of DIR,
+//! and names below FOLDER are relative to it.
+//!
+//! `pass_on` writes exactly the text that `pass_strace::translate` gives (`text`, `written`), whose lines have an origin each, in
+//! order (`lines`, `origins`, `order`), and nothing where there is none (`untouched`). A text that ends within a line is refused
+//! with that line, unless it can't be read or memory is refused (`cut`). A fault of a stream is told exactly where its count rose
+//! (`read`, `read_ok`, `read_kept`, `write`, `write_ok`). The words of the call, the store that is read and the exit numbers are
+//! tested.
 #![tactic(auto)]
 
 mod help;
 mod passing;
+mod words;
 
 use crate::help::HELP;
 use crate::passing::{Fault, pass_on};
+use crate::words::Words;
 use pass_help::{Request, VERSION, asked};
-use pass_host::{HostSink, HostSource};
-use pass_strace::Skip;
+use pass_host::{HostDisk, HostFault, HostSink, HostSource};
+use pass_log::{LogFault, LogImage, read_image};
+use pass_strace::{Stored, Told};
 use std::process::ExitCode;
 use std::{env, io};
 
@@ -20,27 +30,39 @@ const BAD_WORDS: u8 = 2;
 
 const BAD_STRACE: u8 = 3;
 
+const BAD_STORE: u8 = 5;
+
 const READ_FAULT: u8 = 6;
 
 const WRITE_FAULT: u8 = 7;
 
+const DISK_FAULT: u8 = 8;
+
 const NO_MEMORY: u8 = 10;
 
+const UNOPENED: u8 = 11;
+
 fn main(rt: HostRuntime) -> ExitCode {
-    let Ok(words) = words(&rt) else {
+    let Ok(arguments) = arguments(&rt) else {
         return ExitCode::from(bad_words(&rt));
     };
-    if let Some(request) = asked(words.as_slice()) {
-        return ExitCode::from(told(&rt, request));
+    if let Some(request) = asked(arguments.as_slice()) {
+        return ExitCode::from(tell_request(&rt, request));
     }
-    if !words.is_empty() {
+    let Some(words) = Words::of(arguments) else {
         return ExitCode::from(bad_words(&rt));
-    }
+    };
+    let stored = match stored_in(&rt, &words) {
+        Ok(stored) => stored,
+        Err(status) => return ExitCode::from(status),
+    };
     let mut source = HostSource::new(rt.reader());
     let mut sink = HostSink::new(io::writer(&rt));
-    match pass_on(rt.alloc(), &mut source, &mut sink) {
+    match pass_on(rt.alloc(), &mut source, &mut sink, &stored, words.root()) {
         Ok(translated) => {
-            tell(&rt, &translated.skipped);
+            for told in &translated.told {
+                tell(&rt, told);
+            }
             ExitCode::SUCCESS
         }
         Err(fault) => ExitCode::from(refused(&rt, fault)),
@@ -48,19 +70,19 @@ fn main(rt: HostRuntime) -> ExitCode {
 }
 
 // The words with which the program was called.
-fn words(rt: &HostRuntime) -> io::Result<Vec<String>> {
+fn arguments(rt: &HostRuntime) -> io::Result<Vec<String>> {
     let words = env::args(rt)?;
     Ok(words.skip(1).collect(rt.alloc())?)
 }
 
-// Refuses the words: it takes none, but for what it tells of itself.
+// Refuses the words.
 fn bad_words(rt: &HostRuntime) -> u8 {
     let _told = eprintln!(rt; "fault words");
     BAD_WORDS
 }
 
 // Tells the words of the program, or its version.
-fn told(rt: &HostRuntime, request: Request) -> u8 {
+fn tell_request(rt: &HostRuntime, request: Request) -> u8 {
     let written = match request {
         Request::Help => print!(rt; "{HELP}"),
         Request::Version => println!(rt; "passtrace {VERSION}"),
@@ -68,6 +90,44 @@ fn told(rt: &HostRuntime, request: Request) -> u8 {
     match written {
         Ok(()) => DONE,
         Err(_) => WRITE_FAULT,
+    }
+}
+
+// What the store has, where one is named; else the exit status.
+fn stored_in(rt: &HostRuntime, words: &Words) -> Result<Stored, u8> {
+    let Some(folder) = words.store() else {
+        return Ok(Stored::empty(rt.alloc()));
+    };
+    let mut disk = match HostDisk::open_to_read(rt, rt.alloc(), folder) {
+        Ok(disk) => disk,
+        Err(HostFault::Failed) => {
+            let _told = eprintln!(rt; "fault open");
+            return Err(UNOPENED);
+        }
+        Err(HostFault::NoMemory) => return Err(NO_MEMORY),
+    };
+    let LogImage { list, .. } = match read_image(rt.alloc(), &mut disk) {
+        Ok(image) => image,
+        Err(fault) => return Err(unread(rt, fault)),
+    };
+    match Stored::of_records(rt.alloc(), &list) {
+        Ok(stored) => Ok(stored),
+        Err(_) => Err(NO_MEMORY),
+    }
+}
+
+// Tells why the log of the store can't be read, unless it is for want of memory.
+fn unread(rt: &HostRuntime, fault: LogFault) -> u8 {
+    match fault {
+        LogFault::NoMemory => NO_MEMORY,
+        LogFault::DiskFault => {
+            let _told = eprintln!(rt; "fault disk");
+            DISK_FAULT
+        }
+        LogFault::BadFrame { .. } | LogFault::BadRecord { .. } | LogFault::Broken { .. } => {
+            let _told = eprintln!(rt; "fault store");
+            BAD_STORE
+        }
     }
 }
 
@@ -80,7 +140,10 @@ fn refused(rt: &HostRuntime, fault: Fault) -> u8 {
         }
         Fault::Refused { line, reason } => {
             let word = reason.word();
-            let _told = eprintln!(rt; "fault strace {line} {word}");
+            let _told = match reason.expected() {
+                Some(expected) => eprintln!(rt; "fault strace {line} {word} {expected}"),
+                None => eprintln!(rt; "fault strace {line} {word}"),
+            };
             BAD_STRACE
         }
         Fault::Unwritten => {
@@ -91,13 +154,10 @@ fn refused(rt: &HostRuntime, fault: Fault) -> u8 {
     }
 }
 
-// Tells how much the trace can't say.
-fn tell(rt: &HostRuntime, skipped: &[Skip]) {
-    for skip in &Skip::ALL {
-        let count = skipped.iter().filter(|other| *other == skip).count();
-        let word = skip.word();
-        if count > 0 {
-            let _told = eprintln!(rt; "skipped {word} {count}");
-        }
-    }
+// Tells what the trace can't say of a file or of calls.
+fn tell(rt: &HostRuntime, told: &Told) {
+    let word = told.skip.word();
+    let what = told.what.as_str();
+    let (line, count) = (told.line, told.count);
+    let _told = eprintln!(rt; "untold {word} {what} line {line} times {count}");
 }

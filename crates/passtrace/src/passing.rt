@@ -1,12 +1,14 @@
 //! Passes the trace of what a source has left on to a sink.
-ghost use Rattle.std.specs.Prelude.{◌≡◌, ◌≢◌, ◌++◌, IsTrue, IsErrOf, IfOk, OnOk, OnErr};
+ghost use Rattle.std.specs.Prelude.{◌≡◌, ◌≢◌, ◌+◌, ◌⊎◌, ◌++◌, Err, IsTrue, IsErrOf, IfOk, OnOk, OnErr, false, length};
 ghost use Rattle.pass_outside.specs.Faults.{HasRisen};
-ghost use Rattle.pass_trace.specs.Traces.{IsTraceText};
-ghost use Rattle.pass_strace.specs.Translations.{IsInOrder, count_lines};
-ghost use Rattle.passtrace.specs.declared.passing.Fault.TheVariants.{Unread, Unwritten};
+ghost use Rattle.pass_trace.specs.Traces.{IsTraceText, trace_of};
+ghost use Rattle.pass_syscall.specs.declared.fault.StraceReason.TheVariants.{Cut};
+ghost use Rattle.pass_strace.specs.declared.fault.Refusal.TheVariants.{Strace};
+ghost use Rattle.pass_strace.specs.Translations.{IsInOrder, count_lines, is_whole};
+ghost use Rattle.passtrace.specs.declared.passing.Fault.TheVariants.{NoMemory, Refused, Unread, Unwritten};
 
 use pass_outside::{Failed, Sink, Source};
-use pass_strace::{StraceFault, StraceReason, Translated, translate};
+use pass_strace::{Refusal, Stored, Translated, TranslationFault, translate};
 use std::alloc::{AllocError, Global};
 
 /// How many bytes are asked of the source at once.
@@ -18,7 +20,7 @@ pub(crate) enum Fault {
     /// The source failed.
     Unread,
     /// The text is none of strace, or can't be translated.
-    Refused { line: u64, reason: StraceReason },
+    Refused { line: u64, reason: Refusal },
     /// The sink failed.
     Unwritten,
     NoMemory,
@@ -48,7 +50,9 @@ impl From<Failed> for Fault {
 fn read_all<S: Source>(alloc: Global, source: &mut S) -> Result<Vec<u8>, Fault>
     ensures whole { IfOk result (λ text. IsTrue S.tells → S.left source.old ≡ text.items) }
     ensures fault { IsErrOf result Unread → HasRisen (S.fault_count source.old) (S.fault_count source.new) }
-    ensures read { IsErrOf result Unwritten → ⊥ }
+    ensures either { OnErr result (IsErrOf result Unread ⊎ IsErrOf result NoMemory) }
+    ensures stayed { OnOk result (S.fault_count source.new ≡ S.fault_count source.old) }
+    ensures kept { (fault : Fault) → IsErrOf result fault → fault ≢ Unread → S.fault_count source.new ≡ S.fault_count source.old }
 {
     let mut text = Vec::new(alloc);
     let mut piece = [0u8; PIECE];
@@ -65,6 +69,7 @@ fn read_all<S: Source>(alloc: Global, source: &mut S) -> Result<Vec<u8>, Fault>
 fn write_all<K: Sink>(sink: &mut K, text: &[u8]) -> Result<(), Failed>
     ensures whole { OnOk result (IsTrue K.tells → K.taken sink.new ≡ K.taken sink.old ++ text.now) }
     ensures fault { OnErr result (HasRisen (K.fault_count sink.old) (K.fault_count sink.new)) }
+    ensures stayed { OnOk result (K.fault_count sink.new ≡ K.fault_count sink.old) }
 {
     let mut written = 0;
     'pieces: while written < text.len() {
@@ -74,36 +79,55 @@ fn write_all<K: Sink>(sink: &mut K, text: &[u8]) -> Result<(), Failed>
     Ok(())
 }
 
-fn translated(alloc: Global, text: &[u8]) -> Result<Translated, Fault>
+fn translated<'a>(
+    alloc: Global,
+    text: &[u8],
+    stored: &'a Stored,
+    root: &'a [u8],
+) -> Result<Translated, Fault>
     ensures text { IfOk result (λ t. IsTraceText t.text.items) }
+    ensures lines { IfOk result (λ t. t.lines.items ≡ trace_of t.text.items) }
+    ensures origins { IfOk result (λ t. length t.origins.items ≡ length t.lines.items) }
     ensures order { IfOk result (λ t. IsInOrder t.origins.items (count_lines text.now)) }
+    ensures cut { is_whole text.now ≡ false → result ≡ Err (Refused (count_lines text.now + 1) (Strace Cut)) }
     ensures unread { IsErrOf result Unread → ⊥ }
     ensures unwritten { IsErrOf result Unwritten → ⊥ }
 {
-    match translate(alloc, text) {
+    match translate(alloc, text, stored, root) {
         Ok(translated) => Ok(translated),
-        Err(StraceFault::BadStrace { line, reason }) => Err(Fault::Refused { line, reason }),
-        Err(StraceFault::NoMemory) => Err(Fault::NoMemory),
+        Err(TranslationFault::Refused { line, reason }) => Err(Fault::Refused { line, reason }),
+        Err(TranslationFault::NoMemory) => Err(Fault::NoMemory),
     }
 }
 
-/// Reads all that the source has left, and writes its trace to the sink.
-pub(crate) fn pass_on<S: Source, K: Sink>(
+/// Reads all that the source has left, and writes its trace to the sink, for a store that has these files.
+pub(crate) fn pass_on<'a, S: Source, K: Sink>(
     alloc: Global,
     source: &mut S,
     sink: &mut K,
+    stored: &'a Stored,
+    root: &'a [u8],
 ) -> Result<Translated, Fault>
-    // What is written is the text of a trace, whose lines stand in the order of those from which they come.
+    // What is written is the text of a trace, whose lines stand in the order of those from which they come, one for each.
     ensures text { IfOk result (λ t. IsTraceText t.text.items) }
+    ensures lines { IfOk result (λ t. t.lines.items ≡ trace_of t.text.items) }
+    ensures origins { IfOk result (λ t. length t.origins.items ≡ length t.lines.items) }
     ensures order { IfOk result (λ t. IsTrue S.tells → IsInOrder t.origins.items (count_lines (S.left source.old))) }
     ensures written { IfOk result (λ t. IsTrue K.tells → K.taken sink.new ≡ K.taken sink.old ++ t.text.items) }
+    // A text that ends within a line is refused with that line, as far as it could be read.
+    ensures cut { IsTrue S.tells → is_whole (S.left source.old) ≡ false
+        → (result ≡ Err (Refused (count_lines (S.left source.old) + 1) (Strace Cut))) ⊎ (IsErrOf result Unread ⊎ IsErrOf result NoMemory) }
     // Where there is no trace, nothing is written.
     ensures untouched { (fault : Fault) → IsErrOf result fault → fault ≢ Unwritten → sink.new ≡ sink.old }
+    // A fault of a stream is told exactly where its count of faults rose.
     ensures read { IsErrOf result Unread → HasRisen (S.fault_count source.old) (S.fault_count source.new) }
+    ensures read_ok { OnOk result (S.fault_count source.new ≡ S.fault_count source.old) }
+    ensures read_kept { (fault : Fault) → IsErrOf result fault → fault ≢ Unread → S.fault_count source.new ≡ S.fault_count source.old }
     ensures write { IsErrOf result Unwritten → HasRisen (K.fault_count sink.old) (K.fault_count sink.new) }
+    ensures write_ok { OnOk result (K.fault_count sink.new ≡ K.fault_count sink.old) }
 {
     let text = read_all(alloc, source)?;
-    let translated = translated(alloc, &text)?;
+    let translated = translated(alloc, &text, stored, root)?;
     match write_all(sink, &translated.text) {
         Ok(()) => Ok(translated),
         Err(Failed) => Err(Fault::Unwritten),

@@ -8,8 +8,9 @@ pub none_shown : (words : List (String Global)) → length words < 1 → shown_i
 none_shown [] few = refl
 none_shown (x ∷ words) few = absurd (omega arith)
 
-pub too_many_shown : (words : List (String Global)) → 3 ≤ length words → shown_in (map string_bytes words) ≡ None
+pub too_many_shown : (words : List (String Global)) → 4 ≤ length words → shown_in (map string_bytes words) ≡ None
 too_many_shown [] many = absurd (omega arith)
 too_many_shown (x ∷ []) many = absurd (omega arith)
 too_many_shown (x ∷ y ∷ []) many = absurd (omega arith)
-too_many_shown (x ∷ y ∷ z ∷ words) many = refl
+too_many_shown (x ∷ y ∷ z ∷ []) many = absurd (omega arith)
+too_many_shown (x ∷ y ∷ z ∷ w ∷ words) many = refl

@@ -1,9 +1,9 @@
 -- What the words of the program that shows graphs ask for. This project's own rule.
-use Rattle.std.specs.Prelude.{List, [], ◌∷◌, Option, Some, None, codes, if◌then◌else◌}
+use Rattle.std.specs.Prelude.{Bool, List, [], ◌∷◌, Option, Some, None, codes, if◌then◌else◌}
 use Rattle.pass_entry.specs.declared.objects.Node.{Node}
 use Rattle.pass_trace.specs.Words.{is_text}
 use Rattle.pass_view.specs.declared.texts.Form.{Form}
-use Rattle.pass_view.specs.declared.texts.Form.TheVariants.{Dot, Prov}
+use Rattle.pass_view.specs.declared.texts.Form.TheVariants.{Dot, Plain, Prov}
 use Rattle.pass_ask.specs.Numbers.{node_in}
 use Rattle.pass_ask.specs.Words.{Text}
 use Rattle.pass_ask.specs.declared.words.GraphQuestion.TheVariants.{View}
@@ -13,6 +13,13 @@ use Rattle.pass_ask.specs.declared.words.Question.TheVariants.{Graph}
 abbrev pub form_in : Text → Option Form
 form_in word = if is_text word (codes "dot") then Some Dot else if is_text word (codes "prov") then Some Prov else None
 
+-- the form that `--plain` behind a word makes of it
+abbrev pub plain_in : Text → Option Form
+plain_in word = if is_text word (codes "dot") then Some Plain else None
+
+abbrev pub is_flag : Text → Bool
+is_flag word = is_text word (codes "--plain")
+
 abbrev pub whole_of : Option Form → Option Question
 whole_of (Some form) = Some (Graph (View form None))
 whole_of None = None
@@ -21,8 +28,9 @@ abbrev pub part_of : Option Form → Option Node → Option Question
 part_of (Some form) (Some node) = Some (Graph (View form (Some node)))
 part_of _ _ = None
 
--- `dot` or `prov`, and a node behind it where not the whole graph is to be shown
+-- `dot` or `prov`, and a node behind it where not the whole graph is to be shown; behind `dot` also `--plain`, last
 abbrev pub shown_in : List Text → Option Question
 shown_in (form ∷ []) = whole_of (form_in form)
-shown_in (form ∷ node ∷ []) = part_of (form_in form) (node_in node)
+shown_in (form ∷ word ∷ []) = if is_flag word then whole_of (plain_in form) else part_of (form_in form) (node_in word)
+shown_in (form ∷ node ∷ word ∷ []) = if is_flag word then part_of (plain_in form) (node_in node) else None
 shown_in _ = None

@@ -1,10 +1,10 @@
 //! The call of the program that shows graphs.
-ghost use Rattle.std.specs.Prelude.{◌≡◌, ◌≢◌, ◌↔◌, map, string_bytes};
+ghost use Rattle.std.specs.Prelude.{◌≡◌, ◌≢◌, ◌↔◌, None, if◌then◌else◌, map, string_bytes};
 ghost use Rattle.pass_outside.specs.Faults.{HasRisen};
 ghost use Rattle.pass_recover.specs.Later.{IsLater, IsLeftAlone};
 ghost use Rattle.pass_ask.specs.Asked.{IsAsked, IsPut};
 ghost use Rattle.pass_ask.specs.Numbers.{node_in};
-ghost use Rattle.pass_ask.specs.Shown.{form_in, part_of, shown_in, whole_of};
+ghost use Rattle.pass_ask.specs.Shown.{form_in, is_flag, part_of, plain_in, shown_in, whole_of};
 ghost use Rattle.pass_ask.specs.Words.{Reads};
 
 use crate::asking::{Asked, ask_for};
@@ -41,11 +41,52 @@ fn shown_in(words: &[String]) -> Result<Question, Status>
     match words {
         [] => Err(Status::BadWords),
         [form] => whole_of(form_in(form.as_str().as_bytes())),
-        [form, node] => part_of(
-            form_in(form.as_str().as_bytes()),
-            node_in(node.as_str().as_bytes()),
+        [form, word] => shown_by(form.as_str().as_bytes(), word.as_str().as_bytes()),
+        [form, node, word] => plain_part(
+            form.as_str().as_bytes(),
+            node.as_str().as_bytes(),
+            word.as_str().as_bytes(),
         ),
-        [_, _, _, ..] => Err(Status::BadWords),
+        [_, _, _, _, ..] => Err(Status::BadWords),
+    }
+}
+
+// Behind the form a flag, or the node.
+fn shown_by(form: &[u8], word: &[u8]) -> Result<Question, Status>
+    ensures { Reads result (if is_flag word.now then whole_of (plain_in form.now) else part_of (form_in form.now) (node_in word.now)) }
+{
+    if is_flag(word) {
+        whole_of(plain_in(form))
+    } else {
+        part_of(form_in(form), node_in(word))
+    }
+}
+
+// Behind the form the node, and then the flag.
+fn plain_part(form: &[u8], node: &[u8], word: &[u8]) -> Result<Question, Status>
+    ensures { Reads result (if is_flag word.now then part_of (plain_in form.now) (node_in node.now) else None) }
+{
+    if is_flag(word) {
+        part_of(plain_in(form), node_in(node))
+    } else {
+        Err(Status::BadWords)
+    }
+}
+
+fn is_flag(word: &[u8]) -> bool
+    ensures { result ≡ is_flag word.now }
+{
+    word == b"--plain".as_slice()
+}
+
+// The form that the flag behind the word makes of it.
+fn plain_in(word: &[u8]) -> Option<Form>
+    ensures { result ≡ plain_in word.now }
+{
+    if word == b"dot".as_slice() {
+        Some(Form::Plain)
+    } else {
+        None
     }
 }
 

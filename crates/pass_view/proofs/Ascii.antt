@@ -7,7 +7,7 @@ use Rattle.std.proofs.lemmas.Str.{IsUtf8-from_ascii}
 use Rattle.pass_entry.specs.Texts.{is_line_byte, is_line_length, IsLine}
 use Rattle.pass_plain.proofs.Lists.{true_left, true_right}
 
-low : (b : ℕ) → is_line_byte b ≡ true → b < 128
+pub low : (b : ℕ) → is_line_byte b ≡ true → b < 128
 low b h = grind (arith, nat_tests)
 
 ascii : (bytes : List ℕ) → list_all is_line_byte bytes ≡ true → IsAscii bytes

@@ -1,4 +1,5 @@
 mod Ascii
+mod Spelling
 mod Telling
 mod Tagging
 mod Ends
@@ -7,4 +8,6 @@ mod Showing
 mod Finding
 mod Members
 mod Adding
+mod Lines
+mod Drawing
 pub mod Lacking

@@ -1,6 +1,6 @@
 -- The tables with one more record.
-use Rattle.std.proofs.Common.{ℕ, ◌≡◌, ◌+◌, Bool, true, false, refl, sym, ap, ◌∙◌, List, [], ◌∷◌, ◌++◌, cond}
-use Rattle.std.specs.Prelude.{Some, None, if◌then◌else◌}
+use Rattle.std.proofs.Common.{ℕ, ◌≡◌, ◌==◌, ◌+◌, suc, Bool, true, false, refl, sym, ap, ◌∙◌, List, [], ◌∷◌, ◌++◌, cond, length, arith}
+use Rattle.std.specs.Prelude.{Option, Some, None, fold, nat_eq, if◌then◌else◌}
 use Rattle.std.specs.List.{cons_option, filter_map}
 use Rattle.std.specs.Option.{option_map_or}
 use Rattle.std.specs.HashMap.{get}
@@ -8,13 +8,15 @@ use Rattle.std.specs.declared.vec.Vec.{Vec}
 use Rattle.std.specs.declared.alloc.Global.{Global}
 use Rattle.std.proofs.lemmas.List.Elements.{filter_map-append}
 use Rattle.std.proofs.lemmas.List.{append-nil}
+use Rattle.std.proofs.lemmas.List.Sums.{fold-append}
 use Rattle.pass_entry.specs.declared.objects.Node.{Node}
 use Rattle.pass_entry.specs.declared.record.Record.{Record}
 use Rattle.pass_entry.specs.declared.record.Record.TheVariants as log
 use Rattle.pass_plain.specs.Versions.{same_node}
+use Rattle.pass_plain.proofs.Lists.{same_numbers}
 use Rattle.pass_graph.specs.Logged.{Summarizes}
 use Rattle.pass_graph.proofs.Noding.{same_node_is}
-use Rattle.pass_view.specs.Facts.{AreFacts, tag_in, tags_of}
+use Rattle.pass_view.specs.Facts.{AreFacts, given, given_look, given_name_of, tag_in, tags_of}
 use Rattle.pass_view.specs.declared.facts.Facts.{Facts}
 
 abbrev Tag : Type 0
@@ -32,34 +34,59 @@ row_added old new node one row none has writes n = ap (λ o. option_map_or (λ (
         has ∙ ap (λ o. option_map_or (λ (v : Vec Tag Global). v.items) o [] ++ one ∷ []) (sym (ap (get same_node old.tags) (sym (same_node_is node n same)) ∙ none))
     at_test false apart = refl
 
+-- a name that isn't empty takes the place of the one before, the empty one doesn't
+pub name_stays : (p o : ℕ) (name : List ℕ) (old : Option (List ℕ)) → (length name == 0) ≡ true → old ≡ (if p == o then given name old else old)
+name_stays p o [] old empty = at_test (p == o)
+  where
+    at_test : (b : Bool) → old ≡ (if b then old else old)
+    at_test true = refl
+    at_test false = refl
+name_stays p o (b ∷ name) old empty = let none : suc (length name) ≡ 0 = same_numbers (length (b ∷ name)) 0 empty in absurd (omega (arith, none))
+
+pub name_put : (p o : ℕ) (name : List ℕ) (old : Option (List ℕ)) → (length name == 0) ≡ false → cond (p == o) (Some name) old ≡ (if p == o then given name old else old)
+name_put p o [] old some = absurd (cc)
+name_put p o (b ∷ name) old some = refl
+
+abbrev name_at : Facts → ℕ → Option (List ℕ)
+name_at facts o = get nat_eq facts.names o
+
 module _ (list : List Record) (old new : Facts) where
   -- one more record adds to each node the attribute that it gives
   noted : (r : Record) → Summarizes new.logged (list ++ r ∷ []) → ((n : Node) → tags_of new n ≡ tags_of old n ++ filter_map (tag_in n) (r ∷ []))
-      → AreFacts list old → AreFacts (list ++ r ∷ []) new
-  noted r logged tags are = record {
+      → ((o : ℕ) → name_at new o ≡ given_look o (name_at old o) r) → AreFacts list old → AreFacts (list ++ r ∷ []) new
+  noted r logged tags names are = record {
     logged = logged;
+    names = λ o. names o ∙ ap (λ n. given_look o n r) (are.names o) ∙ sym (fold-append (given_look o) None list (r ∷ []));
     tags = λ n. tags n ∙ ap (λ xs. xs ++ filter_map (tag_in n) (r ∷ [])) (are.tags n) ∙ sym (filter_map-append (tag_in n) list (r ∷ []));
   }
 
-  given : (node : Node) (attr value : List ℕ) (n : Node) → tags_of new n ≡ (if same_node node n then tags_of old n ++ (attr, value) ∷ [] else tags_of old n)
+  one_more : (node : Node) (attr value : List ℕ) (n : Node) → tags_of new n ≡ (if same_node node n then tags_of old n ++ (attr, value) ∷ [] else tags_of old n)
       → tags_of new n ≡ tags_of old n ++ filter_map (tag_in n) (log.Attr node attr value ∷ [])
-  given node attr value n is = is ∙ at_test (same_node node n)
+  one_more node attr value n is = is ∙ at_test (same_node node n)
     where
       at_test : (b : Bool) → (if b then tags_of old n ++ (attr, value) ∷ [] else tags_of old n) ≡ tags_of old n ++ cons_option (if b then Some (attr, value) else None) []
       at_test true = refl
       at_test false = sym (append-nil (tags_of old n))
 
   pub tag_noted : (node : Node) (attr value : List ℕ) → Summarizes new.logged (list ++ log.Attr node attr value ∷ [])
-      → ((n : Node) → tags_of new n ≡ (if same_node node n then tags_of old n ++ (attr, value) ∷ [] else tags_of old n))
+      → ((n : Node) → tags_of new n ≡ (if same_node node n then tags_of old n ++ (attr, value) ∷ [] else tags_of old n)) → ((o : ℕ) → name_at new o ≡ name_at old o)
       → AreFacts list old → AreFacts (list ++ log.Attr node attr value ∷ []) new
-  tag_noted node attr value logged tags are = noted (log.Attr node attr value) logged (λ n. given node attr value n (tags n)) are
+  tag_noted node attr value logged tags names are = noted (log.Attr node attr value) logged (λ n. one_more node attr value n (tags n)) names are
+
+  pub name_noted : (pnode : ℕ) (name : List ℕ) → Summarizes new.logged (list ++ log.Name pnode name ∷ []) → ((n : Node) → tags_of new n ≡ tags_of old n)
+      → ((o : ℕ) → name_at new o ≡ (if pnode == o then given name (name_at old o) else name_at old o)) → AreFacts list old → AreFacts (list ++ log.Name pnode name ∷ []) new
+  name_noted pnode name logged tags names are = noted (log.Name pnode name) logged (λ n. tags n ∙ sym (append-nil (tags_of old n))) names are
 
   quiet : (r : Record) → ((n : Node) (attr value : List ℕ) → r ≡ log.Attr n attr value → ⊥) → (n : Node) → tag_in n r ≡ None
   quiet (log.Attr m attr value) other n = absurd (other m attr value refl)
   quiet _ other n = refl
 
-  -- a record that gives none
-  pub other_noted : (r : Record) → ((n : Node) (attr value : List ℕ) → r ≡ log.Attr n attr value → ⊥) → Summarizes new.logged (list ++ r ∷ []) → ((n : Node) → tags_of new n ≡ tags_of old n)
-      → AreFacts list old → AreFacts (list ++ r ∷ []) new
-  other_noted r other logged tags are =
-      noted r logged (λ n. tags n ∙ sym (ap (λ o. tags_of old n ++ cons_option o []) (quiet r other n) ∙ append-nil (tags_of old n))) are
+  unnamed : (r : Record) → ((pnode : ℕ) (name : List ℕ) → r ≡ log.Name pnode name → ⊥) → (o : ℕ) (last : Option (List ℕ)) → given_look o last r ≡ last
+  unnamed (log.Name pnode name) other o last = absurd (other pnode name refl)
+  unnamed _ other o last = refl
+
+  -- a record that gives neither an attribute nor a name
+  pub other_noted : (r : Record) → ((n : Node) (attr value : List ℕ) → r ≡ log.Attr n attr value → ⊥) → ((pnode : ℕ) (name : List ℕ) → r ≡ log.Name pnode name → ⊥)
+      → Summarizes new.logged (list ++ r ∷ []) → ((n : Node) → tags_of new n ≡ tags_of old n) → ((o : ℕ) → name_at new o ≡ name_at old o) → AreFacts list old → AreFacts (list ++ r ∷ []) new
+  other_noted r other another logged tags names are =
+      noted r logged (λ n. tags n ∙ sym (ap (λ o. tags_of old n ++ cons_option o []) (quiet r other n) ∙ append-nil (tags_of old n))) (λ o. names o ∙ sym (unnamed r another o (name_at old o))) are

@@ -1,6 +1,6 @@
 -- What the records say of a node, and of an edge. This project's own rule.
-use Rattle.std.specs.Prelude.{ℕ, ◌≡◌, Bool, true, false, List, [], Option, Some, None, if◌then◌else◌}
-use Rattle.std.specs.List.{filter_map}
+use Rattle.std.specs.Prelude.{ℕ, ◌≡◌, ◌==◌, ◌||◌, Bool, true, false, List, [], ◌∷◌, Option, Some, None, codes, fold, nat_eq, if◌then◌else◌}
+use Rattle.std.specs.List.{filter_map, list_any, starts_with}
 use Rattle.std.specs.Option.{option_map_or}
 use Rattle.std.specs.HashMap.{get}
 use Rattle.pass_entry.specs.declared.objects.Node.{Node}
@@ -26,6 +26,31 @@ tag_in node _ = None
 abbrev pub tags_in : List Record → Node → List (List ℕ × List ℕ)
 tags_in list node = filter_map (tag_in node) list
 
+-- a name that is given; an empty one takes away the name before and gives none
+abbrev pub given : List ℕ → Option (List ℕ) → Option (List ℕ)
+given [] last = last
+given (b ∷ name) last = Some (b ∷ name)
+
+abbrev pub given_look : ℕ → Option (List ℕ) → Record → Option (List ℕ)
+given_look object last (log.Name pnode name) = if pnode == object then given name last else last
+given_look object last _ = last
+
+-- the last name that the object was given, which it may have no more
+abbrev pub given_name_of : List Record → ℕ → Option (List ℕ)
+given_name_of list object = fold (given_look object) None list
+
+-- the folders of what a system brings along
+abbrev pub system_folders : List (List ℕ)
+system_folders =
+    codes "/bin/" ∷ codes "/etc/" ∷ codes "/lib/" ∷ codes "/lib32/" ∷ codes "/lib64/" ∷ codes "/libx32/" ∷ codes "/opt/" ∷ codes "/proc/" ∷ codes "/sbin/" ∷ codes "/sys/" ∷ codes "/usr/" ∷ []
+
+abbrev pub is_system_name : List ℕ → Bool
+is_system_name name = list_any (starts_with nat_eq name) system_folders
+
+-- a file of the system, by the last name that it was given
+abbrev pub is_system : List Record → ℕ → Bool
+is_system list object = option_map_or is_system_name (given_name_of list object) false
+
 abbrev pub is_process : List Record → ℕ → Bool
 is_process list object = option_map_or (λ k. same_kind k kind.Process) (kind_of list object) false
 
@@ -42,11 +67,14 @@ relation_between false false = Derived
 pub record IsTold (list : List Record) (shown : Shown) : Type 0 where
   pub is_kind : kind_of list shown.node.pnode ≡ Some shown.kind
   pub is_name : shown.name ≡ name_in (last_name_of list shown.node.pnode)
+  pub is_was : shown.was ≡ given_name_of list shown.node.pnode
+  pub of_system : shown.is_system ≡ is_system list shown.node.pnode
   pub are_tags : shown.tags.items ≡ tags_in list shown.node
 
--- the relation is that of the two ends
-abbrev pub IsRelated : List Record → Link → Type 0
-IsRelated list link = link.relation ≡ relation_between (is_process list link.target.pnode) (is_process list link.source.pnode)
+-- the relation is that of the two ends, and one of them is a file of the system where the link says so
+pub record IsRelated (list : List Record) (link : Link) : Type 0 where
+  pub is_relation : link.relation ≡ relation_between (is_process list link.target.pnode) (is_process list link.source.pnode)
+  pub of_system : link.is_system ≡ is_system list link.target.pnode || is_system list link.source.pnode
 
 abbrev pub tags_of : Facts → Node → List (List ℕ × List ℕ)
 tags_of facts node = option_map_or (λ row. row.items) (get same_node facts.tags node) []
@@ -54,4 +82,5 @@ tags_of facts node = option_map_or (λ row. row.items) (get same_node facts.tags
 -- the tables tell what the records say
 pub record AreFacts (list : List Record) (facts : Facts) : Type 0 where
   pub logged : Summarizes facts.logged list
+  pub names : (object : ℕ) → get nat_eq facts.names object ≡ given_name_of list object
   pub tags : (node : Node) → tags_of facts node ≡ tags_in list node

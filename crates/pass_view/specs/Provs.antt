@@ -11,9 +11,7 @@ use Rattle.json.specs.Tree.{json_tokens}
 use Rattle.json.specs.Written.{Written}
 use Rattle.pass_entry.specs.Words.{kind_word, node_text}
 use Rattle.pass_entry.specs.declared.objects.Node.{Node}
-use Rattle.pass_entry.specs.declared.objects.Kind.TheVariants as kind
-use Rattle.pass_plain.specs.Registries.{same_kind}
-use Rattle.pass_view.specs.Labels.{label_text, program_of}
+use Rattle.pass_view.specs.Labels.{is_activity, label_text, program_of}
 use Rattle.pass_view.specs.declared.picture.Link.{Link}
 use Rattle.pass_view.specs.declared.picture.Relation.{Relation}
 use Rattle.pass_view.specs.declared.picture.Relation.TheVariants.{Used, Generated, Informed, Derived}
@@ -59,15 +57,22 @@ abbrev pub name_members : Option (List ℕ) → List Member
 name_members None = []
 name_members (Some name) = text_at (codes "pass:name") name ∷ []
 
+-- the type of a file of the system, which is this project's own
+abbrev pub system_type : Member
+system_type = pair_at (codes "prov:type") (codes "$", codes "pass:system") (codes "type", codes "prov:QUALIFIED_NAME")
+
+abbrev pub system_members : Bool → List Member
+system_members system = if system then system_type ∷ [] else []
+
+abbrev pub own_members : Shown → List Member
+own_members s = name_members s.name ++ system_members s.is_system
+
 abbrev pub node_member : Shown → Member
 node_member s = (
   node_id s.node,
   object_of
-      (text_at (codes "prov:label") (label_text s) ∷ text_at (codes "pass:kind") (kind_word s.kind) ∷ (codes "pass:attributes", tags_json s.tags.items) ∷ name_members s.name),
+      (text_at (codes "prov:label") (label_text s) ∷ text_at (codes "pass:kind") (kind_word s.kind) ∷ (codes "pass:attributes", tags_json s.tags.items) ∷ own_members s),
 )
-
-abbrev pub is_activity : Shown → Bool
-is_activity s = same_kind s.kind kind.Process
 
 -- Relations
 

@@ -5,13 +5,13 @@ use Rattle.pass_entry.specs.declared.objects.Node.{Node}
 use Rattle.pass_entry.specs.declared.record.Record.{Record}
 use Rattle.pass_waldo.specs.Lookups.{AreAll}
 use Rattle.pass_waldo.specs.Orders.{node_cmp}
-use Rattle.pass_view.specs.Dots.{dot_text}
+use Rattle.pass_view.specs.Dots.{dot_text, plain_text}
 use Rattle.pass_view.specs.Facts.{IsRelated, IsTold}
 use Rattle.pass_view.specs.Provs.{prov_text}
 use Rattle.pass_view.specs.Views.{IsShown, IsShownEdge, edge_cmp, edges_of, nodes_of}
 use Rattle.pass_view.specs.declared.picture.View.{View}
 use Rattle.pass_view.specs.declared.texts.Form.{Form}
-use Rattle.pass_view.specs.declared.texts.Form.TheVariants.{Dot, Prov}
+use Rattle.pass_view.specs.declared.texts.Form.TheVariants.{Dot, Plain, Prov}
 
 -- The view has each node and each edge that is to be shown exactly once, in ascending order, with what the records say of them.
 pub record IsView (list : List Record) (node : Option Node) (view : View) : Type 0 where
@@ -22,6 +22,7 @@ pub record IsView (list : List Record) (node : Option Node) (view : View) : Type
 
 abbrev pub text_in : Form → View → List ℕ
 text_in Dot view = dot_text view
+text_in Plain view = plain_text view
 text_in Prov view = prov_text view
 
 -- the text is that of what is to be shown

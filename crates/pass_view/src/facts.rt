@@ -1,10 +1,11 @@
 //! What the records say of nodes, in tables.
-ghost use Rattle.std.specs.Prelude.{◌≡◌, ℕ, List, [], ◌∷◌, ◌++◌, IfOk, IfSome, IsSome, OnOk, None, true, if◌then◌else◌};
+ghost use Rattle.std.specs.Prelude.{◌≡◌, ℕ, List, [], ◌∷◌, ◌++◌, ◌||◌, IfOk, IfSome, IsSome, OnOk, None, nat_eq, ◌==◌, true, if◌then◌else◌};
+ghost use Rattle.std.specs.List.{list_any, starts_with};
 ghost use Rattle.pass_entry.specs.declared.objects.Node.{Node};
 ghost use Rattle.pass_entry.specs.declared.record.Record.{Record};
 ghost use Rattle.pass_plain.specs.Versions.{same_node};
 ghost use Rattle.pass_plain.specs.WellLogged.{flaw_of, is_known, IsWellLogged};
-ghost use Rattle.pass_view.specs.Facts.{relation_between};
+ghost use Rattle.pass_view.specs.Facts.{is_system_name, relation_between};
 
 use crate::picture::{Link, Relation, Shown};
 use pass_entry::{Kind, Node, Pnode, Record, Text};
@@ -12,16 +13,24 @@ use pass_graph::Logged;
 use std::alloc::{AllocError, Global};
 use std::collections::HashMap;
 
-/// What records say of objects, and the attributes of each node.
+/// The folders of what a system brings along.
+const SYSTEM_FOLDERS: [&str; 11] = [
+    "/bin/", "/etc/", "/lib/", "/lib32/", "/lib64/", "/libx32/", "/opt/", "/proc/", "/sbin/",
+    "/sys/", "/usr/",
+];
+
+/// What records say of objects, the last name that each was given, and the attributes of each node.
 #[derive(Drop)]
 pub(crate) struct Facts {
     alloc: Global,
     logged: Logged,
+    names: HashMap<u64, Text>,
     tags: HashMap<Node, Vec<(Text, Text)>>,
 }
 
 impl Facts {
-    ghost use Rattle.pass_view.specs.Facts.{AreFacts, IsTold, IsRelated, is_process, tags_of};
+    ghost use Rattle.pass_view.specs.Facts.{AreFacts, IsTold, IsRelated, given, given_name_of, is_process, is_system, tags_of};
+    ghost use Rattle.std.specs.HashMap.{get};
 
     fn new(alloc: Global) -> Facts
         ensures { AreFacts [] result }
@@ -29,6 +38,7 @@ impl Facts {
         Facts {
             alloc,
             logged: Logged::new(alloc),
+            names: HashMap::new(alloc),
             tags: HashMap::new(alloc),
         }
     }
@@ -54,13 +64,31 @@ impl Facts {
             Record::Attr { node, attr, value } => {
                 self.add_tag(*node, attr.clone()?, value.clone()?)
             }
+            Record::Name { pnode, name } => self.add_name(*pnode, name),
             _ => Ok(()),
         }
+    }
+
+    // The object is given a name; an empty one takes the name before away.
+    #[tactic(auto, using(crate::proofs::Tagging::name_put, crate::proofs::Tagging::name_stays))]
+    fn add_name(&mut self, pnode: Pnode, name: &Text) -> Result<(), AllocError>
+        ensures logged { self.new.logged ≡ self.old.logged }
+        ensures tags { self.new.tags ≡ self.old.tags }
+        ensures names { OnOk result ((o : ℕ) → get nat_eq self.new.names o
+            ≡ (if pnode == o then given name.now (get nat_eq self.old.names o) else get nat_eq self.old.names o)) }
+    {
+        if name.as_bytes().is_empty() {
+            return Ok(());
+        }
+        let own = name.clone()?;
+        self.names.insert(pnode.0, own)?;
+        Ok(())
     }
 
     // The node has one more attribute.
     fn add_tag(&mut self, node: Node, attr: Text, value: Text) -> Result<(), AllocError>
         ensures logged { self.new.logged ≡ self.old.logged }
+        ensures names { self.new.names ≡ self.old.names }
         ensures tags { OnOk result ((n : Node) → tags_of self.new n
             ≡ (if same_node node n then tags_of self.old n ++ (attr, value) ∷ [] else tags_of self.old n)) }
     {
@@ -101,8 +129,30 @@ impl Facts {
             node,
             kind: object.kind,
             name: self.logged.name(node.pnode)?,
+            was: self.given_name(node.pnode)?,
+            is_system: self.is_system(node.pnode),
             tags: copied(self.alloc, self.tags(node))?,
         }))
+    }
+
+    // The last name that the object was given.
+    fn given_name(&self, pnode: Pnode) -> Result<Option<Text>, AllocError>
+        ensures { IfOk result (λ name. (list : List Record) → AreFacts list self.now → name ≡ given_name_of list pnode) }
+    {
+        match self.names.get(&pnode.0) {
+            Some(name) => Ok(Some(name.clone()?)),
+            None => Ok(None),
+        }
+    }
+
+    // Whether that name is one of the system's.
+    fn is_system(&self, pnode: Pnode) -> bool
+        ensures { (list : List Record) → AreFacts list self.now → result ≡ is_system list pnode }
+    {
+        match self.names.get(&pnode.0) {
+            Some(name) => is_system_name(name.as_bytes()),
+            None => false,
+        }
     }
 
     // Whether the object is a process.
@@ -130,8 +180,25 @@ impl Facts {
             target: *target,
             source: *source,
             relation,
+            is_system: self.is_system(target.pnode) || self.is_system(source.pnode),
         }
     }
+}
+
+// Whether the name is below one of the system's folders.
+fn is_system_name(name: &[u8]) -> bool
+    ensures { result ≡ is_system_name name.now }
+{
+    is_below(name, &SYSTEM_FOLDERS)
+}
+
+// Whether the name is below one of these folders.
+fn is_below(name: &[u8], folders: &[&str]) -> bool
+    ensures { result ≡ list_any (λ f. starts_with nat_eq name.now f.now) folders.now }
+{
+    folders
+        .iter()
+        .any(|folder| name.starts_with(folder.as_bytes()))
 }
 
 // Copies of attributes, which share their bytes.

@@ -1,4 +1,12 @@
 //! A graph of versions, or what a node came from, as a picture and in the standard form of provenance.
+//!
+//! `select` gives the nodes, each once and ascending (`nodes`), each with its kind, its name, the last name that it was given,
+//! whether the system brings it, and its attributes in the order of the records (`told`), and the edges that leave them, each once
+//! (`edges`). What an edge means follows from which of its ends are processes (`related`). `NoObject` comes exactly where the graph
+//! hasn't the node (`absent`). `dot` and `prov` write exactly the definitions' texts of such a view, `plain` takes the system's
+//! files and their edges out of it (`nodes`, `edges`); PROV is a tree of JSON, written by the kit's writer. `view_text` is all of
+//! them together, from the index to the text (`text`, `absent`). That Graphviz and readers of PROV take these texts is tested in
+//! `cases/pictures`.
 #![tactic(auto)]
 
 mod dots;
@@ -9,7 +17,7 @@ mod provs;
 mod selecting;
 mod texts;
 
-pub use dots::dot;
+pub use dots::{dot, plain};
 pub use picture::{Link, Relation, Shown, View};
 pub use provs::prov;
 pub use selecting::select;

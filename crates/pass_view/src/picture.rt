@@ -8,8 +8,12 @@ pub struct Shown {
     pub node: Node,
     /// What its object is.
     pub kind: Kind,
-    /// The last name of its object, none where that has none.
+    /// The name of its object, none where that has none.
     pub name: Option<Text>,
+    /// The last name that its object was given, which it may have no more.
+    pub was: Option<Text>,
+    /// Whether it is a file that a system brings along, by that name.
+    pub is_system: bool,
     /// Its attributes with their values, in the order of the records.
     pub tags: Vec<(Text, Text)>,
 }
@@ -36,6 +40,8 @@ pub struct Link {
     pub source: Node,
     /// What the one is to the other.
     pub relation: Relation,
+    /// Whether one of the two is a file of the system.
+    pub is_system: bool,
 }
 
 /// A graph, or a part of it.

@@ -5,12 +5,12 @@ ghost use Rattle.std.specs.Cmp.Lexicographic.{slice_cmp};
 ghost use Rattle.std.specs.Ordering.{nat_cmp};
 ghost use Rattle.json.specs.Token.{begin_array, begin_object};
 ghost use Rattle.json.specs.Tree.{json_tokens};
-ghost use Rattle.pass_view.specs.Provs.{Adds, agent, agents, association_of, is_activity, key_of, link_member, member_tokens, members_in, name_members, node_id, node_member, object_of, pair_at, part_of, part_word, program_id, programs, programs_of, prov_text, ran, ran_member, related, relation_id, relation_word, relations, same_relation, sections, source_word, tag_text, tags_json, target_word, text_at, tokens_of};
+ghost use Rattle.pass_view.specs.Provs.{Adds, agent, agents, association_of, key_of, link_member, member_tokens, members_in, name_members, node_id, node_member, object_of, own_members, pair_at, part_of, part_word, program_id, programs, programs_of, prov_text, ran, ran_member, related, relation_id, relation_word, relations, same_relation, sections, source_word, system_members, tag_text, tags_json, target_word, text_at, tokens_of};
 
-use crate::labels::{label, str_of, value_among};
+use crate::labels::{is_activity, label, str_of, value_among};
 use crate::picture::{Link, Relation, Shown, View};
 use json::Writer;
-use pass_entry::{Kind, Node, Text};
+use pass_entry::{Node, Text};
 use std::alloc::{AllocError, Global};
 use std::collections::BTreeSet;
 
@@ -144,16 +144,6 @@ fn write_members(
     }
 }
 
-// Whether the node is a version of a process.
-fn is_activity(shown: &Shown) -> bool
-    ensures { result ≡ is_activity shown.now }
-{
-    match shown.kind {
-        Kind::Process => true,
-        Kind::File | Kind::Pipe | Kind::App => false,
-    }
-}
-
 fn write_node_if(
     alloc: Global,
     out: &mut Writer,
@@ -179,7 +169,7 @@ fn write_node(alloc: Global, out: &mut Writer, shown: &Shown) -> Result<(), Allo
     write_text(out, "prov:label", text.as_str())?;
     write_text(out, "pass:kind", shown.kind.word())?;
     write_tags(alloc, out, &shown.tags)?;
-    write_own_name(out, &shown.name)?;
+    write_own(out, shown)?;
     out.end_object()
 }
 
@@ -188,6 +178,32 @@ fn node_id(alloc: Global, node: &Node) -> Result<String, AllocError>
     ensures { IfOk result (λ text. string_bytes text ≡ node_id node.now) }
 {
     format!(in alloc; "pass:{}", *node)
+}
+
+// The name of the node's object and its type, where it has them.
+fn write_own(out: &mut Writer, shown: &Shown) -> Result<(), AllocError>
+    ensures { OnOk result (Adds out.old out.new (tokens_of (own_members shown.now))) }
+{
+    write_own_name(out, &shown.name)?;
+    write_system(out, shown.is_system)
+}
+
+// The type of a file of the system.
+fn write_system(out: &mut Writer, is_system: bool) -> Result<(), AllocError>
+    ensures { OnOk result (Adds out.old out.new (tokens_of (system_members is_system))) }
+{
+    if is_system {
+        write_pair(
+            out,
+            "prov:type",
+            "$",
+            "pass:system",
+            "type",
+            "prov:QUALIFIED_NAME",
+        )
+    } else {
+        Ok(())
+    }
 }
 
 // The name of the node's object, where it has one.

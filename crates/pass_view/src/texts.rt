@@ -5,7 +5,7 @@ ghost use Rattle.pass_graph.specs.ListRanks.{HasNode};
 ghost use Rattle.pass_query.specs.declared.fault.QueryFault.{QueryFault};
 ghost use Rattle.pass_view.specs.Texts.{IsViewText, text_in};
 
-use crate::dots::dot;
+use crate::dots::{dot, plain};
 use crate::picture::View;
 use crate::provs::prov;
 use crate::selecting::select;
@@ -19,6 +19,8 @@ use std::alloc::{AllocError, Global};
 pub enum Form {
     /// In the DOT language of Graphviz.
     Dot,
+    /// In the DOT language, without the files that a system brings along.
+    Plain,
     /// In PROV-JSON, after the W3C.
     Prov,
 }
@@ -34,15 +36,16 @@ pub fn view_text(
     ensures absent { (n : Node) → (result ≡ Err (QueryFault.NoObject n)) ↔ ((node ≡ Some n) × ¬ (HasNode index.now n)) }
 {
     let view = select(alloc, index, node)?;
-    Ok(written(alloc, &view, form)?)
+    Ok(written(alloc, view, form)?)
 }
 
 // The view in this form.
-fn written(alloc: Global, view: &View, form: Form) -> Result<Vec<u8>, AllocError>
-    ensures { IfOk result (λ v. v.items ≡ text_in form view.now) }
+fn written(alloc: Global, view: View, form: Form) -> Result<Vec<u8>, AllocError>
+    ensures { IfOk result (λ v. v.items ≡ text_in form view) }
 {
     match form {
-        Form::Dot => dot(alloc, view),
-        Form::Prov => prov(alloc, view),
+        Form::Dot => dot(alloc, &view),
+        Form::Plain => dot(alloc, &plain(view)),
+        Form::Prov => prov(alloc, &view),
     }
 }

@@ -5,5 +5,7 @@ pub const HELP: &str = "passview DIR COMMAND: the graph of a store as a picture
   dot [NODE]     for Graphviz: the whole graph, or what the version came from
   prov [NODE]    the same as PROV-JSON of W3C
 
+  --plain        last, with dot: without the programs and libraries that the system brings
+
 passview --help, passview --version. A NODE is P.V, version V of object P. DIR has to be there.
 ";

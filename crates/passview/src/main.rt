@@ -1,5 +1,5 @@
 //! Shows the graph of the store of a folder. The first argument is the folder, and the others say what is to be shown and how:
-//! `dot` or `prov`, and a node behind it for what that node came from.
+//! `dot` or `prov`, and a node behind it for what that node came from. `--plain` behind `dot` leaves out the system's files.
 //!
 //! All that is promised is a clause of `pass_ask::show`.
 #![tactic(auto)]

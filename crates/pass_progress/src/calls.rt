@@ -37,6 +37,12 @@ pub trait Calls<J: Whose> {
     fn retire(&self, proc: &mut Option<Proc<J>>) -> Option<Trail<J>>
         ensures { (p : ProcView) → proc.old ≡ Some p → IsGone J.book.session p result };
 
+    /// Two processes come to one history, which begins with what each had seen. It takes no memory.
+    fn meet(&self, first: &mut Proc<J>, second: &mut Proc<J>)
+        ensures one { second.new.seen ≡ first.new.seen }
+        ensures first { HasMet J.book.session first.old first.new }
+        ensures second { HasMet J.book.session second.old second.new };
+
     /// A process and what another one had seen that works no more come to one history, which begins with what each had seen. It takes no
     /// memory.
     fn meet_ended(&self, proc: &mut Proc<J>, trail: &mut Trail<J>)

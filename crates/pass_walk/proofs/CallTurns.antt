@@ -6,9 +6,10 @@ use mathlib.Core.List.{IsPrefix}
 use Rattle.pass_plain.specs.declared.request.Request.{Request}
 use Rattle.pass_plain.specs.declared.request.Request.TheVariants as requests
 use Rattle.pass_plain.specs.Histories.{call_entries}
-use Rattle.pass_plain.specs.Legal.{before_call}
+use Rattle.pass_plain.specs.Legal.{IsLegal, before_call}
 use Rattle.pass_plain.specs.Places.{left_places, need_of}
 use Rattle.pass_plain.specs.Processes.{has_ended}
+use Rattle.pass_plain.specs.Runs.{next_number}
 use Rattle.pass_plain.specs.Sessions.{Session}
 use Rattle.pass_plain.specs.Traces.{Line, LineCall, given, write_last, fork_as, wait_for, request_of, lines_of, calls_of}
 use Rattle.pass_plain.proofs.Lists.{some_is}
@@ -25,16 +26,17 @@ use Rattle.pass_sched.specs.declared.task.Turn.TheVariants as turn
 use Rattle.pass_walk.specs.declared.ends.Cause.{Cause}
 use Rattle.pass_walk.specs.declared.ends.Cause.TheVariants as causes
 use Rattle.pass_walk.specs.declared.walker.Living.{Living}
+use Rattle.pass_walk.specs.declared.walker.Walker.{Walker}
 use Rattle.pass_walk.specs.declared.walker.Walker.TheVariants as walker
 use Rattle.pass_walk.specs.declared.walker.Went.{Went}
 use Rattle.pass_progress.specs.Calls.{request_with}
 use Rattle.pass_walk.specs.Causes.{IsCauseOf, LacksPlaces}
 use Rattle.pass_walk.specs.Lefts.{of_child, left_in, left_at}
 use Rattle.pass_walk.specs.Outcomes.{IsAfter, outcome_of}
-use Rattle.pass_walk.specs.Walkers.{HasWent, IsLivingOf, pnode_among}
+use Rattle.pass_walk.specs.Walkers.{HasWent, IsLivingOf, member_of, pnode_among}
 use Rattle.pass_walk.proofs.LeftLemmas.{left_line}
 use Rattle.pass_walk.proofs.Placed.{line_there, next_line}
-use Rattle.pass_walk.proofs.Walks.{known_after, left_went, makes_now, may_go_on, no_fork, right_now, stayed, waits, went_on}
+use Rattle.pass_walk.proofs.Walks.{goes_counts, known_after, left_went, line_in, makes_now, may_go_on, no_fork, no_kid, right_now, stayed, waits, went_on}
 
 pub waited_same : (pnode : ℕ → ℕ) (waited : ℕ) (last : List ℕ) (call : LineCall) → ((q : ℕ) → call ≡ wait_for q → waited ≡ pnode q) → request_of (λ p. waited) last call ≡ request_of pnode last call
 waited_same pnode waited last (given r) known = refl
@@ -110,7 +112,7 @@ module _ {J : Type 0} (session : Session) (trace : List Line) (behind : AreLines
   left_with places new d left cause births left_is caused w is_w =
       subst (λ w. HasWent session places trace l w) (sym is_w)
       (left_went session places trace l new left cause d.on.who d.on.goes.begins (makes_now session trace behind l is m.call call_stands new d.on.who d.on.goes)
-      (ap (λ w. has_ended new.seen w) d.on.who ∙ d.unanswered.living) births left_is caused)
+      (ap (λ w. has_ended new.seen w) d.on.who ∙ d.unanswered.living) d.on.goes.legal (goes_counts session l.proc.who its_request l.proc.seen new.seen d.on.goes) births left_is caused)
 
   -- it waits at its line
   pub waits_there : (places : ℕ) (new : ProcView) (d : IsNotDone session l.proc new its_request) → BornAs l.proc.who l.proc.seen new.seen (λ what. ⊥) → IsNotReady session l.proc.who its_request new.seen → MayGoOn new its_request
@@ -129,6 +131,14 @@ module _ {J : Type 0} (session : Session) (trace : List Line) (behind : AreLines
         goes_on = λ h. let z : turn.Waiting ≡ turn.Ended = h in cc;
         waits = λ h. subst (λ (x : ℕ × ProcView). Rattle.pass_replay.specs.Members.Waits session trace (record { process = x.0; who = x.1.who; seen = x.1.seen; ended = false })) (λ i. (sym process i, sym proc i))
             (waits session trace behind l is m.call call_stands new d unready);
+        fails = λ h. absurd (let z : turn.Waiting ≡ turn.Failed = h in cc);
+        legal = subst (λ (p : ProcView). IsLegal session p.seen) (sym proc) d.on.goes.legal;
+        counts = λ n e at later by. goes_counts session l.proc.who its_request l.proc.seen new.seen d.on.goes n e (ap (λ (p : ProcView). slice_get p.seen n) (sym proc) ∙ at) later by;
+        over = λ h. absurd (let z : turn.Waiting ≡ turn.Moved = h in cc);
+        next = λ k is h. absurd (let z : turn.Waiting ≡ turn.Moved = h in cc);
+        line = λ k is h. ap (λ (w : Walker J). line_in w) (sym is) ∙ line_is;
+        shares = λ kid h. absurd (no_kid kid h);
+        forks = λ kid h. absurd (no_kid kid h);
       })
 
   module _ (other : (child : ℕ) → m.call ≢ fork_as child) (birth_law : BirthLaw) (places : ℕ) (new : ProcView) where
@@ -150,6 +160,14 @@ module _ {J : Type 0} (session : Session) (trace : List Line) (behind : AreLines
           stayed = λ h. absurd (h refl);
           goes_on = λ h. let z : turn.Moved ≡ turn.Ended = h in cc;
           waits = λ h. absurd (let z : turn.Moved ≡ turn.Waiting = h in cc);
+          fails = λ h. absurd (let z : turn.Moved ≡ turn.Failed = h in cc);
+          legal = d.on.goes.legal;
+          counts = goes_counts session l.proc.who its_request l.proc.seen new.seen d.on.goes;
+          over = λ h. d.answered.over;
+          next = λ k is h. ap (λ (w : Walker J). next_number (member_of w).seen l.proc.who) (sym is) ∙ d.answered.next;
+          line = λ k is h. absurd (let z : turn.Moved ≡ turn.Waiting = h in cc);
+          shares = λ kid h. absurd (no_kid kid h);
+          forks = λ kid h. absurd (no_kid kid h);
         })
 
     -- the turn, by what the call answered

@@ -14,11 +14,12 @@ use Rattle.pass_replay.specs.Members.{MakesSteps}
 use Rattle.pass_replay.proofs.NextCalls.{calls_length}
 use Rattle.pass_sched.specs.declared.task.Turn.TheVariants as turn
 use Rattle.pass_walk.specs.declared.walker.Living.{Living}
+use Rattle.pass_walk.specs.declared.walker.Walker.{Walker}
 use Rattle.pass_walk.specs.declared.walker.Walker.TheVariants as walker
 use Rattle.pass_walk.specs.Lefts.{left_at}
-use Rattle.pass_walk.specs.Walkers.{HasWent, IsLivingOf, pnode_among}
+use Rattle.pass_walk.specs.Walkers.{HasWent, IsLivingOf, member_of, pnode_among}
 use Rattle.pass_walk.proofs.Locals as locals
-use Rattle.pass_walk.proofs.Walks.{may_go_on}
+use Rattle.pass_walk.proofs.Walks.{goes_counts, may_go_on, no_kid}
 use Rattle.pass_entry.proofs.Places.{slice_get-last}
 
 module _ {J : Type 0} (session : Session) (places : ℕ) (trace : List Line) (behind : AreLinesBehind [] trace) (l : Living J) (is : IsLivingOf session trace l) (line : l.line ≡ None) where
@@ -57,4 +58,12 @@ module _ {J : Type 0} (session : Session) (places : ℕ) (trace : List Line) (be
         stayed = λ h. absurd (h refl);
         goes_on = λ h. let z : turn.Moved ≡ turn.Ended = h in cc;
         waits = λ h. absurd (let z : turn.Moved ≡ turn.Waiting = h in cc);
+        fails = λ h. absurd (let z : turn.Moved ≡ turn.Failed = h in cc);
+        legal = goes.legal;
+        counts = goes_counts session l.proc.who requests.Exit l.proc.seen trail.seen goes;
+        over = λ h. over;
+        next = λ k is h. absurd (let z : true ≡ false = ap (λ (w : Walker J). (member_of w).ended) is in cc);
+        line = λ k is h. absurd (let z : turn.Moved ≡ turn.Waiting = h in cc);
+        shares = λ kid h. absurd (no_kid kid h);
+        forks = λ kid h. absurd (no_kid kid h);
       }

@@ -10,7 +10,7 @@ use Rattle.pass_plain.specs.Calls.{pnode_at}
 use Rattle.pass_plain.specs.Legal.{is_over}
 use Rattle.pass_plain.specs.Sessions.{Session}
 use Rattle.pass_plain.specs.Traces.{Line, LineCall, fork_as, lines_of, calls_of}
-use Rattle.pass_plain.specs.Runs.{pnode_of_process}
+use Rattle.pass_plain.specs.Runs.{next_number, pnode_of_process}
 use Rattle.pass_plain.proofs.Lists.{some_is, any_of, same_itself, filtered, slice_get-front, alike, different}
 use Rattle.pass_answer.specs.declared.answer.CallEnd.{CallEnd}
 use Rattle.pass_answer.specs.declared.answer.CallEnd.TheVariants as ends
@@ -28,18 +28,19 @@ use Rattle.pass_walk.specs.declared.children.Children.{Children}
 use Rattle.pass_walk.specs.declared.ends.Cause.TheVariants as causes
 use Rattle.pass_walk.specs.declared.walker.Living.{Living}
 use Rattle.pass_walk.specs.declared.walker.Outcome.TheVariants as outcomes
+use Rattle.pass_walk.specs.declared.walker.Walker.{Walker}
 use Rattle.pass_walk.specs.declared.walker.Walker.TheVariants as walker
 use Rattle.pass_walk.specs.declared.walker.Went.{Went}
 use Rattle.pass_walk.specs.Calls.{HasForked, HasNotForked}
 use Rattle.pass_walk.specs.Local.{IsLocal}
 use Rattle.pass_walk.specs.Lefts.{of_child, left_in, left_at}
 use Rattle.pass_walk.specs.Outcomes.{IsAfter, unfinished_of}
-use Rattle.pass_walk.specs.Walkers.{HasWent, IsLivingOf, pnode_among}
+use Rattle.pass_walk.specs.Walkers.{HasWent, IsLivingOf, member_of, pnode_among}
 use Rattle.pass_walk.proofs.CallTurns.{another, call_stands, in_lines, its_request, lacks, left_after, left_with, line_after, waits_there}
 use Rattle.pass_walk.proofs.LeftBounds.{behind_from}
 use Rattle.pass_walk.proofs.LeftLemmas.{drop_at, left_from}
 use Rattle.pass_walk.proofs.Placed.{first_line}
-use Rattle.pass_walk.proofs.Walks.{counted, known_before, left_went, makes_now, may_go_on, right_now, stayed, went_on}
+use Rattle.pass_walk.proofs.Walks.{counted, goes_counts, known_before, left_went, makes_now, may_go_on, right_now, stayed, went_on}
 use Rattle.pass_entry.proofs.Places.{parted}
 
 -- two lines of a process that stand apart don't fork the same child
@@ -167,6 +168,14 @@ module _ {J : Type 0} (session : Session) (trace : List Line) (behind : AreLines
       stayed = λ h. absurd (h refl);
       goes_on = λ h. let z : turn.Moved ≡ turn.Ended = h in cc;
       waits = λ h. absurd (let z : turn.Moved ≡ turn.Waiting = h in cc);
+      fails = λ h. absurd (let z : turn.Moved ≡ turn.Failed = h in cc);
+      legal = f.done.on.goes.legal;
+      counts = goes_counts session l.proc.who requests.Fork l.proc.seen new.seen f.done.on.goes;
+      over = λ h. f.done.answered.over;
+      next = λ k is h. ap (λ (w : Walker J). next_number (member_of w).seen l.proc.who) (sym is) ∙ f.done.answered.next;
+      line = λ k is h. absurd (let z : turn.Moved ≡ turn.Waiting = h in cc);
+      shares = λ kid h. ap (λ (k : Living J). k.proc.seen) (sym (some_is _ kid h)) ∙ f.seen;
+      forks = λ kid h. record { place = place; its = m; is = line; stands = there; forks = forks ∙ ap (λ (k : Living J). fork_as k.process) (some_is _ kid h) };
     }
 
   fork_request : requests.Fork ≡ its_request session trace behind l is place line m there
@@ -180,7 +189,7 @@ module _ {J : Type 0} (session : Session) (trace : List Line) (behind : AreLines
       let d = is_not.progresses in
       subst (λ w. HasWent session places trace l w) (sym is_w)
       (left_went session places trace l new left causes.Refused d.on.who d.on.goes.begins (makes_now session trace behind l is (fork_as child) fork_stands new d.on.who d.on.goes)
-      (ap (λ w. has_ended new.seen w) d.on.who ∙ d.answered.living) is_not.childless is_left (is_not.refused f refl))
+      (ap (λ w. has_ended new.seen w) d.on.who ∙ d.answered.living) d.on.goes.legal (goes_counts session l.proc.who requests.Fork l.proc.seen new.seen d.on.goes) is_not.childless is_left (is_not.refused f refl))
   not_forked places new ends.Again is_not next left is_left children same w is_w =
       let (d, unready, may) = is_not.progresses in
       waits_there session trace behind l is place line m there places new (subst (λ r. IsNotDone session l.proc new r) fork_request d) is_not.childless
@@ -202,4 +211,5 @@ pub unmade : {J : Type 0} (session : Session) (places : ℕ) (trace : List Line)
 unmade session places trace l is next left is_left children w is_w =
     subst (λ w. HasWent session places trace l w) (sym is_w)
     (left_went session places trace l l.proc left causes.NoMemory refl ([], append-nil l.proc.seen) is.local.makes is.local.living
+    is.legal (λ n e at later by. let z = slice_get_within l.proc.seen n e at in absurd (omega (arith, z, later)))
     (λ n e out descriptors at later by born. let z = slice_get_within l.proc.seen n e at in omega (arith, z, later)) is_left tt)

@@ -7,8 +7,8 @@ pub mod Walks
 mod CallTurns
 mod Exits
 pub mod Forks
-mod Handing
-mod LeftBounds
+pub mod Handing
+pub mod LeftBounds
 mod LeftTables
 pub mod Meetings
 pub mod LinesAt

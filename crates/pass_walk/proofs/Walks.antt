@@ -10,7 +10,7 @@ use Rattle.pass_plain.specs.Sessions.{Session}
 use Rattle.pass_plain.specs.Legal.{IsLegal}
 use Rattle.pass_plain.specs.Processes.{has_begun, has_ended}
 use Rattle.pass_plain.specs.Traces.{Line, LineCall, given, write_last, fork_as, wait_for, request_of, calls_of}
-use Rattle.pass_plain.specs.Runs.{pnode_of_process}
+use Rattle.pass_plain.specs.Runs.{next_number, pnode_of_process}
 use Rattle.pass_plain.proofs.Lists.{some_is}
 use Rattle.pass_hold.specs.Goings.{Goes, HasNotAnswered}
 use Rattle.pass_proc.specs.Ends.{trail_of_proc}
@@ -24,6 +24,7 @@ use Rattle.pass_sched.specs.declared.task.Turn.TheVariants as turn
 use Rattle.pass_walk.specs.declared.children.Children.{Children}
 use Rattle.pass_walk.specs.declared.ends.Cause.{Cause}
 use Rattle.pass_walk.specs.declared.walker.Living.{Living}
+use Rattle.pass_walk.specs.declared.walker.Walker.{Walker}
 use Rattle.pass_walk.specs.declared.walker.Walker.TheVariants as walker
 use Rattle.pass_walk.specs.Causes.{IsCauseOf}
 use Rattle.pass_walk.specs.Lefts.{left_at}
@@ -43,12 +44,27 @@ pub some_seen : (seen : List Entry) (who : ℕ) → has_begun seen who ≡ true 
 some_seen [] who has = absurd (cc)
 some_seen (e ∷ es) who has = omega arith
 
+-- each entry by the process since is of the call that was its next one
+abbrev pub Counts : ℕ → List Entry → List Entry → Type 0
+Counts who old new = (n : ℕ) (e : Entry) → slice_get new n ≡ Some e → length old ≤ n → e.who ≡ who → e.number ≡ next_number old who
+
+pub goes_counts : (session : Session) (who : ℕ) (r : Request) (old new : List Entry) → Goes session who r old new → Counts who old new
+goes_counts session who r old new goes n e at later by = (goes.steps n e at by later).counted
+
+-- the next line of a living process
+abbrev pub line_in : {J : Type 0} → Walker J → Option ℕ
+line_in (walker.Living l) = l.line
+line_in _ = None
+
+pub no_kid : {J : Type 0} (kid : Living J) → ◌≡◌ {A = Option (Living J)} None (Some kid) → ⊥
+no_kid kid h = cc
+
 module _ {J : Type 0} (session : Session) (places : ℕ) (trace : List Line) (l : Living J) where
   -- a process that is left
   pub left_went : (new : ProcView) (left : ℕ) (cause : Cause) → new.who ≡ l.proc.who → IsPrefix l.proc.seen new.seen → MakesSteps trace l.process new.who new.seen → has_ended new.seen new.who ≡ false
-      → BornAs l.proc.who l.proc.seen new.seen (λ what. ⊥) → left ≡ left_at trace l.process l.line → IsCauseOf session places trace (record { process = l.process; who = new.who; seen = new.seen; ended = false }) cause
+      → IsLegal session new.seen → Counts l.proc.who l.proc.seen new.seen → BornAs l.proc.who l.proc.seen new.seen (λ what. ⊥) → left ≡ left_at trace l.process l.line → IsCauseOf session places trace (record { process = l.process; who = new.who; seen = new.seen; ended = false }) cause
       → HasWent session places trace l (record { walker = walker.Left (record { process = l.process; left = left; trail = trail_of_proc new; cause = cause }); answer = turn.Failed; kid = None })
-  left_went new left cause who begins makes living births is caused = record {
+  left_went new left cause who begins makes living legal counts births is caused = record {
     walker = record { makes = makes; living = living; some = (let z = left_at_some trace l.process l.line in omega (arith, z, is)); cause = caused };
     process = refl;
     who = who;
@@ -59,6 +75,14 @@ module _ {J : Type 0} (session : Session) (places : ℕ) (trace : List Line) (l 
     stayed = λ h. (is, refl);
     goes_on = λ h. let z : turn.Failed ≡ turn.Ended = h in cc;
     waits = λ h. absurd (let z : turn.Failed ≡ turn.Waiting = h in cc);
+    fails = λ h. (record { process = l.process; left = left; trail = trail_of_proc new; cause = cause }, refl);
+    legal = legal;
+    counts = counts;
+    over = λ h. absurd (let z : turn.Failed ≡ turn.Moved = h in cc);
+    next = λ m is h. absurd (let z : turn.Failed ≡ turn.Moved = h in cc);
+    line = λ m is h. absurd (let z : turn.Failed ≡ turn.Waiting = h in cc);
+    shares = λ kid h. absurd (no_kid kid h);
+    forks = λ kid h. absurd (no_kid kid h);
   }
 
 module _ {J : Type 0} (session : Session) (trace : List Line) (behind : AreLinesBehind [] trace) (l : Living J) (is : IsLivingOf session trace l) (call : LineCall)

@@ -9,7 +9,7 @@ use Rattle.pass_plain.specs.Legal.{IsLegal, is_over}
 use Rattle.pass_plain.specs.Processes.{Held, has_ended}
 use Rattle.pass_plain.specs.Sessions.{Session}
 use Rattle.pass_plain.specs.Traces.{Line, LineCall, fork_as, calls_of}
-use Rattle.pass_plain.specs.Runs.{pnode_of_process}
+use Rattle.pass_plain.specs.Runs.{next_number, pnode_of_process}
 use Rattle.pass_sched.specs.declared.task.Turn.TheVariants as turn
 use Rattle.pass_progress.specs.Progress.{MayGoOn}
 use Rattle.pass_replay.specs.Lines.{IsLineAt}
@@ -19,7 +19,7 @@ use Rattle.pass_walk.specs.declared.walker.Living.{Living}
 use Rattle.pass_walk.specs.declared.walker.Ended.{Ended as EndedProcess}
 use Rattle.pass_walk.specs.declared.walker.Left.{Left as LeftProcess}
 use Rattle.pass_walk.specs.declared.walker.Walker.{Walker}
-use Rattle.pass_walk.specs.declared.walker.Walker.TheVariants as walker
+use Rattle.pass_walk.specs.declared.walker.Walker.TheVariants as kinds
 use Rattle.pass_walk.specs.declared.walker.Went.{Went}
 use Rattle.pass_walk.specs.declared.ends.Cause.{Cause}
 use Rattle.pass_walk.specs.Causes.{IsCauseOf}
@@ -63,28 +63,28 @@ pub record IsLeftOf {J : Type 0} (session : Session) (places : ℕ) (trace : Lis
   pub cause : IsCauseOf session places trace (left_member l) l.cause
 
 abbrev pub IsWalkerOf : {J : Type 0} → Session → ℕ → List Line → Walker J → Type 0
-IsWalkerOf session places trace (walker.Living l) = IsLivingOf session trace l
-IsWalkerOf session places trace (walker.Ended e) = IsEndedOf trace e
-IsWalkerOf session places trace (walker.Left l) = IsLeftOf session places trace l
-IsWalkerOf session places trace walker.Gone = ⊥
+IsWalkerOf session places trace (kinds.Living l) = IsLivingOf session trace l
+IsWalkerOf session places trace (kinds.Ended e) = IsEndedOf trace e
+IsWalkerOf session places trace (kinds.Left l) = IsLeftOf session places trace l
+IsWalkerOf session places trace kinds.Gone = ⊥
 
 abbrev pub no_member : Member
 no_member = record { process = 0; who = 0; seen = []; ended = false }
 
 abbrev pub member_of : {J : Type 0} → Walker J → Member
-member_of (walker.Living l) = living_member l
-member_of (walker.Ended e) = ended_member e
-member_of (walker.Left l) = left_member l
-member_of walker.Gone = no_member
+member_of (kinds.Living l) = living_member l
+member_of (kinds.Ended e) = ended_member e
+member_of (kinds.Left l) = left_member l
+member_of kinds.Gone = no_member
 
 abbrev pub left_of : {J : Type 0} → List Line → Walker J → ℕ
-left_of trace (walker.Living l) = left_at trace l.process l.line
-left_of trace (walker.Ended e) = 0
-left_of trace (walker.Left l) = l.left
-left_of trace walker.Gone = 0
+left_of trace (kinds.Living l) = left_at trace l.process l.line
+left_of trace (kinds.Ended e) = 0
+left_of trace (kinds.Left l) = l.left
+left_of trace kinds.Gone = 0
 
 abbrev pub cause_of : {J : Type 0} → Walker J → Option Cause
-cause_of (walker.Left l) = Some l.cause
+cause_of (kinds.Left l) = Some l.cause
 cause_of _ = None
 
 -- the entry bears this child, by the fork of a line
@@ -111,6 +111,14 @@ abbrev pub kid_left : {J : Type 0} → List Line → Option (Living J) → ℕ
 kid_left trace (Some kid) = left_at trace kid.process kid.line
 kid_left trace None = 0
 
+-- a child was borne by the line at this place
+pub record IsForkedAt (trace : List Line) (line : Option ℕ) (child : ℕ) : Type 0 where
+  pub place : ℕ
+  pub its : Line
+  pub is : line ≡ Some place
+  pub stands : slice_get trace place ≡ Some its
+  pub forks : its.call ≡ fork_as child
+
 -- what a turn of a living process does
 pub record HasWent {J : Type 0} (session : Session) (places : ℕ) (trace : List Line) (before : Living J) (w : Went J) : Type 0 where
   pub walker : IsWalkerOf session places trace w.walker
@@ -124,10 +132,19 @@ pub record HasWent {J : Type 0} (session : Session) (places : ℕ) (trace : List
   pub stayed : w.answer ≢ turn.Moved → (left_of trace w.walker ≡ left_at trace before.process before.line) × (w.kid ≡ None)
   pub goes_on : w.answer ≢ turn.Ended
   pub waits : w.answer ≡ turn.Waiting → Waits session trace (member_of w.walker)
+  pub fails : w.answer ≡ turn.Failed → (l : LeftProcess J) × (w.walker ≡ kinds.Left l)
+  pub legal : IsLegal session (member_of w.walker).seen
+  pub counts : (n : ℕ) (e : Entry) → slice_get (member_of w.walker).seen n ≡ Some e → length before.proc.seen ≤ n → e.who ≡ before.proc.who
+      → e.number ≡ next_number before.proc.seen before.proc.who
+  pub over : w.answer ≡ turn.Moved → is_over (member_of w.walker).seen before.proc.who (next_number before.proc.seen before.proc.who) ≡ true
+  pub next : (l : Living J) → w.walker ≡ kinds.Living l → w.answer ≡ turn.Moved → next_number l.proc.seen before.proc.who ≡ next_number before.proc.seen before.proc.who + 1
+  pub line : (l : Living J) → w.walker ≡ kinds.Living l → w.answer ≡ turn.Waiting → l.line ≡ before.line
+  pub shares : (kid : Living J) → w.kid ≡ Some kid → kid.proc.seen ≡ (member_of w.walker).seen
+  pub forks : (kid : Living J) → w.kid ≡ Some kid → IsForkedAt trace before.line kid.process
 
 -- what a turn of a process does; one that has made its exit stays as it is, and so does one that was left
 abbrev pub WalkerWent : {J : Type 0} → Session → ℕ → List Line → Walker J → Went J → Type 0
-WalkerWent session places trace (walker.Living l) w = HasWent session places trace l w
-WalkerWent session places trace (walker.Ended e) w = w ≡ record { walker = walker.Ended e; answer = turn.Ended; kid = None }
-WalkerWent session places trace (walker.Left l) w = w ≡ record { walker = walker.Left l; answer = turn.Failed; kid = None }
-WalkerWent session places trace walker.Gone w = ⊥
+WalkerWent session places trace (kinds.Living l) w = HasWent session places trace l w
+WalkerWent session places trace (kinds.Ended e) w = w ≡ record { walker = kinds.Ended e; answer = turn.Ended; kid = None }
+WalkerWent session places trace (kinds.Left l) w = w ≡ record { walker = kinds.Left l; answer = turn.Failed; kid = None }
+WalkerWent session places trace kinds.Gone w = ⊥

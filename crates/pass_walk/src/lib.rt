@@ -4,18 +4,22 @@
 //! cause. `Living::turn` makes the next call of its lines, or the exit, by the trait `Calls`, and needs no word of any other
 //! process. Its clause is `HasWent`: the process is then at its next line, where it was, ended or left (`walker`); it is the same
 //! process, which has seen no less (`process`, `who`, `begins`); each child that it bore was borne by the fork of a line, and is
-//! handed out (`kid`, `births`). A turn that waits found the next step of its line not ready (`waits`). How many turns are left to
-//! a process and to all children that its lines will bear is known from its line (`left_in`); it falls by one with each turn that
-//! moves (`moved`), and else stays (`stayed`).
+//! handed out (`kid`, `births`). A turn that waits found the next step of its line not ready (`waits`). How many turns are left
+//! to a process and to all children that its lines will bear is known from its line (`left_in`); it falls by one with each turn
+//! that moves (`moved`), and else stays (`stayed`). Each further entry of the process is of the call that was its next one
+//! (`counts`), which is over where the turn moved (`over`, `next`); a child begins with what its parent has seen (`shares`,
+//! `forks`).
 //!
 //! A process is left for want of memory or a fault of the disk, which come from outside of the history; for too few places, where
 //! it has seen that its next call lacks them; or for a fork that it has seen refused (`IsCauseOf`). `met` brings a living process
-//! and an ended one to one history, unless the ended one is known to have seen no more (`HaveMet`). A `Plan` tells where each
-//! process has its lines and how many turns are left, and takes the room for what all processes will have seen (`room`).
+//! and an ended one to one history, unless the ended one is known to have seen no more (`HaveMet`); `Living::join` and
+//! `Living::join_living` do so in any case (`HasComeOn`). A `Plan` tells where each process has its lines and how many turns are
+//! left, and takes the room for what all processes will have seen (`room`).
 //!
-//! `laws::ends` joins what a run hands out (`IsRanBy`) with the history that a store hands out. Whatever `last` says, that history
-//! is a run of the trace (`run`); no process is open after `Done` (`done`), and the run is stuck after `Stuck` (`stuck`). Where the
-//! store has the places that the trace needs, no run ends for want of places (`enough`), and none by a refused fork (`forked`).
+//! `laws::ends` joins what a run hands out (`IsRanBy`) with the history that a store hands out. Whatever `last` says, that
+//! history is a run of the trace (`run`); no process is open after `Done` (`done`), and the run is stuck after `Stuck` (`stuck`).
+//! Where the store has the places that the trace needs, no run ends for want of places (`enough`), and none by a refused fork
+//! (`forked`).
 #![tactic(auto)]
 
 mod calling;

@@ -42,7 +42,7 @@ impl<J: Whose> Living<J> {
     }
 
     /// Comes to one history with a process that has ended.
-    fn join<'a, S: Calls<J>>(&mut self, ended: &mut Ended<J>, ground: &Ground<'a, S>)
+    pub fn join<'a, S: Calls<J>>(&mut self, ended: &mut Ended<J>, ground: &Ground<'a, S>)
         requires { IsLivingOf J.book.session (plain_trace ground.now.plan.now) self.old }
         ensures living { HasComeOn J.book.session (plain_trace ground.now.plan.now) self.old self.new }
         ensures ended { HasSeenMore J.book.session ended.old ended.new }
@@ -55,5 +55,22 @@ impl<J: Whose> Living<J> {
         between(&self.proc);
         ground.calls.meet_ended(&mut self.proc, &mut ended.trail);
         ended.met = Some(self.proc.seen());
+    }
+
+    /// Comes to one history with another living process.
+    pub fn join_living<'a, S: Calls<J>>(&mut self, other: &mut Living<J>, ground: &Ground<'a, S>)
+        requires first { IsLivingOf J.book.session (plain_trace ground.now.plan.now) self.old }
+        requires other { IsLivingOf J.book.session (plain_trace ground.now.plan.now) other.old }
+        ensures first { HasComeOn J.book.session (plain_trace ground.now.plan.now) self.old self.new }
+        ensures other { HasComeOn J.book.session (plain_trace ground.now.plan.now) other.old other.new }
+        ensures one { other.new.proc.seen ≡ self.new.proc.seen }
+    {
+        calls();
+        answers();
+        standing();
+        ground.plan.ordered();
+        between(&self.proc);
+        between(&other.proc);
+        ground.calls.meet(&mut self.proc, &mut other.proc);
     }
 }

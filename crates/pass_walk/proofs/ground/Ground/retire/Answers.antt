@@ -1,4 +1,4 @@
-use Rattle.std.proofs.Common.{◌≡◌, refl, subst}
+use Rattle.std.proofs.Common.{refl, subst}
 use Rattle.pass_progress.specs.Calls.{IsGone}
 use Rattle.pass_walk.proofs.ground.Ground.retire.Goals as goal
 

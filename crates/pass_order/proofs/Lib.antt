@@ -1,0 +1,17 @@
+mod Prefixes
+mod TextRanks
+mod Meeting
+mod Turned
+mod Placing
+mod Stepping
+mod Rooming
+mod Played
+mod Attempting
+mod Joining
+mod Starting
+mod Taking
+mod Outcomes
+mod Ending
+mod Handed
+mod Performing
+mod Trying

@@ -1,0 +1,3 @@
+pub mod Ranks
+pub mod Queues
+pub mod Replayed

@@ -5,9 +5,9 @@ use Rattle.std.specs.Option.{option_map_or}
 use Rattle.pass_status.specs.declared.status.Status.{Status}
 use Rattle.pass_status.specs.declared.status.Status.TheVariants as status
 use Rattle.pass_ask.specs.Asked.{IsPut, IsQuestionRead, asked_in}
-use Rattle.pass_ask.specs.Words.{Reads, Text, command_of, drawn_by, drawn_of, is_gen, is_follow, is_follow_command, is_run, is_run_command, question_in, question_of}
+use Rattle.pass_ask.specs.Words.{Reads, Text, command_of, drawn_by, drawn_of, is_gen, is_replay, is_replay_command, is_follow, is_follow_command, is_run, is_run_command, question_in, question_of}
 use Rattle.pass_ask.specs.declared.words.Command.{Command}
-use Rattle.pass_ask.specs.declared.words.Command.TheVariants.{Run, Gen, Ask, Follow}
+use Rattle.pass_ask.specs.declared.words.Command.TheVariants.{Run, Replay, Gen, Ask, Follow}
 use Rattle.pass_ask.specs.declared.words.Question.{Question}
 
 -- what stands in a value that was read
@@ -44,6 +44,18 @@ module _ (words : List Text) (r : Result Command Status) (read : Reads r (comman
 
   pub runs_only : (workers : ℕ) → r ≡ Ok (Run workers) → ¬ (IsTrue (is_follow words))
   runs_only workers is = not_follow (Some (Run workers)) (subst (λ (x : Result Command Status). Reads x (command_of words)) is read) refl
+
+  -- a run in the order of the lines is a run
+  pub replays : r ≡ Ok Replay → IsTrue (is_run words) × ¬ (IsTrue (is_follow words))
+  replays is =
+      let named : command_of words ≡ Some Replay = subst (λ (x : Result Command Status). Reads x (command_of words)) is read in
+      (ap (λ (o : Option Command). option_map_or is_run_command o false) named, not_follow (Some Replay) named refl)
+
+  -- and no other command is one
+  pub not_replay : (c : Command) → r ≡ Ok c → is_replay_command c ≡ false → ¬ (IsTrue (is_replay words))
+  not_replay c is other replays =
+      let named : command_of words ≡ Some c = subst (λ (x : Result Command Status). Reads x (command_of words)) is read in
+      let z : true ≡ false = sym replays ∙ ap (λ (o : Option Command). option_map_or is_replay_command o false) named ∙ other in cc
 
   pub follows : r ≡ Ok Follow → IsTrue (is_follow words) × ¬ (IsTrue (is_run words))
   follows is =

@@ -15,7 +15,7 @@ use Rattle.clap.proofs.OnLiterals.{clap_on_literals}
 use Rattle.pass_status.specs.declared.status.Status.{Status}
 use Rattle.pass_status.specs.declared.status.Status.TheVariants as status
 use Rattle.pass_ask.specs.Line.{command_line}
-use Rattle.pass_ask.specs.Words.{Reads, Text, command_found, command_in, command_of, is_set, unless_fault}
+use Rattle.pass_ask.specs.Words.{Reads, Text, command_by, command_found, command_of, is_set, unless_fault}
 use Rattle.pass_ask.specs.declared.words.Command.{Command}
 
 line_is_free : is_simple_and_free command_line ≡ true
@@ -63,14 +63,16 @@ refused_words app words r e s is err fails only memory =
         (ap (λ (a : App). unless_fault (fault_of a words) (command_found (matches_of command_line words))) (sym is)
         ∙ none_taken (fault_of app words) (kind_of e) (command_found (matches_of command_line words)) among)
 
-abbrev found_by : Option Text → Option Text → Option Text → List Text → Option Command
-found_by json workers name words = option_and_then (λ n. command_in (is_set json) workers n words) name
+abbrev found_by : Option Text → Option Text → Option Text → Option Text → List Text → Option Command
+found_by replay json workers name words = option_and_then (λ n. command_by (is_set replay) (is_set json) workers n words) name
 
 -- what was found, by what each option and word gave
-pub found_as : (rows : List Row) (json workers name : Option Text) (words : List Text) → first_of (codes "json") rows ≡ json → first_of (codes "workers") rows ≡ workers
-    → first_of (codes "command") rows ≡ name → unwrap_or (all_of (codes "word") rows) [] ≡ words → command_found rows ≡ option_and_then (λ n. command_in (is_set json) workers n words) name
-found_as rows json workers name words a b c d =
-    ap (λ j. found_by j (first_of (codes "workers") rows) (first_of (codes "command") rows) (unwrap_or (all_of (codes "word") rows) [])) a
-    ∙ ap (λ w. found_by json w (first_of (codes "command") rows) (unwrap_or (all_of (codes "word") rows) [])) b
-    ∙ ap (λ n. found_by json workers n (unwrap_or (all_of (codes "word") rows) [])) c
-    ∙ ap (λ ws. found_by json workers name ws) d
+pub found_as : (rows : List Row) (replay json workers name : Option Text) (words : List Text) → first_of (codes "replay") rows ≡ replay → first_of (codes "json") rows ≡ json
+    → first_of (codes "workers") rows ≡ workers → first_of (codes "command") rows ≡ name → unwrap_or (all_of (codes "word") rows) [] ≡ words
+    → command_found rows ≡ option_and_then (λ n. command_by (is_set replay) (is_set json) workers n words) name
+found_as rows replay json workers name words r a b c d =
+    ap (λ r. found_by r (first_of (codes "json") rows) (first_of (codes "workers") rows) (first_of (codes "command") rows) (unwrap_or (all_of (codes "word") rows) [])) r
+    ∙ ap (λ j. found_by replay j (first_of (codes "workers") rows) (first_of (codes "command") rows) (unwrap_or (all_of (codes "word") rows) [])) a
+    ∙ ap (λ w. found_by replay json w (first_of (codes "command") rows) (unwrap_or (all_of (codes "word") rows) [])) b
+    ∙ ap (λ n. found_by replay json workers n (unwrap_or (all_of (codes "word") rows) [])) c
+    ∙ ap (λ ws. found_by replay json workers name ws) d

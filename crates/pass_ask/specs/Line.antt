@@ -9,6 +9,10 @@ use Rattle.clap.specs.declared.builder.action.ArgAction.TheVariants.{Set, Append
 abbrev pub json_rule : Rule
 json_rule = record (new_rule (codes "json")) { long = Some (codes "json"); action = Some SetTrue }
 
+-- --replay
+abbrev pub replay_rule : Rule
+replay_rule = record (new_rule (codes "replay")) { long = Some (codes "replay"); action = Some SetTrue }
+
 -- --workers N
 abbrev pub workers_rule : Rule
 workers_rule = record (new_rule (codes "workers")) { long = Some (codes "workers"); action = Some Set }
@@ -26,4 +30,4 @@ abbrev pub bare_line : App
 bare_line = on_top (λ s. record s { no_binary_name = true; disable_help_flag = true; disable_version_flag = true }) (new_app (codes "passd"))
 
 unfoldable pub command_line : App
-command_line = with_rule (with_rule (with_rule (with_rule bare_line json_rule) workers_rule) command_rule) words_rule
+command_line = with_rule (with_rule (with_rule (with_rule (with_rule bare_line json_rule) replay_rule) workers_rule) command_rule) words_rule

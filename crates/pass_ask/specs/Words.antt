@@ -17,7 +17,7 @@ use Rattle.pass_trace.specs.Words.{is_text}
 use Rattle.pass_ask.specs.Line.{command_line}
 use Rattle.pass_ask.specs.Numbers.{number_in, node_in, seed_in}
 use Rattle.pass_ask.specs.declared.words.Command.{Command}
-use Rattle.pass_ask.specs.declared.words.Command.TheVariants.{Run, Gen, Ask, Follow}
+use Rattle.pass_ask.specs.declared.words.Command.TheVariants.{Run, Replay, Gen, Ask, Follow}
 use Rattle.pass_ask.specs.declared.words.GraphQuestion.{GraphQuestion}
 use Rattle.pass_ask.specs.declared.words.GraphQuestion.TheVariants.{Lineage, Recipe}
 use Rattle.pass_ask.specs.declared.words.Question.{Question}
@@ -107,8 +107,12 @@ graph_in json name words =
     if is_text name (codes "recipe") then recipe_in json words
     else option_map (λ query. Lineage query (form_of json)) (query_in name words)
 
--- The command by whether --json is given, what --workers gives, COMMAND and its words. --workers goes with run and gen alone, --json with the
--- queries alone.
+-- run --replay, which goes with nothing else
+abbrev pub replay_in : Bool → Option Text → Text → List Text → Option Command
+replay_in json workers name words = if is_text name (codes "run") then alone_in Replay json workers words else None
+
+-- The command without --replay by whether --json is given, what --workers gives, COMMAND and its words. --workers goes with run and gen alone,
+-- --json with the queries alone.
 abbrev pub command_in : Bool → Option Text → Text → List Text → Option Command
 command_in json workers name words =
     if is_text name (codes "run") then run_in json workers words
@@ -120,13 +124,18 @@ command_in json workers name words =
     else if is_text name (codes "match") then option_map Ask (match_in json words)
     else option_map (λ q. Ask (Graph q)) (graph_in json name words)
 
+-- the command by whether --replay is given
+abbrev pub command_by : Bool → Bool → Option Text → Text → List Text → Option Command
+command_by true json workers name words = replay_in json workers name words
+command_by false json workers name words = command_in json workers name words
+
 -- a flag that was given has the value true
 abbrev pub is_set : Option Text → Bool
 is_set value = option_map_or (λ text. is_text text (codes "true")) value false
 
 -- what the command line found
 abbrev pub command_found : List Row → Option Command
-command_found rows = option_and_then (λ name. command_in (is_set (first_of (codes "json") rows)) (first_of (codes "workers") rows) name
+command_found rows = option_and_then (λ name. command_by (is_set (first_of (codes "replay") rows)) (is_set (first_of (codes "json") rows)) (first_of (codes "workers") rows) name
     (unwrap_or (all_of (codes "word") rows) [])) (first_of (codes "command") rows)
 
 abbrev pub unless_fault : {X : Type 0} → Kinds → Option X → Option X
@@ -137,11 +146,20 @@ unless_fault (kind ∷ kinds) found = None
 unfoldable pub command_of : List Text → Option Command
 command_of words = unless_fault (fault_of command_line words) (command_found (matches_of command_line words))
 
+abbrev pub is_replay_command : Command → Bool
+is_replay_command Replay = true
+is_replay_command _ = false
+
+-- the words are those of run --replay
+abbrev pub is_replay : List Text → Bool
+is_replay words = option_map_or is_replay_command (command_of words) false
+
 abbrev pub is_run_command : Command → Bool
 is_run_command (Run workers) = true
+is_run_command Replay = true
 is_run_command _ = false
 
--- the words are those of run
+-- the words are those of run, in whatever order
 abbrev pub is_run : List Text → Bool
 is_run words = option_map_or is_run_command (command_of words) false
 

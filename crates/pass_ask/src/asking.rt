@@ -54,7 +54,9 @@ fn question_in(command: Result<Command, Status>) -> Result<Question, Status>
 {
     match command {
         Ok(Command::Ask(question)) => Ok(question),
-        Ok(Command::Run { .. } | Command::Gen { .. } | Command::Follow) => Err(Status::BadWords),
+        Ok(Command::Run { .. } | Command::Replay | Command::Gen { .. } | Command::Follow) => Err(
+            Status::BadWords,
+        ),
         Err(status) => Err(status),
     }
 }

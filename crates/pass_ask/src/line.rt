@@ -1,7 +1,7 @@
 //! The command line of the program.
 ghost use Rattle.std.specs.Prelude.{◌≡◌, IfOk, false};
 ghost use Rattle.clap.specs.Words.{app_of, rule_of};
-ghost use Rattle.pass_ask.specs.Line.{bare_line, command_line, json_rule, workers_rule, command_rule, words_rule};
+ghost use Rattle.pass_ask.specs.Line.{bare_line, command_line, json_rule, replay_rule, workers_rule, command_rule, words_rule};
 
 use clap::{Arg, ArgAction, Command};
 use std::alloc::{AllocError, Global};
@@ -13,6 +13,16 @@ fn json<'a>(alloc: Global) -> Arg<'a>
 {
     Arg::new(alloc, "json")
         .long("json")
+        .action(ArgAction::SetTrue)
+}
+
+// The flag `--replay`.
+fn replay<'a>(alloc: Global) -> Arg<'a>
+    ensures rule { rule_of result ≡ replay_rule }
+    ensures local { result.global ≡ false }
+{
+    Arg::new(alloc, "replay")
+        .long("replay")
         .action(ArgAction::SetTrue)
 }
 
@@ -52,12 +62,13 @@ fn bare_line<'a>(alloc: Global) -> Command<'a>
         .disable_version_flag(true)
 }
 
-/// The command line: `[--json] [--workers N] COMMAND [WORD]..`.
+/// The command line: `[--json] [--replay] [--workers N] COMMAND [WORD]..`.
 pub fn command_line<'a>(alloc: Global) -> Result<Command<'a>, AllocError>
     ensures { IfOk result (λ line. app_of line ≡ command_line) }
 {
     let flagged = bare_line(alloc).arg(json(alloc))?;
-    let optional = flagged.arg(workers(alloc))?;
+    let ordered = flagged.arg(replay(alloc))?;
+    let optional = ordered.arg(workers(alloc))?;
     let named = optional.arg(command(alloc))?;
     let whole = named.arg(words(alloc))?;
     Ok(whole)

@@ -1,7 +1,7 @@
 //! The commands of the program, and how its words name them.
 ghost use Rattle.std.specs.Prelude.{◌≡◌, ◌≢◌, ◌⊎◌, ◌↔◌, ◌≤◌, Option, IfOk, IfSome, IsSome, IsTrue, map, option_map, string_bytes};
 ghost use Rattle.clap.specs.Words.{found_of, kind_of, rows_of};
-ghost use Rattle.pass_ask.specs.Words.{Reads, HasWorkers, alone_in, command_found, command_in, command_of, form_of, gen_in, gen_of, graph_in, match_in, match_of, question_of, is_set, path_on, query_in, query_on, name_in, recipe_in, run_in, send_in, last_place, workers_in};
+ghost use Rattle.pass_ask.specs.Words.{Reads, HasWorkers, alone_in, command_by, command_found, command_in, replay_in, command_of, form_of, gen_in, gen_of, graph_in, match_in, match_of, question_of, is_set, path_on, query_in, query_on, name_in, recipe_in, run_in, send_in, last_place, workers_in};
 ghost use Rattle.pass_ask.specs.Numbers.{node_in, number_in, seed_in};
 ghost use Rattle.pass_query.specs.declared.question.Query.{Query};
 ghost use Rattle.pass_ask.specs.declared.words.GraphQuestion.{GraphQuestion};
@@ -73,6 +73,8 @@ pub enum Command {
     Run {
         workers: u32,
     },
+    /// To run the trace of the source in the order of its lines.
+    Replay,
     /// To run the trace that a number draws, with so many lines.
     Gen {
         workers: u32,
@@ -91,7 +93,9 @@ pub fn asks(alloc: Global, words: &[String]) -> Result<bool, AllocError>
 {
     match read_words(alloc, words) {
         Ok(Command::Ask(_)) => Ok(true),
-        Ok(Command::Run { .. } | Command::Gen { .. } | Command::Follow) => Ok(false),
+        Ok(Command::Run { .. } | Command::Replay | Command::Gen { .. } | Command::Follow) => Ok(
+            false,
+        ),
         Err(Status::BadWords) => Ok(false),
         Err(_) => Err(AllocError),
     }
@@ -131,11 +135,12 @@ fn command_found(alloc: Global, matches: &ArgMatches<'_>) -> Result<Command, Sta
     let Some(name) = matches.get_str("command") else {
         return Err(Status::BadWords);
     };
+    let replay = is_set(matches.get_str("replay"));
     let json = is_set(matches.get_str("json"));
     let workers = matches.get_str("workers");
     match matches.get_strs("word") {
-        Some(words) => command_in(alloc, json, workers, name.as_bytes(), words),
-        None => command_in(alloc, json, workers, name.as_bytes(), &[]),
+        Some(words) => command_by(alloc, replay, json, workers, name.as_bytes(), words),
+        None => command_by(alloc, replay, json, workers, name.as_bytes(), &[]),
     }
 }
 
@@ -150,6 +155,35 @@ fn is_set(value: Option<&str>) -> bool
 }
 
 // The command by what was given.
+fn command_by(
+    alloc: Global,
+    replay: bool,
+    json: bool,
+    workers: Option<&str>,
+    name: &[u8],
+    words: &[&str],
+) -> Result<Command, Status>
+    ensures command { Reads result (command_by replay json (option_map (λ w. w.now) workers.entry) name.now (map (λ w. w.now) words.now)) }
+    ensures workers { IfOk result HasWorkers }
+{
+    if replay {
+        return or_bad(replay_in(json, workers, name, words));
+    }
+    command_in(alloc, json, workers, name, words)
+}
+
+// The run in the order of the lines, with which nothing else goes.
+fn replay_in(json: bool, workers: Option<&str>, name: &[u8], words: &[&str]) -> Option<Command>
+    ensures command { result ≡ replay_in json (option_map (λ w. w.now) workers.entry) name.now (map (λ w. w.now) words.now) }
+    ensures workers { IfSome result HasWorkers }
+{
+    if name != b"run".as_slice() {
+        return None;
+    }
+    alone_in(Command::Replay, json, workers, words)
+}
+
+// The command without `--replay`.
 fn command_in(
     alloc: Global,
     json: bool,

@@ -16,7 +16,7 @@ use Rattle.pass_status.specs.declared.status.Status.TheVariants as status
 use Rattle.pass_trace.specs.Lines.{is_too_long}
 use Rattle.pass_run.specs.Stored.{session_fault, IsStoreJudged, IsEnd, IsOfDisk, IsHeldBack, IsOverStore, HasEnded}
 use Rattle.pass_ask.specs.Answers.{HasFailed}
-use Rattle.pass_cli.specs.Answers.{OfBytes, IsTraced, IsRefusal, IsTraceRead, IsRunJudged, Outcome, IsNothing, IsRefused, IsUnwritten, HasRun, comes_before, ends_run}
+use Rattle.pass_cli.specs.Answers.{OfBytes, IsTraced, IsRefusal, IsTraceRead, IsRunJudged, Outcome, IsNothing, IsRefused, IsReplayed, IsUnwritten, HasRun, comes_before, ends_run}
 use Rattle.pass_run.proofs.Moved.{alone_untouched, leaves_untouched, refused_untouched}
 use Rattle.pass_trace.proofs.TooLong.{too_long_is_none, too_long_stays}
 use Rattle.pass_entry.proofs.Lists.{some_is}
@@ -235,3 +235,18 @@ ran_run view bytes before after old new lines out judged report traced same ran 
 -- a status that a run may end with isn't one of the sink
 pub no_write : (s : Status) → ends_run s ≡ true → s ≢ status.WriteFault
 no_write s ends is = let z : true ≡ false = sym ends ∙ ap ends_run is in cc
+
+-- what a replay hands out, by the status that is answered
+pub replayed_as : (old : Moment) (bytes : List ℕ) (out : Outcome) (judged answered : Status) → (answered ≢ status.NoMemory → (answered ≡ judged) ⊎ (answered ≡ status.WriteFault)) → IsReplayed old bytes out judged
+    → IsReplayed old bytes out answered
+replayed_as old bytes out judged answered stands (inl none) = inl none
+replayed_as old bytes out judged answered stands (inr r) = inr (record {
+  opened = r.opened;
+  opening = r.opening;
+  replay = r.replay;
+  whole = λ end. r.whole (at_end end (stands (λ starved. subst IsEnd starved end)));
+})
+  where
+    at_end : IsEnd answered → (answered ≡ judged) ⊎ (answered ≡ status.WriteFault) → IsEnd judged
+    at_end end (inl same) = subst IsEnd same end
+    at_end end (inr failed) = absurd (subst IsEnd failed end)

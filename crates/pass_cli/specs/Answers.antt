@@ -16,6 +16,7 @@ use Rattle.pass_status.specs.declared.status.Status.{Status}
 use Rattle.pass_status.specs.declared.status.Status.TheVariants as status
 use Rattle.pass_status.specs.Reading.{StopsInTime}
 use Rattle.pass_trace.specs.Lines.{is_too_long}
+use Rattle.pass_run.specs.Orders.{HasReplayed}
 use Rattle.pass_run.specs.Stored.{session_fault, IsEnd, IsUnopened, IsLeftAlone, LeavesRead, HasBegun, IsRefusedOpening, IsHeldBack, IsOverStore, HasEnded}
 use Rattle.pass_status.specs.Writing.{IsPartOfText}
 use Rattle.pass_ask.specs.Answers.{IsNoDiskFault, HasFailed, SinkSeen, text_with}
@@ -111,6 +112,10 @@ IsUnrecorded old new bytes out = IsNothing out × (IsUnwritten old new ⊎ HasBe
 -- the store was opened, and the history is a run of the trace of the bytes, of which a crash leaves a beginning
 abbrev pub IsRecorded : Moment → Moment → List ℕ → Outcome → Type 0
 IsRecorded old new bytes out = IsOverStore old.calls old new (trace_of bytes) out.list out.start out.history out.syncs
+
+-- nothing was recorded, or the history is a beginning of the replay of the trace of the bytes, and the whole one where the run has come to its end
+abbrev pub IsReplayed : Moment → List ℕ → Outcome → Status → Type 0
+IsReplayed old bytes out ended = HasReplayed old (trace_of bytes) out.list out.start out.history out.syncs ended
 
 -- the trace was run until no process could move, all of it is kept, and the report is that of the history
 abbrev pub IsWhole : Moment → Moment → List ℕ → Outcome → Status → List ℕ → Type 0

@@ -8,7 +8,7 @@ ghost use Rattle.pass_cli.specs.Drawn.{HasDrawn, IsTold, drawn_bytes};
 use pass_drawn::report as drawn_report;
 use pass_gen::generate;
 use pass_outside::{Disk, Gate};
-use pass_run::{RunEnd, run_unreported, unopened};
+use pass_run::{Order, RunEnd, run_unreported, unopened};
 use pass_status::Status;
 use pass_trace::Trace;
 use std::alloc::Global;
@@ -69,7 +69,7 @@ fn run_drawn<R: Threads + Wait + Sync, D: Disk + Send, G: Gate + Sync>(
     ensures later { IsLater (D.view disk) (D.view result.disk) }
 {
     pass_gen::laws::generated_is_read();
-    run_unreported(rt, alloc, trace, workers, disk, gate)
+    run_unreported(rt, alloc, trace, Order::Passes { workers }, disk, gate)
 }
 
 // The end of a run with the text of what it came to, or want of memory.

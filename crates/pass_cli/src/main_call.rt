@@ -1,12 +1,13 @@
 //! The call that the program makes.
 ghost use Rattle.std.specs.Prelude.{ℕ, ◌≡◌, ◌≢◌, ◌↔◌, ◌⊎◌, ◌≤◌, Err, IsTrue, Some, map, string_bytes};
 ghost use Rattle.pass_outside.specs.Faults.{HasRisen};
+ghost use Rattle.pass_run.specs.Orders.{IsOrder};
 ghost use Rattle.pass_run.specs.Stored.{IsBackedBy, IsLater, IsLeftAlone};
-ghost use Rattle.pass_cli.specs.Answers.{OfBytes, IsReadInTime, IsAnswer, IsNothing, IsUnrecorded, IsRecorded, outcome_of};
+ghost use Rattle.pass_cli.specs.Answers.{OfBytes, IsReadInTime, IsAnswer, IsNothing, IsUnrecorded, IsRecorded, IsReplayed, outcome_of};
 ghost use Rattle.pass_ask.specs.Asked.{IsAsked, IsPut, IsQuestionRead, asked_in};
 ghost use Rattle.pass_ask.specs.Follows.{IsFollowAnswer, IsFollowedOn, OfRead};
 ghost use Rattle.pass_cli.specs.Drawn.{IsGenAnswer, drawn_bytes};
-ghost use Rattle.pass_ask.specs.Words.{drawn_of, is_follow, is_gen, is_run, question_of};
+ghost use Rattle.pass_ask.specs.Words.{drawn_of, is_follow, is_gen, is_replay, is_run, question_of};
 
 use crate::drawing::judge_drawn;
 use crate::verdict::judge;
@@ -14,7 +15,7 @@ use pass_ask::{Asked, Command, Followed, Question, ask_for, follow, read_words, 
 use pass_entry::{Entry, Record, Synced};
 use pass_outside::{Disk, Gate, Sink, Source};
 use pass_plain::Start;
-use pass_run::{RunEnd, empty_start};
+use pass_run::{Order, RunEnd, empty_start};
 use pass_status::Status;
 use std::alloc::Global;
 use std::sync::Wait;
@@ -51,6 +52,9 @@ pub fn pass_main<R: Threads + Wait + Sync, S: Source, K: Sink, D: Disk + Send, G
     // data of the file that was synced.
     ensures recorded { IsTrue (is_run (map string_bytes words.now)) → OfBytes S.tells (S.left source.old)
         (λ bytes. IsUnrecorded (D.view disk) (D.view result.disk) bytes (outcome_of result) ⊎ IsRecorded (D.view disk) (D.view result.disk) bytes (outcome_of result)) }
+    // A replay's history is the one in which each call is made where its line stands, or as soon behind it as it is ready; where the run has come
+    // to its end, all of it.
+    ensures replayed { IsTrue (is_replay (map string_bytes words.now)) → OfBytes S.tells (S.left source.old) (λ bytes. IsReplayed (D.view disk) bytes (outcome_of result) result.status) }
     // Each sync of which the history tells is among the syncs: it has the entry by which its call began, and none from its own place on.
     ensures backed { IsBackedBy result.history.items result.syncs.items }
     // A standby ends as what came of the stream, and leaves on the disk whole frames of it.
@@ -82,7 +86,16 @@ pub fn pass_main<R: Threads + Wait + Sync, S: Source, K: Sink, D: Disk + Send, G
         → IsReadInTime (S.left source.old) (S.left source.new) }
 {
     match read_words(alloc, words) {
-        Ok(Command::Run { workers }) => run_words(rt, alloc, workers, source, sink, disk, gate),
+        Ok(Command::Run { workers }) => run_words(
+            rt,
+            alloc,
+            Order::Passes { workers },
+            source,
+            sink,
+            disk,
+            gate,
+        ),
+        Ok(Command::Replay) => run_words(rt, alloc, Order::Lines, source, sink, disk, gate),
         Ok(
             Command::Gen {
                 workers,
@@ -100,13 +113,14 @@ pub fn pass_main<R: Threads + Wait + Sync, S: Source, K: Sink, D: Disk + Send, G
 fn run_words<R: Threads + Wait + Sync, S: Source, K: Sink, D: Disk + Send, G: Gate + Sync>(
     rt: &R,
     alloc: Global,
-    workers: u32,
+    order: Order,
     source: &mut S,
     sink: &mut K,
     disk: D,
     gate: &G,
 ) -> Ended<D>
-    requires { (1 ≤ workers) × (workers ≤ 64) }
+    requires { IsOrder order }
+    ensures replayed { order ≡ Order.Lines → OfBytes S.tells (S.left source.old) (λ bytes. IsReplayed (D.view disk) bytes (outcome_of result) result.status) }
     ensures run { result.status ≢ Status.NoMemory → IsAnswer D.view
         (record { tells = S.tells; left = S.left source.old; before = S.fault_count source.old; after = S.fault_count source.new })
         (record { tells = K.tells; before = K.taken sink.old; after = K.taken sink.new }) disk result.disk (outcome_of result) result.status }
@@ -128,7 +142,7 @@ fn run_words<R: Threads + Wait + Sync, S: Source, K: Sink, D: Disk + Send, G: Ga
         start,
         report,
         disk,
-    } = judge(rt, alloc, workers, source, disk, gate);
+    } = judge(rt, alloc, order, source, disk, gate);
     Ended {
         status: write_answer(alloc, sink, status, &report),
         history,

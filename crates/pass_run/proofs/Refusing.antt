@@ -14,6 +14,7 @@ use Rattle.pass_trace.specs.declared.trace.TraceLine.{TraceLine}
 use Rattle.pass_vault.specs.Vaulted.{Vaulted}
 use Rattle.pass_vault.specs.Vaulted as vaults
 use Rattle.pass_run.specs.declared.ending.RunEnd.{RunEnd}
+use Rattle.pass_run.specs.declared.order.Order.{Order}
 use Rattle.pass_status.specs.declared.status.Status.TheVariants as status
 use Rattle.pass_run.specs.OpenedRuns.{IsRunOver}
 use Rattle.pass_status.specs.Statuses.{status_of_opening}
@@ -23,9 +24,9 @@ use Rattle.pass_run.proofs.Moved.{none_backed}
 abbrev pub IsNone : {D : Type 0} → RunEnd D → Type 0
 IsNone e = IsUnopened e.list.items e.start e.history.items e.syncs.items × (e.report.items ≡ [])
 
-module _ {D : Type 0} (view : D → Moment) (old : Moment) (lines : List TraceLine) (e : RunEnd D) (none : IsNone e) where
+module _ {D : Type 0} (view : D → Moment) (old : Moment) (lines : List TraceLine) (order : Order) (e : RunEnd D) (none : IsNone e) where
   -- want of memory, before the first entry
-  pub held_back : e.status ≡ status.NoMemory → HasBegun old (view e.disk) (objects_of lines) → IsLater old (view e.disk) → IsRunOver view old lines e
+  pub held_back : e.status ≡ status.NoMemory → HasBegun old (view e.disk) (objects_of lines) → IsLater old (view e.disk) → IsRunOver view old lines order e
   held_back is begun later = record {
     disk_fault = λ opened now also. absurd (let z : status.NoMemory ≡ status.DiskFault opened now = sym is ∙ also in cc);
     no_fault = λ other. absurd (other is);
@@ -35,6 +36,7 @@ module _ {D : Type 0} (view : D → Moment) (old : Moment) (lines : List TraceLi
     backed = none_backed e.history.items e.syncs.items none.0.no_history;
     ended = ([], λ end. absurd (subst IsEnd is end));
     silent = none.1;
+    replayed = λ is. inl none.0;
     later = later;
   }
 
@@ -86,7 +88,7 @@ module _ {D : Type 0} (view : D → Moment) (old : Moment) (lines : List TraceLi
     refusal : IsUntouched old (view e.disk) fault → IsRefusedOpening old (view e.disk) e.status e.list.items e.start e.history.items e.syncs.items
     refusal untouched = record { unended = unended; nothing = none.0; alone = untouched.alone; since = untouched.since; reads = λ quiet. untouched.reads (quiet_fault quiet) }
 
-    pub refused_run : IsRunOver view old lines e
+    pub refused_run : IsRunOver view old lines order e
     refused_run = record {
       disk_fault = λ first found also.
           let (failed, same, counted) = of_disk first found also in (
@@ -105,6 +107,7 @@ module _ {D : Type 0} (view : D → Moment) (old : Moment) (lines : List TraceLi
       backed = none_backed e.history.items e.syncs.items none.0.no_history;
       ended = ([], λ end. absurd (unended end));
       silent = none.1;
+      replayed = λ is. inl none.0;
       later = refused.later;
     }
 

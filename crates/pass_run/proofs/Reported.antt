@@ -10,12 +10,14 @@ use Rattle.pass_trace.specs.TraceLines.{plain_trace, session_of_trace}
 use Rattle.pass_trace.specs.declared.trace.TraceLine.{TraceLine}
 use Rattle.pass_run.specs.Ends.{EndsAs}
 use Rattle.pass_run.specs.declared.ending.RunEnd.{RunEnd}
+use Rattle.pass_run.specs.declared.order.Order.{Order}
+use Rattle.pass_run.specs.Orders.{IsReplayedOver}
 use Rattle.pass_status.specs.declared.status.Status.{Status}
 use Rattle.pass_status.specs.declared.status.Status.TheVariants as status
 use Rattle.pass_run.specs.OpenedRuns.{IsHandedOut, IsRunOver, IsReportedOver}
-use Rattle.pass_run.specs.Stored.{session_fault, IsStoreJudged, IsEnd, IsOfDisk, IsRefusedOpening, IsHeldBack, IsOverStore, HasEnded}
+use Rattle.pass_run.specs.Stored.{session_fault, IsStoreJudged, IsEnd, IsOfDisk, IsRefusedOpening, IsHeldBack, IsOverStore, IsUnopened, HasEnded}
 
-module _ {D : Type 0} (view : D → Moment) (old : Moment) (lines : List TraceLine) (e : RunEnd D) (over : IsRunOver view old lines e) where
+module _ {D : Type 0} (view : D → Moment) (old : Moment) (lines : List TraceLine) (order : Order) (e : RunEnd D) (over : IsRunOver view old lines order e) where
   -- a run that came to its end has a legal history
   pub legal : IsEnd e.status → (session : Session) × IsLegalFrom e.start e.history.items session
   legal end =
@@ -71,7 +73,7 @@ module _ {D : Type 0} (view : D → Moment) (old : Moment) (lines : List TraceLi
           numbered = h.numbered;
         }
 
-    pub reported_over : IsReportedOver view old lines (record e { status = s; report = report })
+    pub reported_over : IsReportedOver view old lines order (record e { status = s; report = report })
     reported_over = record {
       disk_fault = λ opened now is. over.disk_fault opened now (of_disk opened now is);
       no_fault = λ some other. let same = kept some in over.no_fault (λ starved. some (same ∙ starved)) (quiet same other);
@@ -85,5 +87,12 @@ module _ {D : Type 0} (view : D → Moment) (old : Moment) (lines : List TraceLi
       backed = over.backed;
       ended = ended;
       no_report = no_report;
+      replayed = λ is. ⊎_elim (λ (none : IsUnopened e.list.items e.start e.history.items e.syncs.items). inl none)
+          (λ (r : IsReplayedOver old lines e.list.items e.start e.history.items e.status). inr (record {
+            opened = r.opened;
+            opening = r.opening;
+            replay = r.replay;
+            whole = λ end. r.whole (subst IsEnd (kept (λ starved. subst IsEnd starved end)) end);
+          })) (over.replayed is);
       later = over.later;
     }

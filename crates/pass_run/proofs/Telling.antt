@@ -16,6 +16,7 @@ use Rattle.pass_trace.specs.TraceLines.{objects_of, plain_trace}
 use Rattle.pass_trace.specs.declared.trace.TraceLine.{TraceLine}
 use Rattle.pass_walk.specs.declared.ends.Last.{Last}
 use Rattle.pass_walk.specs.Runs.{IsRanBy, IsRanTo, RanLaw}
+use Rattle.pass_order.specs.Replayed.{IsReplayedBy, IsReplayedTo, ReplayedLaw}
 use Rattle.pass_run.specs.Ends.{IsTrace}
 use Rattle.pass_run.proofs.Ruled.{ruled}
 
@@ -28,3 +29,11 @@ pub has_ran : {D : Type 0} (view : D → Moment) (old : Moment) (lines : List Tr
 has_ran view old lines o law trace session book book_is places places_are trails last history by legal all =
     law book.session places lines trails last history (ruled lines trace) (sym (ap (λ (b : BookId). b.session.objects) book_is) ∙ session.objects_are)
     (let entries = session.places in omega (arith, entries, places_are)) by legal (told history trails all)
+
+-- and the replay of the trace, where they were made in the order of its lines
+pub has_replayed : {D : Type 0} (view : D → Moment) (old : Moment) (lines : List TraceLine) (o : OpenedView D) → ReplayedLaw
+    → HasSession view old (objects_of lines) (places_of (plain_trace lines)) o → (book : BookId) → o.vault.book ≡ book → (trails : List TrailView) (last : Last) (history : List Entry)
+    → IsReplayedBy book.session (plain_trace lines) trails → IsLegal book.session history → All (IsTold history) trails → IsRanTo book.session (plain_trace lines) history last
+    → IsReplayedTo book.session (plain_trace lines) history last
+has_replayed view old lines o law session book book_is trails last history by legal all ran =
+    law book.session lines trails last history (sym (ap (λ (b : BookId). b.session.objects) book_is) ∙ session.objects_are) by legal (told history trails all) ran

@@ -5,16 +5,20 @@ ghost use Rattle.pass_replay.specs.Lines.{IsLineCall};
 ghost use Rattle.pass_progress.specs.Calls.{AnswersAny, request_with};
 ghost use Rattle.pass_walk.specs.Lefts.{HasRoomFor};
 ghost use Rattle.pass_walk.specs.Runs.{IsRanBy};
+ghost use Rattle.pass_order.specs.Replayed.{IsReplayedBy};
+ghost use Rattle.pass_run.specs.Orders.{IsOrder};
 
+use crate::order::Order;
 use pass_answer::{CallEnd, Moved};
 use pass_entry::{Bytes, Pnode};
+use pass_order::run as in_order;
 use pass_outside::{Disk, Gate};
 use pass_proc::{Proc, Trail};
 use pass_progress::Calls;
 use pass_safe::Opening;
 use pass_store::Store;
 use pass_trace::{Command, Payload};
-use pass_turns::run;
+use pass_turns::run as in_passes;
 use pass_walk::{Plan, Ran};
 use std::alloc::Global;
 use std::sync::Wait;
@@ -112,6 +116,10 @@ impl<'a, 'g, R: Wait, J: Opening, D: Disk, G: Gate> Calls<J> for Served<'a, 'g, 
         }
     }
 
+    fn meet(&self, first: &mut Proc<J>, second: &mut Proc<J>) {
+        pass_shared::meet(&self.store.locks, self.rt, first, second);
+    }
+
     fn meet_ended(&self, proc: &mut Proc<J>, trail: &mut Trail<J>) {
         pass_shared::meet_ended(&self.store.locks, self.rt, proc, trail);
     }
@@ -144,13 +152,14 @@ pub(crate) fn serve<
     first: Proc<J>,
     plan: &Plan<'_>,
     room: Vec<Trail<J>>,
-    workers: u32,
+    order: Order,
     gate: &G,
 ) -> Ran<J>
-    requires workers { (1 ≤ workers) × (workers ≤ 64) }
+    requires order { IsOrder order }
     requires first { (first.who ≡ J.book.session.start.ceiling + 1) × (first.number ≡ 0) }
     requires room { HasRoomFor (plain_trace plan.now) room }
-    ensures { IsRanBy J.book.session J.places (plain_trace plan.now) result.trails.items result.last }
+    ensures ran { IsRanBy J.book.session J.places (plain_trace plan.now) result.trails.items result.last }
+    ensures replayed { order ≡ Order.Lines → IsReplayedBy J.book.session (plain_trace plan.now) result.trails.items }
 {
     let served = Served {
         rt,
@@ -158,7 +167,10 @@ pub(crate) fn serve<
         store,
         gate,
     };
-    let ran = run(rt, alloc, &served, first, plan, room, workers);
+    let ran = match order {
+        Order::Passes { workers } => in_passes(rt, alloc, &served, first, plan, room, workers),
+        Order::Lines => in_order(rt, alloc, &served, first, plan, room),
+    };
     let Served {
         rt: _,
         alloc: _,

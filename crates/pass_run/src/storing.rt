@@ -8,15 +8,18 @@ ghost use Rattle.pass_session.specs.Sessions.{HasRefused, HasSession};
 ghost use Rattle.pass_safe.specs.Grounds.{ground_of};
 ghost use Rattle.pass_trace.specs.TraceLines.{objects_of as objects_of_lines, plain_trace};
 ghost use Rattle.pass_run.specs.Ends.{IsTrace};
+ghost use Rattle.pass_run.specs.Orders.{HasReplayed, IsOrder};
 ghost use Rattle.pass_run.specs.OpenedRuns.{IsRunOver, IsReportedOver};
 ghost use Rattle.pass_run.specs.Stored.{session_fault, IsStoreJudged, IsEnd, IsOfDisk, IsLater, IsRefusedOpening, IsHeldBack, IsOverStore, HasEnded, IsBackedBy};
 
 use crate::closing::hand_out;
 use crate::ending::{RunEnd, unopened};
 use crate::needs::places_of;
+use crate::order::Order;
 use crate::reporting::reported;
 use crate::serving::serve;
 use pass_graph::laws::{edges, graph};
+use pass_order::laws::replays;
 use pass_outside::{Disk, Gate};
 use pass_recover::OpenFault;
 use pass_safe::Opening;
@@ -38,12 +41,12 @@ pub fn run_trace<R: Threads + Wait + Sync, D: Disk + Send, G: Gate + Sync>(
     rt: &R,
     alloc: Global,
     trace: &Trace,
-    workers: u32,
+    order: Order,
     disk: D,
     gate: &G,
 ) -> RunEnd<D>
     requires trace { IsTrace trace.now.lines.items }
-    requires workers { (1 ≤ workers) × (workers ≤ 64) }
+    requires order { IsOrder order }
 
     // The statuses, in the order in which they are judged. Want of memory alone is free.
     ensures disk_fault { (opened now : ℕ) → result.status ≡ Status.DiskFault opened now
@@ -65,32 +68,35 @@ pub fn run_trace<R: Threads + Wait + Sync, D: Disk + Send, G: Gate + Sync>(
     ensures ended { IsEnd result.status
         → HasEnded (D.view disk).calls (D.view disk) (D.view result.disk) trace.now.lines.items result.list.items result.start result.history.items result.syncs.items result.status result.report.items }
     ensures no_report { (IsEnd result.status → ⊥) → result.report.items ≡ [] }
+    // In the order of the lines the history is the replay of the trace from the start that was opened.
+    ensures replayed { order ≡ Order.Lines → HasReplayed (D.view disk) trace.now.lines.items result.list.items result.start result.history.items result.syncs.items result.status }
     // What the disk tells stays, and its counts never fall.
     ensures later { IsLater (D.view disk) (D.view result.disk) }
 {
     let first = Snapshot::of(&disk);
-    let ended = run_unreported(rt, alloc, trace, workers, disk, gate);
-    with_report(alloc, trace, first, ended)
+    let ended = run_unreported(rt, alloc, trace, order, disk, gate);
+    with_report(alloc, trace, order, first, ended)
 }
 
 /// A run over a disk that was found in its first state, with its report.
 fn with_report<D: Disk>(
     alloc: Global,
     trace: &Trace,
+    order: Order,
     first: Snapshot<D>,
     ended: RunEnd<D>,
 ) -> RunEnd<D>
-    requires { IsRunOver D.view (D.view first.value) trace.now.lines.items ended }
-    ensures { IsReportedOver D.view (D.view first.value) trace.now.lines.items result }
+    requires { IsRunOver D.view (D.view first.value) trace.now.lines.items order ended }
+    ensures { IsReportedOver D.view (D.view first.value) trace.now.lines.items order result }
 {
     reported(alloc, trace, ended)
 }
 
 /// Runs a trace over the store of a disk, and keeps what it records there.
 ///
-/// The store is opened for as many objects and entries as the trace may make, and its ceiling raised by them. Then so many worker
-/// threads take the turns of the processes, until each has made its exit or none can go on; with one worker they take them on the
-/// caller's thread, in ascending order of the processes. A `sync` makes what stands before it durable. At the end every entry and every
+/// The store is opened for as many objects and entries as the trace may make, and its ceiling raised by them. Then the calls are made, until
+/// each process has made its exit or none can go on: in the order of the lines on the caller's thread, or in passes, in which so many worker
+/// threads take the turns of the processes. With one worker they take them on the caller's thread, in ascending order of the processes. A `sync` makes what stands before it durable. At the end every entry and every
 /// changed block is made durable, whatever the processes came to.
 ///
 /// No report is made. The memory of the run itself is taken before its first entry. Each call takes its own, and one that is refused ends the run.
@@ -98,12 +104,12 @@ pub fn run_unreported<R: Threads + Wait + Sync, D: Disk + Send, G: Gate + Sync>(
     rt: &R,
     alloc: Global,
     trace: &Trace,
-    workers: u32,
+    order: Order,
     disk: D,
     gate: &G,
 ) -> RunEnd<D>
     requires trace { IsTrace trace.now.lines.items }
-    requires workers { (1 ≤ workers) × (workers ≤ 64) }
+    requires order { IsOrder order }
 
     // The statuses, in the order in which they are judged. Want of memory alone is free.
     ensures disk_fault { (opened now : ℕ) → result.status ≡ Status.DiskFault opened now
@@ -126,6 +132,8 @@ pub fn run_unreported<R: Threads + Wait + Sync, D: Disk + Send, G: Gate + Sync>(
     ensures ended { (text : List ℕ) × (IsEnd result.status
         → HasEnded (D.view disk).calls (D.view disk) (D.view result.disk) trace.now.lines.items result.list.items result.start result.history.items result.syncs.items result.status text) }
     ensures silent { result.report.items ≡ [] }
+    // In the order of the lines the history is the replay of the trace from the start that was opened.
+    ensures replayed { order ≡ Order.Lines → HasReplayed (D.view disk) trace.now.lines.items result.list.items result.start result.history.items result.syncs.items result.status }
     // What the disk tells stays, and its counts never fall.
     ensures later { IsLater (D.view disk) (D.view result.disk) }
 {
@@ -139,9 +147,9 @@ pub fn run_unreported<R: Threads + Wait + Sync, D: Disk + Send, G: Gate + Sync>(
     };
     match open(alloc, disk, objects, entries) {
         Ok(opened) => run_opened::<R, Brand, D, G>(
-            rt, alloc, trace, &plan, workers, opened, first, gate,
+            rt, alloc, trace, &plan, order, opened, first, gate,
         ),
-        Err((fault, disk)) => not_opened(alloc, trace, first, faults, fault, disk),
+        Err((fault, disk)) => not_opened(alloc, trace, order, first, faults, fault, disk),
     }
 }
 
@@ -149,6 +157,7 @@ pub fn run_unreported<R: Threads + Wait + Sync, D: Disk + Send, G: Gate + Sync>(
 fn not_opened<D: Disk>(
     alloc: Global,
     trace: &Trace,
+    order: Order,
     first: Snapshot<D>,
     faults: u64,
     fault: OpenFault,
@@ -156,7 +165,7 @@ fn not_opened<D: Disk>(
 ) -> RunEnd<D>
     requires refused { HasRefused D.view (D.view first.value) (objects_of_lines trace.now.lines.items) (fault, disk) }
     requires faults { faults ≡ (D.view first.value).faults }
-    ensures { IsRunOver D.view (D.view first.value) trace.now.lines.items result }
+    ensures { IsRunOver D.view (D.view first.value) trace.now.lines.items order result }
 {
     let now = disk.faults();
     unopened(alloc, opening_status(fault, faults, now), disk)
@@ -168,20 +177,20 @@ fn run_opened<R: Threads + Wait + Sync, J: Opening + Send, D: Disk + Send, G: Ga
     alloc: Global,
     trace: &Trace,
     plan: &Plan<'_>,
-    workers: u32,
+    order: Order,
     opened: Opened<D>,
     first: Snapshot<D>,
     gate: &G,
 ) -> RunEnd<D>
     requires trace { IsTrace trace.now.lines.items }
     requires plan { plan.now ≡ trace.now.lines.items }
-    requires workers { (1 ≤ workers) × (workers ≤ 64) }
+    requires order { IsOrder order }
     requires session { HasSession D.view (D.view first.value) (objects_of_lines trace.now.lines.items) (places_of_trace (plain_trace trace.now.lines.items)) opened }
     requires book { opened.vault.book ≡ J.book }
     requires places { opened.places ≡ J.places }
     requires ground { ground_of opened.vault ≡ J.ground }
     requires tells { (D.view opened.vault.disk).tells ≡ J.tells }
-    ensures { IsRunOver D.view (D.view first.value) trace.now.lines.items result }
+    ensures { IsRunOver D.view (D.view first.value) trace.now.lines.items order result }
 {
     let Ok(room) = plan.room::<J>(alloc) else {
         return unopened(alloc, Status::NoMemory, opened.into_disk());
@@ -190,10 +199,11 @@ fn run_opened<R: Threads + Wait + Sync, J: Opening + Send, D: Disk + Send, G: Ga
         Ok(begun) => begun,
         Err(disk) => return unopened(alloc, Status::NoMemory, disk),
     };
-    let Ran { trails, last } = serve(rt, alloc, &store, process, plan, room, workers, gate);
+    let Ran { trails, last } = serve(rt, alloc, &store, process, plan, room, order, gate);
     let finished = store.finish(alloc, trails);
     graph();
     edges();
     ends();
+    replays();
     hand_out(alloc, last, finished)
 }

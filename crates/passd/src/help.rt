@@ -14,6 +14,7 @@ pub const HELP: &str = "passd DIR COMMAND: a file store that records which data 
   send FROM                writes the log from this place on
   follow                   keeps the log that comes on standard input
 
+  --replay                 with run, without --workers: makes each call where its line stands, or as soon behind it as it is ready
   --workers N              with run and gen: 1 to 64 threads (4 if not given)
   --json                   with ancestors, descendants, path, named and match
 

@@ -5,11 +5,15 @@ use Rattle.pass_cli.specs.Answers.{IsUnrecorded, IsRecorded, outcome_of}
 use Rattle.pass_cli.specs.Drawn.{IsGenAnswer, drawn_bytes}
 use Rattle.pass_ask.specs.Asked.{IsAsked, IsPut}
 use Rattle.pass_ask.specs.declared.words.Question.{Question}
-use Rattle.pass_ask.specs.declared.words.Command.TheVariants.{Run, Gen, Ask, Follow}
-use Rattle.pass_ask.proofs.Commands.{ok_same, runs, runs_only, follows, asks, refuses, refusal_read, draws, draws_so, refuses_drawn}
+use Rattle.pass_ask.specs.declared.words.Command.TheVariants.{Run, Replay, Gen, Ask, Follow}
+use Rattle.pass_ask.proofs.Commands.{asks, draws, draws_so, follows, not_replay, ok_same, refusal_read, refuses, refuses_drawn, replays, runs, runs_only}
 use Rattle.pass_cli.proofs.Judging.{still_unwritten}
 use Rattle.pass_ask.proofs.Streams.{untouched_on_disk}
 use Rattle.pass_cli.proofs.main_call.pass_main.Goals as goal
+
+-- words that draw nothing
+nothing_drawn : (o : Option (ℕ × ℕ)) (n l : ℕ) → o ≡ None → o ≡ Some (n, l) → ⊥
+nothing_drawn o n l none some = let z : ◌≡◌ {A = Option (ℕ × ℕ)} None (Some (n, l)) = sym none ∙ some in cc
 
 pub returns-in-Ok-Run-clause-asked : goal.returns-in-Ok-Run-clause-asked
 returns-in-Ok-Run-clause-asked g c = λ other. absurd (other (runs (map string_bytes c.args.words.now) c.read_words.result c.read_words.ensures.command c.in-Ok-Run.workers (ok_same c.read_words.result c.in-Ok-Run.field-0 (Run c.in-Ok-Run.workers) c.in-Ok-Run.is c.in-Ok-Run.field-0-is)))
@@ -96,6 +100,33 @@ pub returns-in-Err-clause-followed : goal.returns-in-Err-clause-followed
 returns-in-Err-clause-followed g c = λ is.
     untouched_on_disk g.D.Disk.view g.S.Source.tells (g.S.Source.left c.args.source.now) c.args.disk c.answered-in-Err.result.disk (c.answered-in-Err.ensures.unopened (λ put. put))
 
+pub returns-in-Ok-Replay-clause-asked : goal.returns-in-Ok-Replay-clause-asked
+returns-in-Ok-Replay-clause-asked g c = λ other. absurd (other (replays (map string_bytes c.args.words.now) c.read_words.result c.read_words.ensures.command (ok_same c.read_words.result c.in-Ok-Replay.field-0 Replay c.in-Ok-Replay.is c.in-Ok-Replay.field-0-is)).0)
+
+pub returns-in-Ok-Replay-clause-unrecorded : goal.returns-in-Ok-Replay-clause-unrecorded
+returns-in-Ok-Replay-clause-unrecorded g c = λ other. absurd (other (replays (map string_bytes c.args.words.now) c.read_words.result c.read_words.ensures.command (ok_same c.read_words.result c.in-Ok-Replay.field-0 Replay c.in-Ok-Replay.is c.in-Ok-Replay.field-0-is)).0)
+
+pub returns-in-Ok-Replay-clause-alone : goal.returns-in-Ok-Replay-clause-alone
+returns-in-Ok-Replay-clause-alone g c = λ other. absurd (other (replays (map string_bytes c.args.words.now) c.read_words.result c.read_words.ensures.command (ok_same c.read_words.result c.in-Ok-Replay.field-0 Replay c.in-Ok-Replay.is c.in-Ok-Replay.field-0-is)).0)
+
+pub returns-in-Ok-Replay-clause-unopened : goal.returns-in-Ok-Replay-clause-unopened
+returns-in-Ok-Replay-clause-unopened g c = λ other. absurd (other (replays (map string_bytes c.args.words.now) c.read_words.result c.read_words.ensures.command (ok_same c.read_words.result c.in-Ok-Replay.field-0 Replay c.in-Ok-Replay.is c.in-Ok-Replay.field-0-is)).0)
+
+pub returns-in-Ok-Replay-clause-unread : goal.returns-in-Ok-Replay-clause-unread
+returns-in-Ok-Replay-clause-unread g c = λ other. absurd (other (replays (map string_bytes c.args.words.now) c.read_words.result c.read_words.ensures.command (ok_same c.read_words.result c.in-Ok-Replay.field-0 Replay c.in-Ok-Replay.is c.in-Ok-Replay.field-0-is)).0)
+
+pub returns-in-Ok-Replay-clause-follow : goal.returns-in-Ok-Replay-clause-follow
+returns-in-Ok-Replay-clause-follow g c = λ is. absurd ((replays (map string_bytes c.args.words.now) c.read_words.result c.read_words.ensures.command (ok_same c.read_words.result c.in-Ok-Replay.field-0 Replay c.in-Ok-Replay.is c.in-Ok-Replay.field-0-is)).1 is)
+
+pub returns-in-Ok-Replay-clause-followed : goal.returns-in-Ok-Replay-clause-followed
+returns-in-Ok-Replay-clause-followed g c = λ is. absurd ((replays (map string_bytes c.args.words.now) c.read_words.result c.read_words.ensures.command (ok_same c.read_words.result c.in-Ok-Replay.field-0 Replay c.in-Ok-Replay.is c.in-Ok-Replay.field-0-is)).1 is)
+
+pub returns-in-Ok-Replay-clause-drawn : goal.returns-in-Ok-Replay-clause-drawn
+returns-in-Ok-Replay-clause-drawn g c = λ number lines is. absurd (nothing_drawn _ number lines (draws_so (map string_bytes c.args.words.now) c.read_words.result c.read_words.ensures.command Replay (ok_same c.read_words.result c.in-Ok-Replay.field-0 Replay c.in-Ok-Replay.is c.in-Ok-Replay.field-0-is)) is)
+
+pub returns-in-Ok-Replay-clause-drawn_recorded : goal.returns-in-Ok-Replay-clause-drawn_recorded
+returns-in-Ok-Replay-clause-drawn_recorded g c = λ number lines is. absurd (nothing_drawn _ number lines (draws_so (map string_bytes c.args.words.now) c.read_words.result c.read_words.ensures.command Replay (ok_same c.read_words.result c.in-Ok-Replay.field-0 Replay c.in-Ok-Replay.is c.in-Ok-Replay.field-0-is)) is)
+
 pub returns-in-Ok-Follow-clause-run : goal.returns-in-Ok-Follow-clause-run
 returns-in-Ok-Follow-clause-run g c = λ run. absurd ((follows (map string_bytes c.args.words.now) c.read_words.result c.read_words.ensures.command (ok_same c.read_words.result c.in-Ok-Follow.field-0 Follow c.in-Ok-Follow.is c.in-Ok-Follow.field-0-is)).1 run)
 
@@ -116,10 +147,6 @@ returns-in-Ok-Follow-clause-unopened g c = λ other plain. absurd (plain (follow
 
 pub returns-in-Ok-Follow-clause-unread : goal.returns-in-Ok-Follow-clause-unread
 returns-in-Ok-Follow-clause-unread g c = λ other plain. absurd (plain (follows (map string_bytes c.args.words.now) c.read_words.result c.read_words.ensures.command (ok_same c.read_words.result c.in-Ok-Follow.field-0 Follow c.in-Ok-Follow.is c.in-Ok-Follow.field-0-is)).0)
-
--- words that draw nothing
-nothing_drawn : (o : Option (ℕ × ℕ)) (n l : ℕ) → o ≡ None → o ≡ Some (n, l) → ⊥
-nothing_drawn o n l none some = let z : ◌≡◌ {A = Option (ℕ × ℕ)} None (Some (n, l)) = sym none ∙ some in cc
 
 pub returns-in-Ok-Run-clause-drawn : goal.returns-in-Ok-Run-clause-drawn
 returns-in-Ok-Run-clause-drawn g c = λ number lines is. absurd (nothing_drawn _ number lines (draws_so (map string_bytes c.args.words.now) c.read_words.result c.read_words.ensures.command (Run c.in-Ok-Run.workers) (ok_same c.read_words.result c.in-Ok-Run.field-0 (Run c.in-Ok-Run.workers) c.in-Ok-Run.is c.in-Ok-Run.field-0-is)) is)
@@ -193,3 +220,18 @@ returns-in-Ok-Gen-clause-drawn_recorded g c = λ number lines is.
     drawn_same _ c.in-Ok-Gen.number c.in-Ok-Gen.lines number lines (draws_so (map string_bytes c.args.words.now) c.read_words.result c.read_words.ensures.command (Gen c.in-Ok-Gen.workers c.in-Ok-Gen.number c.in-Ok-Gen.lines) (ok_same c.read_words.result c.in-Ok-Gen.field-0 (Gen c.in-Ok-Gen.workers c.in-Ok-Gen.number c.in-Ok-Gen.lines) c.in-Ok-Gen.is c.in-Ok-Gen.field-0-is)) is
     (λ n l. IsUnrecorded old new (drawn_bytes n l) (outcome_of c.gen_words.result) ⊎ IsRecorded old new (drawn_bytes n l) (outcome_of c.gen_words.result))
     c.gen_words.ensures.recorded
+
+pub returns-in-Ok-Run-clause-replayed : goal.returns-in-Ok-Run-clause-replayed
+returns-in-Ok-Run-clause-replayed g c = λ is. absurd (not_replay (map string_bytes c.args.words.now) c.read_words.result c.read_words.ensures.command (Run c.in-Ok-Run.workers) (ok_same c.read_words.result c.in-Ok-Run.field-0 (Run c.in-Ok-Run.workers) c.in-Ok-Run.is c.in-Ok-Run.field-0-is) refl is)
+
+pub returns-in-Ok-Gen-clause-replayed : goal.returns-in-Ok-Gen-clause-replayed
+returns-in-Ok-Gen-clause-replayed g c = λ is. absurd (not_replay (map string_bytes c.args.words.now) c.read_words.result c.read_words.ensures.command (Gen c.in-Ok-Gen.workers c.in-Ok-Gen.number c.in-Ok-Gen.lines) (ok_same c.read_words.result c.in-Ok-Gen.field-0 (Gen c.in-Ok-Gen.workers c.in-Ok-Gen.number c.in-Ok-Gen.lines) c.in-Ok-Gen.is c.in-Ok-Gen.field-0-is) refl is)
+
+pub returns-in-Ok-Ask-clause-replayed : goal.returns-in-Ok-Ask-clause-replayed
+returns-in-Ok-Ask-clause-replayed g c = λ is. absurd (not_replay (map string_bytes c.args.words.now) c.read_words.result c.read_words.ensures.command (Ask c.in-Ok-Ask.question) (ok_same c.read_words.result c.in-Ok-Ask.field-0 (Ask c.in-Ok-Ask.question) c.in-Ok-Ask.is c.in-Ok-Ask.field-0-is) refl is)
+
+pub returns-in-Ok-Follow-clause-replayed : goal.returns-in-Ok-Follow-clause-replayed
+returns-in-Ok-Follow-clause-replayed g c = λ is. absurd (not_replay (map string_bytes c.args.words.now) c.read_words.result c.read_words.ensures.command Follow (ok_same c.read_words.result c.in-Ok-Follow.field-0 Follow c.in-Ok-Follow.is c.in-Ok-Follow.field-0-is) refl is)
+
+pub returns-in-Err-clause-replayed : goal.returns-in-Err-clause-replayed
+returns-in-Err-clause-replayed g c = λ is. (g.S.Source.left c.args.source.now, λ tells. refl, inl c.answered-in-Err.ensures.nothing)

@@ -3,6 +3,7 @@ use Rattle.pass_trace.specs.TraceLines.{objects_of}
 use Rattle.pass_trace.specs.declared.trace.TraceLine.{TraceLine}
 use Rattle.pass_status.specs.declared.status.Status.{Status}
 use Rattle.pass_status.specs.declared.status.Status.TheVariants as status
+use Rattle.pass_run.specs.Orders.{HasReplayed}
 use Rattle.pass_run.specs.Stored.{HasBegun, IsHeldBack, IsOverStore}
 use Rattle.pass_run.proofs.Moved.{none_backed}
 use Rattle.pass_cli.specs.Answers.{IsRefusal, IsRefused, HasRun, outcome_of_run}
@@ -86,3 +87,18 @@ returns-in-Err-clause-stops g c = λ t known. c.in-Err.ensures.stops t (λ is. k
 
 pub returns-in-Err-clause-backed : goal.returns-in-Err-clause-backed
 returns-in-Err-clause-backed g c = none_backed c.unopened.result.history.items c.unopened.result.syncs.items c.unopened.ensures.history
+
+pub returns-in-Ok-clause-replayed : goal.returns-in-Ok-clause-replayed
+returns-in-Ok-clause-replayed g c = λ is.
+    let (bytes, told, (traced, same)) = c.in-Ok.ensures.read in
+    let r = c.run_trace.result in (
+      bytes,
+      told,
+      subst (λ (ls : List TraceLine). HasReplayed (g.D.Disk.view c.args.disk) ls r.list.items r.start r.history.items r.syncs.items r.status) same (c.run_trace.ensures.replayed is),
+    )
+
+pub returns-in-Err-clause-replayed : goal.returns-in-Err-clause-replayed
+returns-in-Err-clause-replayed g c = λ is.
+    let (bytes, told, refusal) = c.in-Err.ensures.read in
+    let e = c.unopened.ensures in
+    (bytes, told, inl (record { no_list = e.list; no_start = e.start; no_history = e.history; no_syncs = e.syncs }))

@@ -10,6 +10,6 @@ returns g c =
     let old = view c.args.first.value in
     let lines = c.args.trace.now.lines.items in
     let u = c.unopened.ensures in
-    refused_run view old lines c.unopened.result (record { no_list = u.list; no_start = u.start; no_history = u.history; no_syncs = u.syncs }, u.report) c.args.fault c.args.faults c.faults-now.result
+    refused_run view old lines c.args.order c.unopened.result (record { no_list = u.list; no_start = u.start; no_history = u.history; no_syncs = u.syncs }, u.report) c.args.fault c.args.faults c.faults-now.result
     c.requires.faults (c.faults-now.ensures ∙ ap (λ d. (view d).faults) (sym u.disk)) (u.status ∙ c.opening_status.ensures)
     (subst (λ d. HasRefused view old (objects_of lines) (c.args.fault, d)) (sym u.disk) c.requires.refused)

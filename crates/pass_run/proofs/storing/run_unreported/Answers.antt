@@ -7,6 +7,7 @@ use Rattle.pass_trace.specs.declared.trace.TraceLine.{TraceLine}
 use Rattle.pass_run.specs.Stored.{session_fault, IsStoreJudged, HasEnded}
 use Rattle.pass_run.proofs.Needed.{room}
 use Rattle.pass_run.proofs.Ruled.{few_lines, ruled}
+use Rattle.pass_run.specs.Orders.{HasReplayed}
 use Rattle.pass_run.proofs.storing.run_unreported.Goals as goal
 
 pub objects_of-objects-requires : goal.objects_of-objects-requires
@@ -48,3 +49,13 @@ returns-clause-ended g c =
     let e = c.not_opened.result in
     let (text, ended) = c.not_opened.ensures.ended in
     (text, λ end. subst (λ d. HasEnded (view d).calls (view d) (view e.disk) c.args.trace.now.lines.items e.list.items e.start e.history.items e.syncs.items e.status text) c.of-first.ensures (ended end))
+
+pub returns-in-Ok-open-clause-replayed : goal.returns-in-Ok-open-clause-replayed
+returns-in-Ok-open-clause-replayed g c = λ is.
+    let e = c.run_opened.result in
+    subst (λ d. HasReplayed (g.D.Disk.view d) c.args.trace.now.lines.items e.list.items e.start e.history.items e.syncs.items e.status) c.of-first.ensures (c.run_opened.ensures.replayed is)
+
+pub returns-clause-replayed : goal.returns-clause-replayed
+returns-clause-replayed g c = λ is.
+    let e = c.not_opened.result in
+    subst (λ d. HasReplayed (g.D.Disk.view d) c.args.trace.now.lines.items e.list.items e.start e.history.items e.syncs.items e.status) c.of-first.ensures (c.not_opened.ensures.replayed is)

@@ -1,4 +1,10 @@
 //! The calls that a store makes for a process, over the objects that it holds: each takes its memory first, then makes its entries.
+//!
+//! The clause `call` of each is the relation `Answers` of `pass_answer`. What a write or a cut needs that depends on file and
+//! process alone is made first, without the book: memory, and the records of the content (`ready_write`, `ready_cut`: `room`,
+//! `list`), and but for that room the file stays as it was (`same`). `creat`, `make_object` and `make_pipe` also say that the new
+//! object has the session's next number, which no object had (`made`). `close`, `close_pipe`, `seek`, `freeze`, `write_file` and
+//! `truncate` never answer for want of memory (`memory`). A held object stays the object that it was (`what`).
 #![tactic(auto)]
 
 mod closing;

@@ -1,7 +1,11 @@
 //! What files, pipes and app objects have in common, and app objects.
 //!
-//! [`enter_on`] makes an entry on an object that has versions: it moves the version by the entry, and brings the records of that. The
-//! acts that leave an object's content stand in [`acts`], once for all kinds of objects ([`Versioned`]).
+//! `enter_on` makes every entry on an object with versions: it marks, freezes and links as the definitions have it, and its records
+//! are exactly the entry's (`entered`, `object`, `node`). The acts that leave an object's content (freeze, the two sides of a
+//! disclosure, tag, the first step of a sync) are functions of the module `acts`, once for all kinds of objects: each makes its one
+//! entry, and answers its place and the object's node there (`entered`, `place`, `node`, `state`). What a kind of object gives for
+//! that is the trait `Versioned`: its number, its current version, room for a source, and how an entry is made that leaves its
+//! content. `AppDesk` is an app object under its lock.
 #![tactic(auto)]
 
 pub mod acts;

@@ -1,4 +1,6 @@
 //! Number fields, big-endian: taken off the front of bytes, and put at the end of a vector.
+//!
+//! A field that was written is read again, whatever bytes come behind it.
 #![tactic(auto)]
 
 mod cursor;

@@ -1,4 +1,8 @@
 //! The outside of the store: sources, sinks, a disk of two areas, gates, and forms of them in memory.
+//!
+//! The traits `Source`, `Sink` and `Disk` say which calls fail (exactly where a count of faults rose), what a read gives, and what
+//! a crash may leave, now and since each device call. `MemDisk` is proved against them, and `after_crash` is exactly the image that
+//! the changes so far and the way of keeping them give.
 #![tactic(auto)]
 
 mod areas;

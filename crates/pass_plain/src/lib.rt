@@ -1,4 +1,12 @@
 //! The plain definitions of a history, and their laws.
+//!
+//! `specs` is what a reader has to believe: legal histories, flows, versions, records, runs of a trace. Nothing in it knows locks,
+//! flags, caches or logs. `Outlines` says what of a start is known before its files' bytes are read.
+//!
+//! The module `laws` carries what follows from legality: an IN names an earlier OUT (`sources`); what an object's holder and a
+//! caller's holder have seen decides what may come next, and with which records (`two_prefixes`); ranges of sizes, offsets,
+//! descriptors, call numbers and pipes (`bounds`); how calls end (`ends`); what is made is new and what is used is there
+//! (`objects`); processes begin once (`processes`); how one object's version, mark and sources move (`lineages`).
 #![tactic(auto)]
 
 mod contents;

@@ -1,4 +1,8 @@
 //! Ranges of files on the store area, and the table of their digests.
+//!
+//! `Table::of` is the table of a list of records by its rows. `unmatched` lists exactly the ranges whose bytes on the device have
+//! another digest. `write_range` and `read_range` move one block's bytes; `read_matched` also compares them with a digest
+//! (`matched`). `Dirtied` says which act made a block dirty last. By `laws::dirty` the block's row comes from this very entry.
 #![tactic(auto)]
 
 mod fault;

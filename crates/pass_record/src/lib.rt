@@ -1,4 +1,8 @@
-//! The records of the log as bytes: each record has one spelling, and reading names the first fault.
+//! The records of the log as bytes.
+//!
+//! `encode` writes a record's one spelling. `decode` answers Ok exactly where a record begins the bytes, with its length, and else
+//! the first fault (`found`, `only`, `exact`). No spelling begins another spelling, and what was written is read again whatever
+//! comes behind (`laws`). An `encode` that is refused memory leaves the vector's bytes as they were.
 #![tactic(auto)]
 
 mod fault;

@@ -1,4 +1,8 @@
 //! Tasks that take turns, and workers that make passes over them.
+//!
+//! `run_all` makes one pass. Each task that was given or born is in the answer, in ascending order (`ascending`). Each given task
+//! with something left was turned until it waited, ended or failed (`pass`). The end is the first of its four that applies. Want of
+//! memory leaves the tasks as they were (`untouched`). In which order tasks take their turns is said by no clause.
 #![tactic(auto)]
 
 mod alone;

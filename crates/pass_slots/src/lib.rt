@@ -1,7 +1,7 @@
 //! What the threads of a store share, but for its disk: each object, the registry and the book in locks of their own.
 //!
-//! Whoever needs more than one lock takes them in this order: objects by ascending numbers, the registry, the vault (which stands in crates
-//! above), the book. The lock of the list of changed files comes last. Nobody who holds one of these two waits for another lock.
+//! Whoever needs more than one lock takes them in this order: objects by ascending numbers, the registry, the vault (which stands in
+//! crates above), the book, the list of changed files. Nobody who holds the book or that list waits for another lock.
 //!
 //! What lies in an object's lock is a `Slot`. `hold` and `object` give the lock of what is looked for, and what is looked for lies
 //! there (`Has`, `HasObject`); they would wait if it didn't. `two` takes the locks of two objects, the lower number first. `named`

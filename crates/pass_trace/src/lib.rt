@@ -1,4 +1,11 @@
 //! The text of a trace: which bytes are a trace, what it says, and how a trace is written.
+//!
+//! `parse` answers Ok exactly on the grammar, with that trace, and else the first faulty line and its first reason (`text`,
+//! `trace`, `fault`, `laws::text_or_one_fault`). What `print` writes is read again with the same processes and commands
+//! (`laws::written_is_read_again`). Lines whose fields are in their ranges, and that may follow each other, are the trace of what
+//! is written of them, up to 100,000; the lines of every trace are such lines (`laws::lines_that_follow`). A reader may stop where
+//! a text is seen to be too long: it misses no trace and no other fault (`laws::long_texts`). `objects_of` counts the objects that
+//! a trace makes, and no trace makes more than one session may (`laws::traces`).
 #![tactic(auto)]
 
 mod call;

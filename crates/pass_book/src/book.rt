@@ -222,14 +222,6 @@ impl Book {
         self.kept = greater(self.kept, upto);
     }
 
-    /// How many of the first entries have no records here any more, since these were shed.
-    pub fn kept_from(&self) -> u64
-        ensures kept { result ≡ self.now.kept }
-        ensures durable { self.now.kept ≤ durable self.now.syncs }
-    {
-        self.kept
-    }
-
     /// The records of the entries from a place on, in parts for the log: each part ends where an entry does, and none is larger
     /// than a part may be. None of them was shed.
     pub fn parts(&self, from: u64) -> Result<Vec<Vec<Record>>, AllocError>

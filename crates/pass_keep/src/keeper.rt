@@ -1,10 +1,10 @@
 //! The keeper of a session's records and bytes.
-use crate::append::{append_frames, stage_all};
+use crate::append::append_frames;
 use crate::begin::begin;
 use crate::block::write_blocks;
 use crate::fault::fault_of;
 use crate::{Block, KeepFault};
-use pass_entry::{Pnode, Record, Synced};
+use pass_entry::{Pnode, Synced};
 use pass_log::{Log, LogImage};
 use pass_outside::Disk;
 use pass_range::write_range;
@@ -23,8 +23,7 @@ pub struct Keeper<D> {
 }
 
 impl<D: Disk> Keeper<D> {
-    ghost use Rattle.std.specs.Prelude.{◌≡◌, ◌⊎◌, ◌+◌, ◌*◌, ◌<◌, ◌≤◌, ◌^◌, ◌++◌, ◌∷◌, [], ℕ, length, Bool, List, Vec, slice_get, Some, OnOk, OnErr, IsErrOf, Err, IsTrue, IfOk, IfErr};
-    ghost use Rattle.std.specs.List.{All};
+    ghost use Rattle.std.specs.Prelude.{◌≡◌, ◌⊎◌, ◌+◌, ◌*◌, ◌<◌, ◌≤◌, ◌^◌, ◌++◌, ◌∷◌, [], ℕ, length, List, Vec, slice_get, Some, OnOk, OnErr, Err, IsTrue, IfOk, IfErr};
     ghost use Rattle.std.specs.declared.alloc.Global.{Global as AnyGlobal};
     ghost use Rattle.pass_entry.specs.declared.record.Record.{Record as AnyRecord};
     ghost use Rattle.pass_entry.specs.declared.record.Record.TheVariants.{Ceiling};
@@ -33,14 +32,13 @@ impl<D: Disk> Keeper<D> {
     ghost use Rattle.pass_outside.specs.Moments.{IsAtEnd};
     ghost use Rattle.pass_log.specs.Log.{log_end, log_opened, IsSettled, IsFrameOf, LeavesStore};
     ghost use Rattle.pass_log.specs.LogImage.{IsRead};
-    ghost use Rattle.pass_log.specs.Records.{spellings};
-    ghost use Rattle.pass_keep.specs.Kept.{Story, IsStory, IsUnwritten, IsBegun, AreParts};
-    ghost use Rattle.pass_keep.specs.Dirty.{AreDirty, AreSized, IsAscending, Beside};
+    ghost use Rattle.pass_keep.specs.Kept.{Story, IsStory, IsUnwritten, IsBegun};
+    ghost use Rattle.pass_keep.specs.Dirty.{AreSized, IsAscending, Beside};
     ghost use Rattle.pass_entry.specs.Limits.{block_count};
     ghost use Rattle.pass_plain.specs.Records.{block_size};
     ghost use Rattle.pass_range.specs.Places.{place, Holds};
-    ghost use Rattle.pass_keep.specs.Parts.{lists_of, frames_length, bytes_length};
-    ghost use Rattle.pass_keep.specs.Keepers.{disk_of, log_of, durable_of, syncs_of, Past, with_sync, no_file, IsKeeper, HasSpare, TakesSpare, GoesOn, Made, Failed, KeptStill, KeptFlushed, KeptUnflushed, KeptSynced, KeptUnsynced, KeptClean};
+    ghost use Rattle.pass_keep.specs.Parts.{bytes_length};
+    ghost use Rattle.pass_keep.specs.Keepers.{disk_of, log_of, durable_of, syncs_of, IsKeeper, HasSpare, TakesSpare, GoesOn, Made, Failed, KeptStill, KeptFlushed, KeptUnflushed, KeptSynced, KeptUnsynced, KeptClean};
 
     /// Begins a session on a disk of which that log image was read, with nothing written since the session's start, and
     /// appends the session's ceiling as one frame. After a fault the disk is handed back.
@@ -250,65 +248,5 @@ impl<D: Disk> Keeper<D> {
         ensures spare { TakesSpare self.old self.new }
     {
         self.note()
-    }
-
-    /// Makes the entries up to this number durable: their records, in parts of whole entries, are appended to the log, one
-    /// frame for each part. The memory for it is taken before the first device call.
-    pub fn flush(
-        &mut self,
-        alloc: Global,
-        parts: &[Vec<Record>],
-        upto: u64,
-    ) -> Result<(), KeepFault>
-        ghost past: { Past }
-        requires keeper { IsKeeper D.view past self.old }
-        requires parts { AreParts past.story (durable_of self.old) upto (lists_of parts.now) }
-        requires within { upto ≤ length past.story.history }
-        requires in_range { All (λ part. All IsInRange part.items) parts.now }
-        requires size { All (λ part. length (spellings part.items) < 2 ^ 32) parts.now }
-        requires room { log_end (log_of self.old) + frames_length parts.now < 2 ^ 39 }
-
-        ensures kept { OnOk result (IsKeeper D.view (with_sync past (D.view (disk_of self.new)).calls upto no_file) self.new) }
-        ensures err { OnErr result (IsKeeper D.view past self.new) }
-        ensures durable { OnOk result (durable_of self.new ≡ upto) }
-        ensures durable_before { OnErr result (durable_of self.new ≡ durable_of self.old) }
-        // Exactly where the disk had a fault since the log was opened.
-        ensures broken { log_opened (log_of self.old) < (D.view (disk_of self.old)).faults
-            → (result ≡ Err (KeepFault.Broken (log_opened (log_of self.old)) (D.view (disk_of self.old)).faults)) × (self.new ≡ self.old) }
-        ensures only_broken { (opened now : ℕ) → IsErrOf result (KeepFault.Broken opened now) → log_opened (log_of self.old) < (D.view (disk_of self.old)).faults }
-        ensures failed { (opened now : ℕ) → IsErrOf result (KeepFault.DiskFault opened now) → Failed (log_opened (log_of self.old)) (D.view (disk_of self.old)) (D.view (disk_of self.new)) (KeepFault.DiskFault opened now) }
-        ensures no_memory { IsErrOf result KeepFault.NoMemory → disk_of self.new ≡ disk_of self.old }
-        ensures made { OnOk result (Made (4 * length parts.now) (D.view (disk_of self.old)) (D.view (disk_of self.new))) }
-        ensures opened { log_opened (log_of self.new) ≡ log_opened (log_of self.old) }
-        ensures place { log_end (log_of self.new) ≤ log_end (log_of self.old) + frames_length parts.now }
-        ensures goes_on { GoesOn (D.view (disk_of self.old)) (D.view (disk_of self.new)) }
-    {
-        self.ready(1)?;
-        let frames = stage_all(alloc, parts)?;
-        self.append(&frames, upto)?;
-        Ok(())
-    }
-
-    /// Writes dirty blocks, with the bytes that they have after the durable entries, and syncs the store area once.
-    pub fn sync_blocks(&mut self, blocks: &[Block<'_>]) -> Result<(), KeepFault>
-        requires dirty { (past : Past) × (files : ℕ → Bool) × IsKeeper D.view past self.old × AreDirty past.story past.noted (durable_of self.old) files blocks.now }
-        requires ascending { IsAscending blocks.now }
-
-        ensures kept { OnOk result (KeptSynced D.view blocks.now self.old self.new) }
-        ensures err { OnErr result (KeptUnsynced D.view blocks.now self.old self.new) }
-        ensures durable { durable_of self.new ≡ durable_of self.old }
-        ensures log { log_of self.new ≡ log_of self.old }
-        // Exactly where the disk had a fault since the log was opened.
-        ensures broken { log_opened (log_of self.old) < (D.view (disk_of self.old)).faults
-            → (result ≡ Err (KeepFault.Broken (log_opened (log_of self.old)) (D.view (disk_of self.old)).faults)) × (self.new ≡ self.old) }
-        ensures only_broken { (opened now : ℕ) → IsErrOf result (KeepFault.Broken opened now) → log_opened (log_of self.old) < (D.view (disk_of self.old)).faults }
-        ensures failed { (opened now : ℕ) → IsErrOf result (KeepFault.DiskFault opened now) → Failed (log_opened (log_of self.old)) (D.view (disk_of self.old)) (D.view (disk_of self.new)) (KeepFault.DiskFault opened now) }
-        ensures no_memory { IsErrOf result KeepFault.NoMemory → disk_of self.new ≡ disk_of self.old }
-        ensures made { OnOk result (Made (length blocks.now + 1) (D.view (disk_of self.old)) (D.view (disk_of self.new))) }
-        ensures goes_on { GoesOn (D.view (disk_of self.old)) (D.view (disk_of self.new)) }
-    {
-        self.ready(1)?;
-        self.write(blocks)?;
-        Ok(())
     }
 }

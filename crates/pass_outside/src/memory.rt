@@ -77,7 +77,7 @@ impl MemDisk {
         MemDisk::begin(alloc, areas, Plan::new(Vec::new(alloc), None))
     }
 
-    /// What a read of the log area gives.
+    /// What a read of the log area gives. No program here makes this call.
     pub fn log_bytes(&self) -> Result<Vec<u8>, AllocError>
         ensures { IfOk result (λ v. v.items ≡ (memory_view self.now).seen.log) }
     {

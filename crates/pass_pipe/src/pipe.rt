@@ -76,7 +76,8 @@ impl PipeState {
         Ok(())
     }
 
-    /// Moves the oldest bytes to the front of the slice, as many as it holds and there are, and returns their number.
+    /// Moves the oldest bytes to the front of the slice, as many as it holds and there are, and returns their number. No
+    /// program here makes this call: a read is lent the bytes.
     pub fn take_into(&mut self, into: &mut [u8]) -> Result<usize, PipeEnd>
         ensures answer { reply_to_take result into.new ≡ taken self.old (length into.old) }
         ensures count { IfOk result (λ count. count ≡ min (length into.old) (length self.old.bytes)) }

@@ -105,7 +105,7 @@ impl Pool {
         self.cache.pop(&FileBlock { number, block })
     }
 
-    /// Takes the last block out: the one that was staged longest ago.
+    /// Takes the last block out: the one that was staged longest ago. No program here makes this call.
     pub fn take_last(&mut self) -> Option<Evicted>
         ensures block { result ≡ option_map evicted_of (last_entry self.old.entries) }
         ensures pairs { self.new ≡ lru_cache (take (length self.old.entries - 1) self.old.entries) self.old.cap }

@@ -31,7 +31,7 @@ pub fn range_len(size: u64, block: u32) -> usize
     size.min(begin + BLOCK_SIZE).saturating_sub(begin) as usize
 }
 
-/// The digests of these blocks of a file's content, each one that of its range (RFC 1321).
+/// The digests of these blocks of a file's content, each one that of its range (RFC 1321). No program here makes this call.
 pub fn digests_of(
     alloc: Global,
     content: &[u8],

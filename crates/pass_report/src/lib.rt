@@ -2,9 +2,8 @@
 //!
 //! `report` of a run's history is, byte for byte, the report that the definitions give (`Reports`): each answered call with its
 //! nodes, the edges of the history's records, the objects with their last versions, who waits, and the counts. It keeps one
-//! `Versions` per object and compares nothing with the slow reference; the clause does. `recorded` gives exactly the records of a
-//! legal history and the content of each file that it changes. For a report a history has to be legal in a session with that start,
-//! and no more.
+//! `Versions` per object and compares nothing with the slow reference; the clause does. For a report a history has to be legal in a
+//! session with that start, and no more.
 #![tactic(auto)]
 
 mod blocks;
@@ -17,10 +16,8 @@ mod names;
 mod opening;
 mod processes;
 mod recorder;
-mod recording;
 mod reporting;
 mod standing;
 mod trail;
 
-pub use recording::recorded;
 pub use reporting::report;

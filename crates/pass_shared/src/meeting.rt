@@ -10,7 +10,8 @@ use pass_proc::{Proc, Trail};
 use pass_slots::Locks;
 use std::sync::Wait;
 
-/// Two processes see one history, which begins with what each had seen. It takes no memory.
+/// Two processes see one history, which begins with what each had seen. It takes no memory. No program
+/// here makes this call: a run's tasks meet what a process that works no more had seen, by `meet_ended`.
 pub fn meet<R: Wait, J: Whose, G: Gate>(
     locks: &Locks<'_, J, G>,
     rt: &R,

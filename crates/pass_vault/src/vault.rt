@@ -53,7 +53,7 @@ impl<D: Disk> Model for Vault<D> {
 }
 
 impl<D: Disk> Vault<D> {
-    ghost use Rattle.std.specs.Prelude.{◌≡◌, ◌⊎◌, ◌↔◌, ◌+◌, ◌*◌, ◌<◌, ◌≤◌, ◌^◌, ◌++◌, ◌∷◌, [], ℕ, List, length, take, map, slice_get, true, false, Some, IsTrue, OnOk, IfOk, IfErr, IsErrOf, Ok, Err};
+    ghost use Rattle.std.specs.Prelude.{◌≡◌, ◌⊎◌, ◌↔◌, ◌+◌, ◌*◌, ◌<◌, ◌≤◌, ◌^◌, ◌++◌, ◌∷◌, [], ℕ, List, length, take, map, true, false, IsTrue, OnOk, IfOk, IfErr, IsErrOf, Ok, Err};
     ghost use Rattle.std.specs.List.{All};
     ghost use Rattle.lru.specs.LruCache.{lru_cache};
     ghost use Rattle.pass_entry.specs.declared.record.Record.TheVariants.{Ceiling};
@@ -74,8 +74,6 @@ impl<D: Disk> Vault<D> {
     ghost use Rattle.pass_keep.specs.Kept.{IsBegun, AreParts, records_to};
     ghost use Rattle.pass_keep.specs.Keepers.{GoesOn, Made};
     ghost use Rattle.pass_keep.specs.Parts.{lists_of, frames_length};
-    ghost use Rattle.pass_entry.specs.Limits.{block_count};
-    ghost use Rattle.pass_pool.specs.declared.pool.FileBlock.{FileBlock};
     ghost use Rattle.pass_vault.specs.Vaulted.{story_of, story_with, flushed, file_synced, file_staged, real_syncs, HasWaiting};
     ghost use Rattle.pass_vault.specs.Pooled.{pool_capacity, to_write, without_file, staged_all, pushed_all, sync_calls};
     ghost use Rattle.pass_clean.specs.Blocks.{AreDirty, IsRisingBy};
@@ -165,14 +163,6 @@ impl<D: Disk> Vault<D> {
     {
         let _seen = self.seat.seen();
         self.keeper.durable()
-    }
-
-    /// What waits in memory is of files that the vault knows, and lies within their blocks. It does nothing.
-    pub fn pooled(&self)
-        ensures { (i : ℕ) (p : FileBlock × List ℕ) → slice_get self.now.pool.entries i ≡ Some p
-            → (p.0.block < block_count) × ((file : ℕ) × IsFileNumber self.now.book.session self.now.seen file p.0.number) }
-    {
-        let _seen = self.seat.seen();
     }
 
     /// What the last sync came to. A staging is none.

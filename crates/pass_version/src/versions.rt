@@ -60,7 +60,7 @@ impl Versions {
         self.node
     }
 
-    /// Whether the current version was used as a source.
+    /// Whether the current version was used as a source. No program here makes this call.
     pub fn is_marked(&self) -> bool
         ensures { result ≡ self.now.lineage.marked }
     {

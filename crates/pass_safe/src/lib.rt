@@ -1,12 +1,5 @@
 //! The vault under its lock, and the steps of a sync.
 //!
-//! The lock of the vault keeps a [`Safe`]: the vault of a session, until a device call fails. A sync of a file is `keep` in one hold of the book,
-//! `Safe::save_file` with the vault locked, and `kept` in another hold of the book; while the disk is at work the book is free. A pipe or an app
-//! object has `Safe::save_history` and `kept_entries`. Where the first entry is durable by then nothing is copied.
-//!
-//! A store is settled by `Safe::settle_history`, and then file by file by `Safe::settle_file`; `Safe::stage_file` lets changed blocks wait in the
-//! vault. [`finish`] settles all of it at the end of a session, with no lock.
-//!
 //! The lock of the vault keeps a `Safe`: the vault of a session, until a device call fails. After that it is not asked again, and
 //! each call answers the counts of that fault (`lost`, `since`). What the vault was opened with is part of its invariant, by a type
 //! that names the opening (`Opening`, `Ground`). While no call has failed all that the vault has seen is durable (`durable`:

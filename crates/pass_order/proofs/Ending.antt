@@ -7,6 +7,7 @@ use Rattle.pass_entry.proofs.Places.{Contains-place}
 use Rattle.pass_plain.specs.Sessions.{Session}
 use Rattle.pass_plain.specs.Traces.{Line}
 use Rattle.pass_plain.proofs.Lists.{some_is}
+use Rattle.pass_book.proofs.Prefixes.{prefix_shorter, prefix_whole}
 use Rattle.pass_replay.specs.Members.{Waits}
 use Rattle.pass_replay.specs.Tries.{Try}
 use Rattle.pass_walk.specs.declared.ends.Cause.{Cause}
@@ -22,7 +23,6 @@ use Rattle.pass_order.specs.declared.standing.Standing.{Standing}
 use Rattle.pass_order.specs.Queues.{AreAllStill, HasLeft, IsGoing, IsPlayed, IsQueue, IsSet, IsStopped, lives_at, standing_at}
 use Rattle.pass_order.proofs.Meeting.{living_is}
 use Rattle.pass_order.proofs.Placing.{living_there, some_at}
-use Rattle.pass_order.proofs.Prefixes.{prefix_one}
 use Rattle.pass_order.proofs.Turned.{going_is}
 
 pub stopped_of : {J : Type 0} (session : Session) (places : ℕ) (trace : List Line) (ws : List (Walker J)) (due late : List Standing) (last : ℕ) (upto : List Entry) (tries : List Try) → IsQueue session trace ws due late last upto tries
@@ -76,7 +76,9 @@ module _ {J : Type 0} (session : Session) (places : ℕ) (trace : List Line) (qu
         let (k, at_k) = Contains-place queue.late.items s there in
         let size : length late.waited.tried.after ≡ length l.proc.seen = late.counted ∙ still.tried k s at_k ∙ sym ((still.each i (walker.Living l) at).living refl) in
         let seen : late.waited.tried.after ≡ l.proc.seen =
-        prefix_one late.waited.tried.after l.proc.seen set.upto (set.queued.tried.each late.waited.place late.waited.tried late.waited.stands).1 (set.queued.tried.behind i (walker.Living l) at) size in
+        prefix_whole late.waited.tried.after l.proc.seen
+        (prefix_shorter late.waited.tried.after l.proc.seen set.upto (set.queued.tried.each late.waited.place late.waited.tried late.waited.stands).1 (set.queued.tried.behind i (walker.Living l) at) (omega (arith, size)))
+        (omega (arith, size)) in
         subst (λ h. Waits session trace (record { process = l.process; who = l.proc.who; seen = h; ended = false })) seen
         (subst (λ (k : Living J). Waits session trace (record { process = k.process; who = k.proc.who; seen = late.waited.tried.after; ended = false })) (sym one) late.waited.waits)
 

@@ -13,6 +13,8 @@ use Rattle.pass_plain.specs.Sessions.{Session}
 use Rattle.pass_plain.specs.Traces.{Line}
 use Rattle.pass_plain.proofs.Lists.{below_or, is_place, some_is}
 use Rattle.pass_plain.proofs.TwoPrefixes.{SameCaller, caller_agrees, none_later}
+use Rattle.pass_book.proofs.Prefixes.{prefix_self, prefix_trans}
+use Rattle.pass_hold.proofs.Goings.{number_same}
 use Rattle.pass_replay.specs.Tries.{Try}
 use Rattle.pass_walk.specs.declared.walker.Ended.{Ended as EndedProcess}
 use Rattle.pass_walk.specs.declared.walker.Living.{Living}
@@ -24,7 +26,7 @@ use Rattle.pass_walk.specs.Walkers.{IsLivingOf, left_of, member_of}
 use Rattle.pass_walk.proofs.Linked.{set_other}
 use Rattle.pass_walk.proofs.Meetings.{seen_more}
 use Rattle.pass_order.specs.Queues.{AreTold, AreTriesBy, AreWalkers, HasJoined, HasWalker, IsBirthIn, IsGoing, count_living}
-use Rattle.pass_order.proofs.Prefixes.{agree_between, next_same, own_early, prefix_self, prefix_twice}
+use Rattle.pass_order.proofs.Prefixes.{agree_between, own_early}
 
 pub living_is : {J : Type 0} (l k : Living J) → ◌≡◌ {A = Walker J} (walker.Living l) (walker.Living k) → l ≡ k
 living_is l k e = cc
@@ -71,7 +73,7 @@ module _ {J : Type 0} (session : Session) (trace : List Line) where
               refl,
               on.process ∙ ap (λ (l : Living J). l.process) one,
               on.who ∙ ap (λ (l : Living J). l.proc.who) one,
-              ap (λ w. next_number m.proc.seen w) on.who ∙ next_same l.proc.seen m.proc.seen l.proc.who same ∙ ap (λ (l : Living J). next_number l.proc.seen l.proc.who) one,
+              ap (λ w. next_number m.proc.seen w) on.who ∙ number_same l.proc.seen m.proc.seen l.proc.who same ∙ ap (λ (l : Living J). next_number l.proc.seen l.proc.who) one,
               subst (λ (l : Living J). IsPrefix l.proc.seen m.proc.seen) one on.looked.begins,
             );
         left = (λ i. left_at trace (on.process i) (on.line i));
@@ -119,7 +121,7 @@ module _ {J : Type 0} (session : Session) (trace : List Line) (ws vs : List (Wal
   tries_met upto now tries are begins legal behind = record {
     legal = legal;
     behind = behind;
-    each = λ i t at. let (began, seen) = are.each i t at in (began, prefix_twice t.after upto now seen begins);
+    each = λ i t at. let (began, seen) = are.each i t at in (began, prefix_trans t.after upto now seen begins);
     chain = are.chain;
     own = λ i v at n e at_n by.
         let (w, at_w, m) = more.from i v at in
@@ -247,6 +249,6 @@ module _ {J : Type 0} (session : Session) (trace : List Line) (ws : List (Walker
           | inl same ↦ absurd (there.0 (its.0 ∙ same.0))
           | inr other ↦ subst (λ (v : Walker J). IsPrefix (member_of v).seen m.proc.seen) its.1 (subst (λ h. IsPrefix h m.proc.seen) (sym other.2) (prefix_self m.proc.seen))
         ]
-        | inr rest ↦ prefix_twice (member_of v).seen upto m.proc.seen (behind i v (sym (set_other ws p i walker.Gone there.0) ∙ rest.1)) upto_seen
+        | inr rest ↦ prefix_trans (member_of v).seen upto m.proc.seen (behind i v (sym (set_other ws p i walker.Gone there.0) ∙ rest.1)) upto_seen
       ]
     ]

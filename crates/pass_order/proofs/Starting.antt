@@ -10,6 +10,7 @@ use Rattle.pass_plain.specs.Sessions.{Session}
 use Rattle.pass_plain.specs.Traces.{Line, lines_of}
 use Rattle.pass_plain.proofs.Lists.{some_is}
 use Rattle.pass_plain.proofs.OtherCalls.{last_none}
+use Rattle.pass_book.proofs.Prefixes.{prefix_self}
 use Rattle.pass_replay.specs.Lines.{IsLineAt}
 use Rattle.pass_walk.specs.declared.walker.Living.{Living}
 use Rattle.pass_walk.specs.declared.walker.Walker.{Walker}
@@ -19,7 +20,6 @@ use Rattle.pass_order.specs.declared.standing.Standing.{Standing}
 use Rattle.pass_order.specs.Queues.{AreTriesBy, IsGoing, IsQueue, IsRanked, lives_at, standing_at}
 use Rattle.pass_order.specs.Ranks.{IsRank, rank_of}
 use Rattle.pass_order.proofs.Placing.{at_cons, at_permuted, contains_nil, contains_only}
-use Rattle.pass_order.proofs.Prefixes.{prefix_self}
 
 only_one : {X : Type 0} (x y : X) (i : ℕ) → slice_get (x ∷ []) i ≡ Some y → (i ≡ 0) × (x ≡ y)
 only_one x y zero at = (refl, some_is x y at)

@@ -15,6 +15,8 @@ use Rattle.pass_plain.specs.Sessions.{Session}
 use Rattle.pass_plain.specs.Traces.{Line, calls_of, lines_of}
 use Rattle.pass_plain.proofs.Appends.{slice_get-append}
 use Rattle.pass_plain.proofs.Lists.{below_or, is_place, slice_get-front, some_is}
+use Rattle.pass_book.proofs.Prefixes.{prefix_length, prefix_self, prefix_trans}
+use Rattle.pass_hold.proofs.Goings.{number_same}
 use Rattle.pass_replay.specs.Lines.{AreLinesBehind}
 use Rattle.pass_replay.specs.Members.{AreMembers, HasChildren, HasMember, MakesSteps, Member, Waits}
 use Rattle.pass_replay.specs.Orders.{Place, places_in_order}
@@ -39,7 +41,7 @@ use Rattle.pass_walk.proofs.Walks.{some_seen}
 use Rattle.pass_order.specs.Queues.{AreTold, AreTriesBy, AreWalkers, HasWalker, IsBirthIn, IsGoing, kid_walkers}
 use Rattle.pass_order.specs.Ranks.{IsRank}
 use Rattle.pass_order.proofs.Meeting.{length_set, of_set}
-use Rattle.pass_order.proofs.Prefixes.{agree_between, next_least, next_same, prefix_length, prefix_self, prefix_twice}
+use Rattle.pass_order.proofs.Prefixes.{agree_between, next_least}
 use Rattle.pass_order.proofs.TextRanks.{ranks_rise, within_calls}
 
 -- The members of the run
@@ -269,7 +271,7 @@ module _ {J : Type 0} (session : Session) (places : ℕ) (trace : List Line) (or
     by_walker told behind room j k c at_t at_c less i (walker.Living l) at_x process number =
         let ran = has_run session places trace ws (λ i w at_w. going_is session places trace w (goes i w at_w)) run m.proc.seen ordered room living.legal behind told in
         let among = Contains-at (members_of ws) i (member_of (walker.Living l)) (map_get (λ w. member_of w) ws i (walker.Living l) at_x) in
-        let next = next_same l.proc.seen m.proc.seen l.proc.who (same session trace (members_of ws) m.proc.seen ran (member_of (walker.Living l)) among) in
+        let next = number_same l.proc.seen m.proc.seen l.proc.who (same session trace (members_of ws) m.proc.seen ran (member_of (walker.Living l)) among) in
         let c_is : ◌≡◌ {A = Place} (l.process, next_number l.proc.seen l.proc.who) c = (λ i. (process i, (sym next ∙ number) i)) in
         let lower : (r : ℕ) → IsRank trace (l.process, next_number l.proc.seen l.proc.who) r → r < rank =
         (λ r is. ranks_rise trace ordered j k c (m.process, number_of attempt) r rank less at_c at_t (subst (λ (c : Place). IsRank trace c r) c_is is) its_rank) in
@@ -313,7 +315,7 @@ module _ {J : Type 0} (session : Session) (places : ℕ) (trace : List Line) (or
       behind = λ i x at_x. elim (of_settled ws p w.walker w.kid i x at_x) [
         | inl here ↦ subst (λ (x : Walker J). IsPrefix (member_of x).seen (member_of w.walker).seen) here.1 (prefix_self (member_of w.walker).seen)
         | inr rest ↦ elim rest [
-          | inl other ↦ prefix_twice (member_of x).seen m.proc.seen (member_of w.walker).seen (are.behind i x other.1) went.begins
+          | inl other ↦ prefix_trans (member_of x).seen m.proc.seen (member_of w.walker).seen (are.behind i x other.1) went.begins
           | inr new ↦
               let (k, is, x_is, place) = new in
               subst (λ (x : Walker J). IsPrefix (member_of x).seen (member_of w.walker).seen) x_is
@@ -321,7 +323,7 @@ module _ {J : Type 0} (session : Session) (places : ℕ) (trace : List Line) (or
         ]
       ];
       each = λ i t at_t. elim (of_tries i t at_t) [
-        | inl old ↦ let (began, seen) = are.each i t old in (began, prefix_twice t.after m.proc.seen (member_of w.walker).seen seen went.begins)
+        | inl old ↦ let (began, seen) = are.each i t old in (began, prefix_trans t.after m.proc.seen (member_of w.walker).seen seen went.begins)
         | inr new ↦
             subst (λ (t : Try). IsTry session trace t × IsPrefix t.after (member_of w.walker).seen) new.1 (record { begun = living.right; more = went.begins }, prefix_self (member_of w.walker).seen)
       ];

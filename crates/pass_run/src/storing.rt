@@ -96,8 +96,9 @@ fn with_report<D: Disk>(
 ///
 /// The store is opened for as many objects and entries as the trace may make, and its ceiling raised by them. Then the calls are made, until
 /// each process has made its exit or none can go on: in the order of the lines on the caller's thread, or in passes, in which so many worker
-/// threads take the turns of the processes. With one worker they take them on the caller's thread, in ascending order of the processes. A `sync` makes what stands before it durable. At the end every entry and every
-/// changed block is made durable, whatever the processes came to.
+/// threads take the turns of the processes. One worker is the caller's thread and takes the turns in ascending order of the processes. A
+/// `sync` makes what stands before it durable. At the end every entry and every changed block is made durable, whatever the processes came
+/// to.
 ///
 /// No report is made. The memory of the run itself is taken before its first entry. Each call takes its own, and one that is refused ends the run.
 pub fn run_unreported<R: Threads + Wait + Sync, D: Disk + Send, G: Gate + Sync>(

@@ -1,8 +1,8 @@
 -- How the frames of a log are judged one after another.
-use Rattle.std.proofs.Common.{◌≡◌, ◌⊎◌, ℕ, ◌+◌, ◌<◌, ◌≤◌, ◌^◌, Bool, true, false, List, [], ◌∷◌, ◌++◌, length, take, drop, replicate, get_or, Ok, inl, inr, refl, sym, ◌∙◌, ap, subst, arith, append_assoc, length-append}
-use Rattle.std.specs.Prelude.{None, IsTrue}
+use Rattle.std.proofs.Common.{◌≡◌, ◌⊎◌, ℕ, ◌+◌, ◌<◌, ◌≤◌, ◌^◌, true, List, [], ◌∷◌, ◌++◌, length, take, drop, replicate, get_or, Ok, inl, inr, refl, sym, ◌∙◌, ap, subst, arith, append_assoc, length-append}
+use Rattle.std.specs.Prelude.{None}
 use Rattle.std.specs.Int.{w32, to_be_bytes}
-use Rattle.std.proofs.lemmas.List.{length-replicate, take_at, drop_at}
+use Rattle.std.proofs.lemmas.List.{take_at, drop_at}
 use Rattle.pass_entry.specs.declared.record.Record.{Record}
 use Rattle.pass_graph.specs.declared.logged.Logged.{Logged}
 use Rattle.pass_graph.specs.Logged.{Summarizes}
@@ -118,8 +118,3 @@ walking_done bytes [] place list judge w shut some fits = absurd (omega (arith, 
 walking_done bytes (gate ∷ tail) place list judge w shut some fits =
     ap image_in (image_scan bytes some fits ∙ scan_rests w.frames place bytes (record { front = w.front; gate = gate; tail = tail; is = w.is; shut = shut; passes = w.passes; place = w.size }))
     ∙ ap (held place) w.read
-
--- an area that is too long, told or not
-pub long_log : (tells : Bool) (log : List ℕ) (size : ℕ) → (IsTrue tells → size ≡ length log) → longest < size → (bytes : List ℕ) × (IsTrue tells → bytes ≡ log) × (longest < length bytes)
-long_log true log size is long = (log, λ _. refl, omega (arith, is refl, long))
-long_log false log size is long = (replicate size 0, λ told. absurd (cc told), omega (arith, length-replicate {A = ℕ} size 0, long))

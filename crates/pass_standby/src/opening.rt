@@ -1,10 +1,9 @@
 //! The opening of a standby: its own log is read, frame after frame.
-ghost use Rattle.std.specs.Prelude.{◌≡◌, ◌⊎◌, ◌+◌, ◌<◌, ◌≤◌, ◌^◌, ◌++◌, ◌∷◌, ℕ, length, take, drop, true, IsTrue, OnOk, IfOk, IfErr, IfSome, IfNone, IsErrOf};
+ghost use Rattle.std.specs.Prelude.{◌≡◌, ◌⊎◌, ◌+◌, ◌<◌, ◌≤◌, ◌^◌, ◌++◌, ◌∷◌, ℕ, length, true, IsTrue, OnOk, IfOk, IfErr, IfSome, IfNone, IsErrOf};
 ghost use Rattle.std.specs.Int.{w32, to_be_bytes};
-ghost use Rattle.pass_graph.specs.Logged.{Summarizes};
 ghost use Rattle.pass_log.specs.Log.{log_end, LeavesStore};
 ghost use Rattle.pass_outside.specs.Areas.{Image};
-ghost use Rattle.pass_outside.specs.Moments.{IsAtEnd, Adds, IsDeviceWork};
+ghost use Rattle.pass_outside.specs.Moments.{Adds, IsDeviceWork};
 ghost use Rattle.pass_plain.specs.WellLogged.{IsWellLogged};
 ghost use Rattle.pass_standby.specs.Logs.{HasBadFrame, HoldsStill, IsBroken, IsFound, IsFoundOn, IsGoodLog, IsLeftUnread, IsUnopened};
 ghost use Rattle.pass_standby.specs.Standing.{log_to, IsKept, Reads};
@@ -15,54 +14,17 @@ use crate::batch::{BatchFault, read_batch};
 use crate::frame::{HEAD, OPEN};
 use pass_entry::Record;
 use pass_graph::{Logged, read};
-use pass_log::{Log, LogImage};
+use pass_log::{Log, LogFault, LogImage};
 use pass_num::Cursor;
 use pass_outside::{Area, Disk};
 use pass_waldo::Index;
 use std::alloc::{AllocError, Global};
-
-// The greatest length of a log area, in bytes.
-const LONGEST: u64 = 1 << 39;
-
-// How many bytes one device call reads.
-const PIECE: usize = 65_536;
 
 /// What a log holds, with tables of what its records say.
 #[derive(Drop)]
 pub(crate) struct Found {
     pub(crate) image: LogImage,
     pub(crate) judge: Logged,
-}
-
-// A buffer of that many bytes.
-fn buffer(alloc: Global, size: usize) -> Result<Vec<u8>, AllocError>
-    ensures { IfOk result (λ v. length v.items ≡ size) }
-{
-    vec![in alloc; 0; size]
-}
-
-// The bytes of the log area, which has that length.
-fn read_area<D: Disk>(alloc: Global, disk: &mut D, size: usize) -> Result<Vec<u8>, StandbyFault>
-    requires { size ≤ 2 ^ 39 }
-    ensures bytes { IfOk result (λ v. IsTrue (D.view disk.old).tells → size ≡ length (D.view disk.old).seen.log → v.items ≡ (D.view disk.old).seen.log) }
-    ensures length { IfOk result (λ v. length v.items ≤ size) }
-    ensures fault { IfErr result (λ e. (e ≡ StandbyFault.DiskFault) ⊎ (e ≡ StandbyFault.NoMemory)) }
-    ensures work { IsDeviceWork (D.view disk.old) (D.view disk.new) (IsErrOf result StandbyFault.DiskFault) }
-    ensures content { (D.view disk.new).seen ≡ (D.view disk.old).seen }
-    ensures crash { (c : Image) → (D.view disk.new).may_leave c → (D.view disk.old).may_leave c }
-    ensures run { Adds (D.view disk.old) (D.view disk.new) (D.view disk.old).may_leave }
-{
-    let mut bytes = Vec::new(alloc);
-    let mut piece = buffer(alloc, PIECE)?;
-    'pieces: while bytes.len() < size {
-        let count = disk.read(Area::Log, bytes.len() as u64, &mut piece)?;
-        if count == 0 {
-            return Ok(bytes);
-        }
-        bytes.extend_from_slice(&piece[..count])?;
-    }
-    bytes.truncate(size);
-    Ok(bytes)
 }
 
 /// The frame behind an open gate at the front, and what follows it, which isn't empty.
@@ -159,11 +121,12 @@ pub(crate) fn read_bytes<D: Disk>(alloc: Global, disk: &mut D) -> Result<Vec<u8>
     ensures crash { (c : Image) → (D.view disk.new).may_leave c → (D.view disk.old).may_leave c }
     ensures run { Adds (D.view disk.old) (D.view disk.new) (D.view disk.old).may_leave }
 {
-    let size = disk.len(Area::Log)?;
-    if size > LONGEST {
-        return Err(StandbyFault::BadLog { at: LONGEST });
+    match pass_log::read_bytes(alloc, disk) {
+        Ok(bytes) => Ok(bytes),
+        Err(LogFault::BadFrame { at }) => Err(StandbyFault::BadLog { at }),
+        Err(LogFault::NoMemory) => Err(StandbyFault::NoMemory),
+        Err(_) => Err(StandbyFault::DiskFault),
     }
-    read_area(alloc, disk, size as usize)
 }
 
 // What the log area holds.

@@ -5,6 +5,7 @@ pub mod LeftPipe
 pub mod Nodes
 pub mod PipeReads
 pub mod PipeWrites
+pub mod Readiness
 pub mod Reserved
 pub mod Runs
 pub mod Shown

@@ -1,6 +1,6 @@
 -- The steps of a read of a pipe.
 use Rattle.std.proofs.Common.{◌≡◌, ℕ, ◌+◌, ◌-◌, ◌<◌, ◌≤◌, List, [], ◌∷◌, ◌++◌, length, ap, sym, ◌∙◌, subst, refl, arith, Bool, true, ◌&&◌, append_assoc}
-use Rattle.std.specs.Prelude.{Option, Some, None, slice_get, nat_le, if◌then◌else◌}
+use Rattle.std.specs.Prelude.{◌≢◌, Option, Some, None, Err, slice_get, nat_le, if◌then◌else◌}
 use Rattle.std.specs.Option.{option_map_or}
 use Rattle.std.specs.FinMap as finite_map
 use Rattle.std.proofs.lemmas.Bool.Decides.{nat_tests}
@@ -33,11 +33,14 @@ use Rattle.pass_proc.specs.Acts.{own_entry}
 use Rattle.pass_proc.specs.Procs.{ProcView}
 use Rattle.pass_proc.proofs.Steps.{begun, low_fd, node_stays}
 use Rattle.pass_answer.specs.Answers.{HasMoved, HasWaited}
+use Rattle.pass_answer.specs.declared.answer.CallEnd.{CallEnd}
 use Rattle.pass_answer.specs.declared.answer.Moved.TheVariants as moved
 use Rattle.pass_answer.proofs.Naming.{at_descriptor, pipe_no_file, read_at}
 use Rattle.pass_answer.proofs.ObjectSteps.{place_is}
 use Rattle.pass_answer.proofs.Waiting.{waits}
 use Rattle.pass_answer.proofs.Steps.{not_refused, step_at, next_allows, next_keeps, gone_by, gone_own}
+use Rattle.pass_calls.specs.Ready.{IsReadyIfFull}
+use Rattle.pass_calls.proofs.Readiness.{ready_at}
 
 module _ (who : ℕ) (p : Process) (fd len what : ℕ) (free : refusal p (ask.ToRead fd) ≡ None)
     (named : (d : Descriptor) → finite_map.get p.descriptors fd ≡ Some d → (is_pipe d ≡ true) × (what ≡ d.pnode)) where
@@ -164,3 +167,12 @@ read_waits session old new fd len what idle free named looked unready same =
     (step_at old.who old.state (requests.Read fd len) (not_refused old.state (requests.Read fd len) (ask.ToRead fd) refl free) [] 0 (what, act.Take len) (take_at old.who old.state fd len what free named))
     unready looked.begins (omega (arith, rose)) (ap (λ (v : ProcView). v.looked) same) (ap (λ (v : ProcView). v.who) same)
     (same ∙ ap (λ n. record old { seen = new.seen; syncs = new.syncs; looks = n; looked = length new.seen }) (sym rose))
+
+-- where something is there to read, or no writer, too few places may be the answer
+pub read_ready : (session : Session) (old new : ProcView) (fd len what : ℕ) → (free : refusal old.state (ask.ToRead fd) ≡ None)
+    → (named : (d : Descriptor) → finite_map.get old.state.descriptors fd ≡ Some d → (is_pipe d ≡ true) × (what ≡ d.pnode))
+    → taken (pipe_after new.seen what) len ≢ None → (end : CallEnd) → IsReadyIfFull session old new (requests.Read fd len) (Err end)
+read_ready session old new fd len what free named ready end =
+    ready_at session old new (requests.Read fd len) (what, act.Take len)
+    (step_at old.who old.state (requests.Read fd len) (not_refused old.state (requests.Read fd len) (ask.ToRead fd) refl free) [] 0 (what, act.Take len) (take_at old.who old.state fd len what free named))
+    ready end

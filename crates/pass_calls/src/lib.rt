@@ -4,7 +4,8 @@
 //! process alone is made first, without the book: memory, and the records of the content (`ready_write`, `ready_cut`: `room`,
 //! `list`), and but for that room the file stays as it was (`same`). `creat`, `make_object` and `make_pipe` also say that the new
 //! object has the session's next number, which no object had (`made`). `close`, `close_pipe`, `seek`, `freeze`, `write_file` and
-//! `truncate` never answer for want of memory (`memory`). A held object stays the object that it was (`what`).
+//! `truncate` never answer for want of memory (`memory`). A held object stays the object that it was (`what`). A read of a pipe tells
+//! of too few places only where it wouldn't wait (`ready`).
 #![tactic(auto)]
 
 mod closing;

@@ -13,6 +13,7 @@ ghost use Rattle.pass_plain.specs.Replies.{taken};
 ghost use Rattle.pass_hold.specs.Callings.{IsIdle};
 ghost use Rattle.pass_hold.specs.Places.{HasRoom};
 ghost use Rattle.pass_answer.specs.Answers.{Answers, Stepped};
+ghost use Rattle.pass_calls.specs.Ready.{IsReadyIfFull};
 
 use pass_answer::{CallEnd, Moved};
 use pass_entry::Bytes;
@@ -60,7 +61,8 @@ fn take_steps<J: Whose>(
     Moved::Read { len: count, from }
 }
 
-/// Reads the oldest bytes of a pipe, at most so many. It answers Again where the pipe is empty and has a writer.
+/// Reads the oldest bytes of a pipe, at most so many. It answers Again where the pipe is empty and has a writer, also where too few
+/// places are left.
 pub fn read_pipe<J: Whose>(
     alloc: Global,
     pipe: &mut PipeDesk<J>,
@@ -74,6 +76,7 @@ pub fn read_pipe<J: Whose>(
     requires free { refusal proc.old.state (ask.ToRead fd) ≡ None }
     requires object { (d : AnyDescriptor) → finite_map.get proc.old.state.descriptors fd ≡ Some d → (is_pipe d ≡ true) × (pipe.old.what ≡ d.pnode) }
     ensures call { Answers J.book.session J.places proc.old proc.new (requests.Read fd len) result }
+    ensures ready { IsReadyIfFull J.book.session proc.old proc.new (requests.Read fd len) result }
     ensures what { pipe.new.what ≡ pipe.old.what }
 {
     proc.process.reserve()?;
@@ -83,6 +86,9 @@ pub fn read_pipe<J: Whose>(
     };
     let read = bytes.clone()?;
     if let Err(full) = proc.caller.room(shelf, 3) {
+        let caller = &mut proc.caller;
+        // What the pipe gives, it gives in all that the process sees.
+        pipe.look(shelf, caller);
         return Err(CallEnd::from(full));
     }
     let number = proc.number + 1;

@@ -5,7 +5,7 @@
 //!
 //! Each call is made for a process that one thread drives. Its clause `call` is one relation for all calls, `Answers` of `pass_answer`;
 //! beyond the ranges of its arguments it asks for nothing. `close_fd`, `seek`, `pass_freeze` and `wait_child` never answer for want of
-//! memory (`memory`). A fork answers with the child (`child`). `exit` and `retire` end the process, and give its last entry's place, or
+//! memory (`memory`). A read tells of too few places only where it wouldn't wait (`ready`). A fork answers with the child (`child`). `exit` and `retire` end the process, and give its last entry's place, or
 //! what it had seen (`HasExited`). After `meet` and `meet_ended` both processes have seen one history, which begins with what each had
 //! seen and adds no entry of theirs (`one`, `HasMet`). No program here calls `exit` or `meet`.
 #![tactic(auto)]

@@ -9,6 +9,7 @@ ghost use Rattle.pass_plain.specs.Processes.{is_file, is_pipe, refusal};
 ghost use Rattle.pass_proc.specs.Procs.{is_way};
 ghost use Rattle.pass_answer.specs.Answers.{Answers};
 ghost use Rattle.pass_answer.specs.declared.answer.CallEnd.TheVariants as ends;
+ghost use Rattle.pass_calls.specs.Ready.{IsReadyIfFull};
 
 use crate::refusing::refuse;
 use pass_answer::{CallEnd, Moved};
@@ -69,7 +70,8 @@ pub fn seek<R: Wait, J: Whose, G: Gate>(
     pass_calls::seek(alloc, &mut shelf, proc, fd, at)
 }
 
-/// Reads at most so many bytes, which are then the process's last read ones.
+/// Reads at most so many bytes, which are then the process's last read ones. A pipe for which it has to wait is told before too few
+/// places are.
 pub fn pass_read<R: Wait, J: Whose, G: Gate>(
     locks: &Locks<'_, J, G>,
     rt: &R,
@@ -81,6 +83,7 @@ pub fn pass_read<R: Wait, J: Whose, G: Gate>(
     requires fd { fd < 64 }
     requires len { (1 ≤ len) × (len ≤ transfer_limit) }
     ensures call { Answers J.book.session J.places proc.old proc.new (requests.Read fd len) result }
+    ensures ready { IsReadyIfFull J.book.session proc.old proc.new (requests.Read fd len) result }
 {
     let ask = Ask::ToRead { fd };
     let d = match asked(proc, fd, &ask) {

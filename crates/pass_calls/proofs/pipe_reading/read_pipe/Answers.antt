@@ -9,6 +9,7 @@ use Rattle.pass_plain.specs.declared.request.Request.TheVariants as requests
 use Rattle.pass_plain.specs.Pipes.{pipe_after}
 use Rattle.pass_plain.specs.Processes.{is_pipe, refusal}
 use Rattle.pass_plain.specs.Replies.{taken}
+use Rattle.pass_book.specs.Tokens.{BookState}
 use Rattle.pass_hold.specs.Callers.{CallerState}
 use Rattle.pass_hold.specs.Callings.{HasLooked, IsIdle}
 use Rattle.pass_flow.specs.Flows.{ObjectView}
@@ -18,9 +19,10 @@ use Rattle.pass_proc.proofs.Steps.{frees, idle_before, number_fits, still, way_l
 use Rattle.pass_answer.specs.Answers.{Answers}
 use Rattle.pass_answer.specs.declared.answer.CallEnd.{CallEnd}
 use Rattle.pass_answer.specs.declared.answer.CallEnd.TheVariants as ends
-use Rattle.pass_calls.proofs.PipeReads.{read_waits}
+use Rattle.pass_calls.proofs.PipeReads.{read_ready, read_waits}
+use Rattle.pass_calls.proofs.Readiness.{is_there, still_full}
+use Rattle.pass_answer.proofs.Between.{full_ends, looked_on}
 use Rattle.pass_answer.proofs.Waiting.{reserved}
-use Rattle.pass_answer.proofs.Wrapping.{full}
 use Rattle.pass_calls.proofs.pipe_reading.read_pipe.Goals as goal
 
 pub invariant_of-proc-in_default : goal.invariant_of-proc-in_default
@@ -73,12 +75,11 @@ invariant_of-proc-in-Err g c =
     let S = g.J.Whose.book.session in
     let i = c.proc.inside in
     let e = c.in-Err.ensures in
+    let l = c.look-in-Err.ensures in
     let d = c.room.new.self in
-    reserved S i.process c.reserve.new.self i.number d i.way c.in_ok-reserve.ensures.same (
-      still S i.process i.number i.caller c.proc.invariant.0 d i.caller.held e.caller e.looked e.few,
-      way_looked S i.process.who i.number i.caller.seen d.seen i.process.state i.way
-          (subst (λ w. HasLooked S w i.caller.seen d.seen) c.proc.invariant.0.of_who e.looked) c.proc.invariant.1,
-    )
+    let last = c.look-in-Err.new.caller in
+    reserved S i.process c.reserve.new.self i.number last i.way c.in_ok-reserve.ensures.same
+    (looked_on S i.process i.number d i.way (looked_on S i.process i.number i.caller i.way c.proc.invariant d e.caller e.looked e.few) last l.caller l.looked l.few)
 
 pub overflow_add-number : goal.overflow_add-number
 overflow_add-number g c = let i = c.proc.inside in number_fits g.J.Whose.book.session i.process i.number i.caller c.proc.invariant.0
@@ -86,14 +87,29 @@ overflow_add-number g c = let i = c.proc.inside in number_fits g.J.Whose.book.se
 pub returns-in-Err-clause-call : goal.returns-in-Err-clause-call
 returns-in-Err-clause-call g c =
     let S = g.J.Whose.book.session in
+    let places = g.J.Whose.places in
     let i = c.proc.inside in
     let e = c.in-Err.ensures in
+    let l = c.look-in-Err.ensures in
     let r = requests.Read c.args.fd c.args.len in
     let d = c.room.new.self in
-    subst (λ (old : ProcView). Answers S g.J.Whose.places old (proc_with c.reserve.new.self i.number d i.way) r (Err c.from.result)) c.proc.view_is
-    (subst (λ (q : ProcessView). Answers S g.J.Whose.places (proc_with i.process i.number i.caller i.way) (proc_with q i.number d i.way) r (Err c.from.result)) (sym c.in_ok-reserve.ensures.same)
-    (subst (λ (end : CallEnd). Answers S g.J.Whose.places (proc_with i.process i.number i.caller i.way) (proc_with i.process i.number d i.way) r (Err end)) (sym c.from.ensures)
-    (full S g.J.Whose.places i.process i.number i.caller d i.way c.proc.invariant.0 r 3 c.in-Err.full refl refl e.caller e.looked e.full)))
+    let last = c.look-in-Err.new.caller in
+    let f = c.in-Err.full in
+    subst (λ (q : ProcessView). Answers S places c.args.proc.now (proc_with q i.number last i.way) r (Err c.from.result)) (sym c.in_ok-reserve.ensures.same)
+    (still_full S places c.args.proc.now i.process i.number d last i.way r l.caller (l.whole ∙ ap (λ (b : BookState). b.history) e.shelf ∙ sym e.whole) f.left f.need c.from.result c.from.ensures
+    (full_ends S i.process i.number i.caller i.way c.proc.invariant d e.caller e.looked places c.args.proc.now c.proc.view_is r 3 f refl refl e.full c.from.result c.from.ensures))
+
+pub returns-in-Err-clause-ready : goal.returns-in-Err-clause-ready
+returns-in-Err-clause-ready g c =
+    let S = g.J.Whose.book.session in
+    let a = c.args in
+    let l = c.look-in-Err.ensures in
+    let what = a.pipe.now.what in
+    let seen : pipe_after c.look-in-Err.new.caller.seen what ≡ pipe_after a.pipe.now.seen what =
+    ap (λ h. pipe_after h what) (l.whole ∙ sym (ap (λ (v : ObjectView). v.seen) l.pipe)) ∙ ap (λ o. pipe_after c.look-in-Err.new.self.seen o) (sym (ap (λ (v : ObjectView). v.what) l.pipe)) ∙ l.same in
+    let reply = ap (λ q. taken q a.len) seen ∙ sym c.in_ok-bytes.ensures ∙ ap (λ (o : Option (List ℕ)). option_map_or (λ b. Some (answer.Took b)) o None) c.in-Some.is in
+    read_ready S a.proc.now (proc_with c.reserve.new.self c.proc.inside.number c.look-in-Err.new.caller c.proc.inside.way) a.fd a.len what c.requires.free c.requires.object
+    (is_there (taken (pipe_after c.look-in-Err.new.caller.seen what) a.len) (answer.Took c.in-Some.bytes) reply) c.from.result
 
 pub take_steps-moved-requires-clause-idle : goal.take_steps-moved-requires-clause-idle
 take_steps-moved-requires-clause-idle g c =

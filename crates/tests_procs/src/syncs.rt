@@ -36,11 +36,12 @@ fn a_sync_has_six_device_calls(rt: HostRuntime) -> Result<(), Fail> {
     Ok(())
 }
 
-/// Two syncs, and one of the whole store.
-fn again() -> [Row; 5] {
+/// The whole store is settled, which writes the frame and the block; then two syncs, and once more the whole store.
+fn again() -> [Row; 6] {
     [
         (0, Call::Creat(3, b'a'), Answer::Made(2)),
         (0, Call::Write(3, b'x', 3), Answer::Wrote(3, 2, 1)),
+        (0, Call::Settle, Answer::Synced(15, 5)),
         (0, Call::Sync(3), Answer::Synced(15, 6)),
         (0, Call::Sync(3), Answer::Synced(15, 8)),
         (0, Call::Settle, Answer::Synced(15, 9)),

@@ -1,5 +1,5 @@
 //! The adapters over a real folder, and over readers and writers that fail.
-use pass_host::{HostDisk, HostFault, HostSink, HostSource};
+use pass_host::{Cause, HostDisk, HostFault, HostSink, HostSource, Part};
 use pass_outside::{Area, Disk, Sink, Source};
 use std::alloc::Global;
 use std::io::{ErrorKind, Read, Write};
@@ -16,6 +16,12 @@ fn new_folder(rt: &HostRuntime, name: &str) -> io::Result<PathBuf> {
     Ok(folder)
 }
 
+/// Someone else has the folder open.
+const IN_USE: HostFault = HostFault::Failed {
+    part: Part::Log,
+    cause: Cause::InUse,
+};
+
 // Writes to a folder that is opened alone, while nobody else can open it.
 fn write_in(rt: &HostRuntime, folder: &str) -> Option<bool> {
     let mut disk = HostDisk::open(rt, rt.alloc(), folder).ok()?;
@@ -25,7 +31,7 @@ fn write_in(rt: &HostRuntime, folder: &str) -> Option<bool> {
     disk.sync(Area::Log).ok()?;
     let alone = HostDisk::open(rt, rt.alloc(), folder).err();
     let beside = HostDisk::open_to_read(rt, rt.alloc(), folder).err();
-    Some(alone == Some(HostFault::Failed) && beside == Some(HostFault::Failed))
+    Some(alone == Some(IN_USE) && beside == Some(IN_USE))
 }
 
 // Whether what was written is there when the folder is opened again, by two who read.
@@ -36,9 +42,7 @@ fn is_read(rt: &HostRuntime, folder: &str) -> Option<bool> {
     let mut bytes = [7; 8];
     let count = disk.read(Area::Log, 0, &mut bytes).ok()?;
     let len = disk.len(Area::Store).ok()?;
-    Some(
-        alone == Some(HostFault::Failed) && (count, len) == (6, 4) && bytes == *b"abc\0\0f\x07\x07",
-    )
+    Some(alone == Some(IN_USE) && (count, len) == (6, 4) && bytes == *b"abc\0\0f\x07\x07")
 }
 
 // Whether a file is cut, and no file has so high a place.

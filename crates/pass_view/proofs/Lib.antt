@@ -6,8 +6,8 @@ mod Ends
 mod Ordering
 mod Showing
 mod Finding
-mod Members
-mod Adding
+pub mod Members
+pub mod Adding
 mod Lines
 mod Drawing
 pub mod Lacking

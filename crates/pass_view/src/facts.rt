@@ -185,8 +185,8 @@ impl Facts {
     }
 }
 
-// Whether the name is below one of the system's folders.
-fn is_system_name(name: &[u8]) -> bool
+/// Whether the name is below one of the folders of what a system brings along.
+pub fn is_system_name(name: &[u8]) -> bool
     ensures { result ≡ is_system_name name.now }
 {
     is_below(name, &SYSTEM_FOLDERS)

@@ -10,7 +10,7 @@ use std::alloc::{AllocError, Global};
 
 /// The text as a string: its bytes are ASCII.
 #[tactic(auto, using(crate::proofs::Ascii::line_utf8))]
-pub(crate) fn str_of(text: &Text) -> &str
+pub fn str_of(text: &Text) -> &str
     ensures { result.now ≡ text.now }
 {
     match std::str::from_utf8(text.as_bytes()) {

@@ -18,6 +18,8 @@ mod selecting;
 mod texts;
 
 pub use dots::{dot, plain};
+pub use facts::is_system_name;
+pub use labels::str_of;
 pub use picture::{Link, Relation, Shown, View};
 pub use provs::prov;
 pub use selecting::select;

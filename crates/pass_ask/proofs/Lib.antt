@@ -5,6 +5,7 @@ pub mod Listed
 pub mod Patterns
 pub mod Sent
 pub mod Shown
+pub mod NamedWords
 pub mod Streams
 pub mod TakenWords
 pub mod Written

@@ -8,4 +8,5 @@ pub mod Line
 pub mod Matches
 pub mod Numbers
 pub mod Shown
+pub mod Telling
 pub mod Words

@@ -1,5 +1,5 @@
 -- The table of commands: which words name which command. This project's own rule.
-use Rattle.std.specs.Prelude.{ℕ, ◌≡◌, ◌≤◌, Bool, true, false, List, [], ◌∷◌, Option, Some, None, Result, Ok, Err, is_some, option_map, option_and_then, unwrap_or, codes, if◌then◌else◌}
+use Rattle.std.specs.Prelude.{ℕ, ◌≡◌, ◌≤◌, ◌||◌, Bool, true, false, List, [], ◌∷◌, Option, Some, None, Result, Ok, Err, is_some, option_map, option_and_then, unwrap_or, codes, if◌then◌else◌}
 use Rattle.std.specs.Option.{option_map_or}
 use Rattle.clap.specs.Faults.{fault_of}
 use Rattle.clap.specs.Kinds.{Kinds}
@@ -16,10 +16,12 @@ use Rattle.pass_status.specs.declared.status.Status.TheVariants as status
 use Rattle.pass_trace.specs.Words.{is_text}
 use Rattle.pass_ask.specs.Line.{command_line}
 use Rattle.pass_ask.specs.Numbers.{number_in, node_in, seed_in}
+use Rattle.pass_ask.specs.Telling.{inquiry_in, tells}
+use Rattle.pass_ask.specs.declared.telling.Flags.{Flags}
 use Rattle.pass_ask.specs.declared.words.Command.{Command}
 use Rattle.pass_ask.specs.declared.words.Command.TheVariants.{Run, Replay, Gen, Ask, Follow}
 use Rattle.pass_ask.specs.declared.words.GraphQuestion.{GraphQuestion}
-use Rattle.pass_ask.specs.declared.words.GraphQuestion.TheVariants.{Lineage, Recipe}
+use Rattle.pass_ask.specs.declared.words.GraphQuestion.TheVariants.{Lineage, Recipe, Told}
 use Rattle.pass_ask.specs.declared.words.Question.{Question}
 use Rattle.pass_ask.specs.declared.words.Question.TheVariants.{Check, Graph, Match, Send}
 
@@ -142,9 +144,24 @@ abbrev pub unless_fault : {X : Type 0} → Kinds → Option X → Option X
 unless_fault [] found = found
 unless_fault (kind ∷ kinds) found = None
 
+-- the flags of questions about names
+abbrev pub flags_in : List Row → Flags
+flags_in rows = record { names = is_set (first_of (codes "names") rows); flows = is_set (first_of (codes "data") rows); plain = is_set (first_of (codes "plain") rows) }
+
+-- a question about names, with which --replay and --workers don't go
+abbrev pub told_in : Bool → Bool → Option Text → Flags → Text → List Text → Option Command
+told_in replay json workers flags name words = if replay || is_some workers then None else option_map (λ q. Ask (Graph (Told q (form_of json)))) (inquiry_in flags name words)
+
+abbrev pub told_found : List Row → Text → Option Command
+told_found rows name = told_in (is_set (first_of (codes "replay") rows)) (is_set (first_of (codes "json") rows)) (first_of (codes "workers") rows) (flags_in rows) name (unwrap_or (all_of (codes "word") rows) [])
+
+-- what the command line found, where it may ask about names
+abbrev pub taken : List Row → Option Command
+taken rows = option_and_then (λ name. if tells (flags_in rows) name then told_found rows name else command_found rows) (first_of (codes "command") rows)
+
 -- the command of the words, where the command line takes them and they are in the table
 unfoldable pub command_of : List Text → Option Command
-command_of words = unless_fault (fault_of command_line words) (command_found (matches_of command_line words))
+command_of words = unless_fault (fault_of command_line words) (taken (matches_of command_line words))
 
 abbrev pub is_replay_command : Command → Bool
 is_replay_command Replay = true
@@ -182,6 +199,14 @@ is_follow_command _ = false
 -- the words are those of follow
 abbrev pub is_follow : List Text → Bool
 is_follow words = option_map_or is_follow_command (command_of words) false
+
+abbrev pub is_writing : Command → Bool
+is_writing (Ask question) = false
+is_writing _ = true
+
+-- the words are those of a command that writes to the store: run, gen or follow
+abbrev pub writes : List Text → Bool
+writes words = option_map_or is_writing (command_of words) false
 
 abbrev pub question_in : Command → Option Question
 question_in (Ask question) = Some question

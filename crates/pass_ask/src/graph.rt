@@ -1,12 +1,14 @@
 //! What the graph of a log answers.
-ghost use Rattle.std.specs.Prelude.{◌≡◌, ◌↔◌, ◌<◌, Err, IfOk, List};
+ghost use Rattle.std.specs.Prelude.{◌≡◌, ◌↔◌, ◌<◌, Err, IfOk, List, option_map};
 ghost use Rattle.pass_entry.specs.declared.objects.Node.{Node};
 ghost use Rattle.pass_query.specs.declared.fault.QueryFault.{QueryFault};
+ghost use Rattle.pass_files.specs.Spelling.{node_meant};
 ghost use Rattle.pass_ask.specs.GraphAnswers.{IsGraphText, IsMissing};
 ghost use Rattle.pass_ask.specs.declared.words.GraphQuestion.{GraphQuestion};
 
 use crate::words::GraphQuestion;
 use pass_entry::Node;
+use pass_files::{Spelled, inquire, node_meant};
 use pass_query::{QueryFault, Steps, answer};
 use pass_recipe::{recipe, to_text};
 use pass_view::view_text;
@@ -29,7 +31,20 @@ pub fn graph_answer(
         GraphQuestion::Recipe(node) => {
             recipe_answer::<Brand>(alloc, Blank::new(1), index, *node)
         }
-        GraphQuestion::View { form, node } => view_text(alloc, index, *node, *form),
+        GraphQuestion::View { form, node } => {
+            view_text(alloc, index, node_shown(index, node), *form)
+        }
+        GraphQuestion::Told { inquiry, form } => inquire(alloc, index, inquiry, *form),
+    }
+}
+
+// The node that is meant, where one is given.
+fn node_shown(index: &Index, node: &Option<Spelled>) -> Option<Node>
+    ensures { result ≡ option_map (node_meant index.now) node.now }
+{
+    match node {
+        Some(node) => Some(node_meant(index, node)),
+        None => None,
     }
 }
 

@@ -8,7 +8,8 @@
 //! store area as they read; the text of a question is the definitions' answer over the records of the log. Unless a device
 //! call failed the disk reads as before, and each crash leaves what it might have left before (`answer`, `write_fault`,
 //! `unwritten`, `unopened`, `alone`, `later`). `ask_for` is `ask` over words that were read, and `show` says the same of
-//! the words of `passview`. `asks` tells exactly whether words ask a question, and want of memory apart.
+//! the words of `passview`. `writes` tells exactly whether words are those of a command that writes, and want of memory
+//! apart.
 //!
 //! `follow` hands a standby what the source gives. Its status is judged by the bytes of the log area and of the stream,
 //! each cause exactly: the device's faults come first, then the log's, then the source's or the stream's (`judged`). Each
@@ -32,6 +33,7 @@ mod opening;
 mod pattern_text;
 mod sending;
 mod showing;
+mod telling;
 mod words;
 mod writing;
 
@@ -41,5 +43,5 @@ pub use judged::Judged;
 pub use pass_status::Status;
 pub use pattern_text::PatternText;
 pub use showing::show;
-pub use words::{Command, GraphQuestion, Question, asks, read_words};
+pub use words::{Command, GraphQuestion, Question, read_words, writes};
 pub use writing::write_answer;

@@ -1,7 +1,7 @@
 //! The command line of the program.
 ghost use Rattle.std.specs.Prelude.{◌≡◌, IfOk, false};
 ghost use Rattle.clap.specs.Words.{app_of, rule_of};
-ghost use Rattle.pass_ask.specs.Line.{bare_line, command_line, json_rule, replay_rule, workers_rule, command_rule, words_rule};
+ghost use Rattle.pass_ask.specs.Line.{bare_line, command_line, json_rule, replay_rule, workers_rule, names_rule, data_rule, plain_rule, telling_line, command_rule, words_rule};
 
 use clap::{Arg, ArgAction, Command};
 use std::alloc::{AllocError, Global};
@@ -36,6 +36,46 @@ fn workers<'a>(alloc: Global) -> Arg<'a>
         .action(ArgAction::Set)
 }
 
+// The flag `--names`.
+fn names<'a>(alloc: Global) -> Arg<'a>
+    ensures rule { rule_of result ≡ names_rule }
+    ensures local { result.global ≡ false }
+{
+    Arg::new(alloc, "names")
+        .long("names")
+        .action(ArgAction::SetTrue)
+}
+
+// The flag `--data`.
+fn data_flag<'a>(alloc: Global) -> Arg<'a>
+    ensures rule { rule_of result ≡ data_rule }
+    ensures local { result.global ≡ false }
+{
+    Arg::new(alloc, "data")
+        .long("data")
+        .action(ArgAction::SetTrue)
+}
+
+// The flag `--plain`.
+fn plain<'a>(alloc: Global) -> Arg<'a>
+    ensures rule { rule_of result ≡ plain_rule }
+    ensures local { result.global ≡ false }
+{
+    Arg::new(alloc, "plain")
+        .long("plain")
+        .action(ArgAction::SetTrue)
+}
+
+// The line with the flags of questions about names.
+fn telling<'a>(alloc: Global, line: Command<'a>) -> Result<Command<'a>, AllocError>
+    ensures { IfOk result (λ whole. app_of whole ≡ telling_line (app_of line.entry)) }
+{
+    let named = line.arg(names(alloc))?;
+    let flowing = named.arg(data_flag(alloc))?;
+    let whole = flowing.arg(plain(alloc))?;
+    Ok(whole)
+}
+
 // The name of the command.
 fn command<'a>(alloc: Global) -> Arg<'a>
     ensures rule { rule_of result ≡ command_rule }
@@ -62,14 +102,15 @@ fn bare_line<'a>(alloc: Global) -> Command<'a>
         .disable_version_flag(true)
 }
 
-/// The command line: `[--json] [--replay] [--workers N] COMMAND [WORD]..`.
+/// The command line: `[--json] [--replay] [--workers N] [--names] [--data] [--plain] COMMAND [WORD]..`.
 pub fn command_line<'a>(alloc: Global) -> Result<Command<'a>, AllocError>
     ensures { IfOk result (λ line. app_of line ≡ command_line) }
 {
     let flagged = bare_line(alloc).arg(json(alloc))?;
     let ordered = flagged.arg(replay(alloc))?;
     let optional = ordered.arg(workers(alloc))?;
-    let named = optional.arg(command(alloc))?;
+    let flags = telling(alloc, optional)?;
+    let named = flags.arg(command(alloc))?;
     let whole = named.arg(words(alloc))?;
     Ok(whole)
 }

@@ -1,16 +1,17 @@
 //! The call of the program that shows graphs.
-ghost use Rattle.std.specs.Prelude.{◌≡◌, ◌≢◌, ◌↔◌, None, if◌then◌else◌, map, string_bytes};
+ghost use Rattle.std.specs.Prelude.{◌≡◌, ◌≢◌, ◌↔◌, None, Option, Some, if◌then◌else◌, map, string_bytes};
 ghost use Rattle.pass_outside.specs.Faults.{HasRisen};
 ghost use Rattle.pass_recover.specs.Later.{IsLater, IsLeftAlone};
 ghost use Rattle.pass_ask.specs.Asked.{IsAsked, IsPut};
-ghost use Rattle.pass_ask.specs.Numbers.{node_in};
+ghost use Rattle.pass_files.specs.declared.spelled.Spelled.{Spelled};
 ghost use Rattle.pass_ask.specs.Shown.{form_in, is_flag, part_of, plain_in, shown_in, whole_of};
+ghost use Rattle.pass_ask.specs.Telling.{spelled_in};
 ghost use Rattle.pass_ask.specs.Words.{Reads};
 
 use crate::asking::{Asked, ask_for};
-use crate::numbers::node_in;
+use crate::telling::spelled_in;
 use crate::words::{GraphQuestion, Question};
-use pass_entry::Node;
+use pass_files::Spelled;
 use pass_outside::{Disk, Sink};
 use pass_status::Status;
 use pass_view::Form;
@@ -29,20 +30,21 @@ pub fn show<K: Sink, D: Disk>(alloc: Global, words: &[String], sink: &mut K, dis
     ensures alone { IsLeftAlone (D.view disk) (D.view result.disk) }
     ensures later { IsLater (D.view disk) (D.view result.disk) }
 {
-    let question = shown_in(words);
+    let question = shown_in(alloc, words);
     ask_for(alloc, question, sink, disk)
 }
 
 // What the words ask to be shown.
 #[tactic(auto, using(crate::proofs::Shown::none_shown, crate::proofs::Shown::too_many_shown))]
-fn shown_in(words: &[String]) -> Result<Question, Status>
+fn shown_in(alloc: Global, words: &[String]) -> Result<Question, Status>
     ensures { Reads result (shown_in (map string_bytes words.now)) }
 {
     match words {
         [] => Err(Status::BadWords),
         [form] => whole_of(form_in(form.as_str().as_bytes())),
-        [form, word] => shown_by(form.as_str().as_bytes(), word.as_str().as_bytes()),
+        [form, word] => shown_by(alloc, form.as_str().as_bytes(), word.as_str().as_bytes()),
         [form, node, word] => plain_part(
+            alloc,
             form.as_str().as_bytes(),
             node.as_str().as_bytes(),
             word.as_str().as_bytes(),
@@ -52,22 +54,22 @@ fn shown_in(words: &[String]) -> Result<Question, Status>
 }
 
 // Behind the form a flag, or the node.
-fn shown_by(form: &[u8], word: &[u8]) -> Result<Question, Status>
-    ensures { Reads result (if is_flag word.now then whole_of (plain_in form.now) else part_of (form_in form.now) (node_in word.now)) }
+fn shown_by(alloc: Global, form: &[u8], word: &[u8]) -> Result<Question, Status>
+    ensures { Reads result (if is_flag word.now then whole_of (plain_in form.now) else part_of (form_in form.now) (spelled_in word.now)) }
 {
     if is_flag(word) {
         whole_of(plain_in(form))
     } else {
-        part_of(form_in(form), node_in(word))
+        part_of(form_in(form), spelled_in(alloc, word))
     }
 }
 
 // Behind the form the node, and then the flag.
-fn plain_part(form: &[u8], node: &[u8], word: &[u8]) -> Result<Question, Status>
-    ensures { Reads result (if is_flag word.now then part_of (plain_in form.now) (node_in node.now) else None) }
+fn plain_part(alloc: Global, form: &[u8], node: &[u8], word: &[u8]) -> Result<Question, Status>
+    ensures { Reads result (if is_flag word.now then part_of (plain_in form.now) (spelled_in node.now) else None) }
 {
     if is_flag(word) {
-        part_of(plain_in(form), node_in(node))
+        part_of(plain_in(form), spelled_in(alloc, node))
     } else {
         Err(Status::BadWords)
     }
@@ -114,14 +116,23 @@ fn whole_of(form: Option<Form>) -> Result<Question, Status>
 }
 
 // What the node came from.
-fn part_of(form: Option<Form>, node: Option<Node>) -> Result<Question, Status>
-    ensures { Reads result (part_of form node) }
+fn part_of(form: Option<Form>, node: Result<Spelled, Status>) -> Result<Question, Status>
+    ensures { (read : Option Spelled) → Reads node read → Reads result (part_of form read) }
 {
-    match (form, node) {
-        (Some(form), Some(node)) => Ok(Question::Graph(GraphQuestion::View {
+    match form {
+        Some(form) => view_of(form, node),
+        None => Err(Status::BadWords),
+    }
+}
+
+fn view_of(form: Form, node: Result<Spelled, Status>) -> Result<Question, Status>
+    ensures { (read : Option Spelled) → Reads node read → Reads result (part_of (Some form) read) }
+{
+    match node {
+        Ok(node) => Ok(Question::Graph(GraphQuestion::View {
             form,
             node: Some(node),
         })),
-        _ => Err(Status::BadWords),
+        Err(status) => Err(status),
     }
 }

@@ -1,7 +1,7 @@
 //! The commands of the program, and how its words name them.
-ghost use Rattle.std.specs.Prelude.{◌≡◌, ◌≢◌, ◌⊎◌, ◌↔◌, ◌≤◌, Option, IfOk, IfSome, IsSome, IsTrue, map, option_map, string_bytes};
+ghost use Rattle.std.specs.Prelude.{◌≡◌, ◌≢◌, ◌⊎◌, ◌≤◌, Option, IfOk, IfSome, map, option_map, string_bytes};
 ghost use Rattle.clap.specs.Words.{found_of, kind_of, rows_of};
-ghost use Rattle.pass_ask.specs.Words.{Reads, HasWorkers, alone_in, command_by, command_found, command_in, replay_in, command_of, form_of, gen_in, gen_of, graph_in, match_in, match_of, question_of, is_set, path_on, query_in, query_on, name_in, recipe_in, run_in, send_in, last_place, workers_in};
+ghost use Rattle.pass_ask.specs.Words.{Reads, HasWorkers, alone_in, command_by, command_found, command_in, replay_in, command_of, flags_in, form_of, gen_in, gen_of, graph_in, match_in, match_of, is_set, path_on, query_in, query_on, name_in, recipe_in, run_in, send_in, last_place, taken, told_found, told_in, workers_in, writes};
 ghost use Rattle.pass_ask.specs.Numbers.{node_in, number_in, seed_in};
 ghost use Rattle.pass_query.specs.declared.question.Query.{Query};
 ghost use Rattle.pass_ask.specs.declared.words.GraphQuestion.{GraphQuestion};
@@ -11,9 +11,11 @@ ghost use Rattle.pass_ask.specs.declared.words.Command.TheVariants.{Ask};
 use crate::line::command_line;
 use crate::numbers::{node_in, number_in, seed_in};
 use crate::pattern_text::PatternText;
+use crate::telling::{Flags, inquiry_in, tells};
 use clap::error::ErrorKind;
 use clap::{ArgMatches, Error};
 use pass_entry::{Node, Text, TextFault};
+use pass_files::{Inquiry, Spelled};
 use pass_query::{Form, Query};
 use pass_status::Status;
 use std::alloc::{AllocError, Global};
@@ -45,7 +47,12 @@ pub enum GraphQuestion {
     /// How the whole graph looks, or what a node came from with that node; no word of passd asks for it.
     View {
         form: pass_view::Form,
-        node: Option<Node>,
+        node: Option<Spelled>,
+    },
+    /// The same as a lineage, with names, and which files a node came from or went into.
+    Told {
+        inquiry: Inquiry,
+        form: Form,
     },
 }
 
@@ -87,14 +94,14 @@ pub enum Command {
     Follow,
 }
 
-/// Whether the words ask a question, which may share the store with others.
-pub fn asks(alloc: Global, words: &[String]) -> Result<bool, AllocError>
-    ensures { IfOk result (λ shared. IsTrue shared ↔ IsSome (question_of (map string_bytes words.now))) }
+/// Whether the words run a trace or follow a log, for which the store is opened alone and to be written. All others leave it as it is.
+pub fn writes(alloc: Global, words: &[String]) -> Result<bool, AllocError>
+    ensures { IfOk result (λ alone. alone ≡ writes (map string_bytes words.now)) }
 {
     match read_words(alloc, words) {
-        Ok(Command::Ask(_)) => Ok(true),
+        Ok(Command::Ask(_)) => Ok(false),
         Ok(Command::Run { .. } | Command::Replay | Command::Gen { .. } | Command::Follow) => Ok(
-            false,
+            true,
         ),
         Err(Status::BadWords) => Ok(false),
         Err(_) => Err(AllocError),
@@ -110,7 +117,7 @@ pub fn read_words(alloc: Global, words: &[String]) -> Result<Command, Status>
         return Err(Status::NoMemory);
     };
     match line.try_get_matches_from(words) {
-        Ok(matches) => command_found(alloc, &matches),
+        Ok(matches) => taken(alloc, &matches),
         Err(error) => Err(status_of(&error)),
     }
 }
@@ -124,6 +131,70 @@ fn status_of(error: &Error) -> Status
     match error.kind() {
         ErrorKind::OutOfMemory => Status::NoMemory,
         _ => Status::BadWords,
+    }
+}
+
+// The command of what the command line found, which may ask about names.
+fn taken(alloc: Global, matches: &ArgMatches<'_>) -> Result<Command, Status>
+    ensures command { Reads result (taken (rows_of (found_of matches.now))) }
+    ensures workers { IfOk result HasWorkers }
+{
+    let Some(name) = matches.get_str("command") else {
+        return Err(Status::BadWords);
+    };
+    if tells(flags_in(matches), name.as_bytes()) {
+        return told_found(alloc, matches, name.as_bytes());
+    }
+    command_found(alloc, matches)
+}
+
+// The flags of questions about names.
+fn flags_in(matches: &ArgMatches<'_>) -> Flags
+    ensures { result ≡ flags_in (rows_of (found_of matches.now)) }
+{
+    Flags {
+        names: is_set(matches.get_str("names")),
+        flows: is_set(matches.get_str("data")),
+        plain: is_set(matches.get_str("plain")),
+    }
+}
+
+// The question about names that the command line found.
+fn told_found(alloc: Global, matches: &ArgMatches<'_>, name: &[u8]) -> Result<Command, Status>
+    ensures command { Reads result (told_found (rows_of (found_of matches.now)) name.now) }
+    ensures workers { IfOk result HasWorkers }
+{
+    let replay = is_set(matches.get_str("replay"));
+    let json = is_set(matches.get_str("json"));
+    let workers = matches.get_str("workers");
+    let flags = flags_in(matches);
+    match matches.get_strs("word") {
+        Some(words) => told_in(alloc, replay, json, workers, flags, name, words),
+        None => told_in(alloc, replay, json, workers, flags, name, &[]),
+    }
+}
+
+fn told_in(
+    alloc: Global,
+    replay: bool,
+    json: bool,
+    workers: Option<&str>,
+    flags: Flags,
+    name: &[u8],
+    words: &[&str],
+) -> Result<Command, Status>
+    ensures command { Reads result (told_in replay json (option_map (λ w. w.now) workers.entry) flags name.now (map (λ w. w.now) words.now)) }
+    ensures workers { IfOk result HasWorkers }
+{
+    if replay || workers.is_some() {
+        return Err(Status::BadWords);
+    }
+    match inquiry_in(alloc, flags, name, words) {
+        Ok(inquiry) => Ok(Command::Ask(Question::Graph(GraphQuestion::Told {
+            inquiry,
+            form: form_of(json),
+        }))),
+        Err(status) => Err(status),
     }
 }
 

@@ -14,4 +14,4 @@ mod reading;
 mod verdict;
 
 pub use main_call::{Ended, pass_main};
-pub use pass_ask::{Status, ask, asks};
+pub use pass_ask::{Status, ask, writes};

@@ -7,6 +7,8 @@ pub const HELP: &str = "passd DIR COMMAND: a file store that records which data 
   check                    counts what the store has, and lists blocks with other bytes than were recorded
   ancestors NODE           lists what the version came from
   descendants NODE         lists what came from the version
+  inputs NODE              lists the versions of files from which the version came
+  outputs NODE             lists the versions of files that came from the version
   path NODE NODE           gives a shortest way from the first version back to the second, or none
   named NAME               lists the files that ever had the name, each at its current version
   recipe NODE              lists what the version came from, in an order in which it can be made again
@@ -16,7 +18,11 @@ pub const HELP: &str = "passd DIR COMMAND: a file store that records which data 
 
   --replay                 with run, without --workers: makes each call where its line stands, or as soon behind it as it is ready
   --workers N              with run and gen: 1 to 64 threads (4 if not given)
-  --json                   with ancestors, descendants, path, named and match
+  --json                   with ancestors, descendants, inputs, outputs, path, named and match
+  --names                  with ancestors, descendants and path: tells the kind and the name of each node
+  --data                   with inputs and outputs: only flows of data count
+  --plain                  with inputs and outputs: leaves out the programs and libraries of the system
 
-passd --help, passd --version. A NODE is P.V, version V of object P. DIR has to be there.
+passd --help, passd --version. DIR has to be there. A NODE is P.V, version V of object P. With inputs, outputs and
+--names it is also a file's NAME, or NAME@V. A name that reads as P.V or has an @ is written NAME@.
 ";

@@ -1,14 +1,22 @@
 //! Runs a command on the store of a folder. The first argument is the folder, and the others are the words of the command; a trace
-//! comes on standard input, and the answer goes to standard output.
+//! comes on standard input, and the answer goes to standard output. Standard error has what helps: that calls of a run failed, and
+//! what to do about words that no command has and about a name that no file ever had.
 //!
-//! All that is promised is a clause of `pass_cli::pass_main`. The opening of the folder, exit 11, and that questions open it beside
-//! others are tested.
+//! All that is promised is a clause of `pass_cli::pass_main`, and that only words that write open the folder to write is one of
+//! `open`. The opening itself, exit 11, that questions open it beside others, and what is said on standard error are tested.
 #![tactic(auto)]
 
+mod advice;
 mod help;
 
+ghost use Rattle.std.specs.Prelude.{◌≡◌, IfOk, map, string_bytes};
+ghost use Rattle.pass_ask.specs.Words.{writes};
+ghost use Rattle.pass_host.specs.Host.{may_write};
+
+use crate::advice::tell_advice;
 use crate::help::HELP;
-use pass_cli::{Status, ask, asks, pass_main};
+use pass_cli::{Status, ask, pass_main, writes};
+use pass_entry::{Entry, Reply};
 use pass_help::{Request, VERSION, asked};
 use pass_host::{HostDisk, HostFault, HostSink, HostSource};
 use pass_outside::{NoDisk, OpenGate};
@@ -30,11 +38,15 @@ fn main(rt: HostRuntime) -> ExitCode {
     let [folder, words @ ..] = arguments.as_slice() else {
         return ExitCode::from(without_folder(&rt));
     };
+    let folder = folder.as_str();
     // The folder is opened before the words are judged.
-    let disk = match open(&rt, folder.as_str(), words) {
+    let disk = match open(&rt, folder, words) {
         Ok(disk) => disk,
-        Err(fault) => return ExitCode::from(unopened(&rt, fault)),
+        Err(fault) => return ExitCode::from(unopened(&rt, folder, fault)),
     };
+    if let Some(note) = disk.note() {
+        let _told = eprintln!(rt; "passd: {folder}: {note}");
+    }
     let mut source = HostSource::new(rt.reader());
     let mut sink = HostSink::new(io::writer(&rt));
     let ended = pass_main(
@@ -46,14 +58,33 @@ fn main(rt: HostRuntime) -> ExitCode {
         disk,
         &OpenGate,
     );
+    tell_failed(&rt, &ended.history);
+    tell_advice(&rt, folder, words, ended.status);
     ExitCode::from(ended.status.number())
 }
 
-// Opens the folder beside others for words that ask a question, and else for this program alone.
-fn open(rt: &HostRuntime, folder: &str, words: &[String]) -> Result<HostDisk<File>, HostFault> {
-    match asks(rt.alloc(), words) {
-        Ok(true) => HostDisk::open_to_read(rt, rt.alloc(), folder),
-        Ok(false) => HostDisk::open(rt, rt.alloc(), folder),
+// Tells how many calls of a run failed, where some did.
+fn tell_failed(rt: &HostRuntime, history: &[Entry]) {
+    let failed = history.iter().filter(|entry| is_failed(entry)).count();
+    if failed > 0 {
+        let _told = eprintln!(rt; "passd: calls that failed: {failed}");
+    }
+}
+
+fn is_failed(entry: &Entry) -> bool {
+    match entry.reply {
+        Reply::Fault(_) => true,
+        Reply::Done | Reply::Made(_) | Reply::Took(_) => false,
+    }
+}
+
+// Opens the folder alone and to be written for words that run a trace or follow a log, and for all others to be read, beside others.
+fn open(rt: &HostRuntime, folder: &str, words: &[String]) -> Result<HostDisk<File>, HostFault>
+    ensures { IfOk result (λ d. may_write d ≡ writes (map string_bytes words.now)) }
+{
+    match writes(rt.alloc(), words) {
+        Ok(true) => HostDisk::open(rt, rt.alloc(), folder),
+        Ok(false) => HostDisk::open_to_read(rt, rt.alloc(), folder),
         Err(AllocError) => Err(HostFault::NoMemory),
     }
 }
@@ -83,16 +114,18 @@ fn arguments(rt: &HostRuntime) -> io::Result<Vec<String>> {
 fn without_folder(rt: &HostRuntime) -> u8 {
     let mut sink = HostSink::new(io::writer(rt));
     let asked = ask(rt.alloc(), &[], &mut sink, NoDisk::new());
+    let _told = eprintln!(rt;
+        "passd: no folder is named: passd DIR COMMAND; passd --help lists the commands"
+    );
     asked.status.number()
 }
 
-// Says that the folder can't be opened, unless it was for want of memory.
-fn unopened(rt: &HostRuntime, fault: HostFault) -> u8 {
-    match fault {
-        HostFault::Failed => {
-            let _written = println!(rt; "fault open");
-            UNOPENED
-        }
-        HostFault::NoMemory => Status::NoMemory.number(),
+// Says that the folder can't be opened and what to do, unless it was for want of memory.
+fn unopened(rt: &HostRuntime, folder: &str, fault: HostFault) -> u8 {
+    if fault == HostFault::NoMemory {
+        return Status::NoMemory.number();
     }
+    let _written = println!(rt; "fault open");
+    let _told = eprintln!(rt; "passd: {folder}: {fault}");
+    UNOPENED
 }

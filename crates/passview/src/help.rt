@@ -7,5 +7,6 @@ pub const HELP: &str = "passview DIR COMMAND: the graph of a store as a picture
 
   --plain        last, with dot: without the programs and libraries that the system brings
 
-passview --help, passview --version. A NODE is P.V, version V of object P. DIR has to be there.
+passview --help, passview --version. DIR has to be there. A NODE is P.V, version V of object P, or a file's NAME, or NAME@V.
+A name that reads as P.V, has an @ or is --plain is written NAME@.
 ";

@@ -1,7 +1,8 @@
 //! Shows the graph of the store of a folder. The first argument is the folder, and the others say what is to be shown and how:
 //! `dot` or `prov`, and a node behind it for what that node came from. `--plain` behind `dot` leaves out the system's files.
 //!
-//! All that is promised is a clause of `pass_ask::show`.
+//! The answer goes to standard output, and why there is none to standard error. The text of either is a clause of
+//! `pass_ask::show`; where it goes is tested.
 #![tactic(auto)]
 
 mod help;
@@ -10,7 +11,8 @@ use crate::help::HELP;
 use pass_ask::{Status, show};
 use pass_help::{Request, VERSION, asked};
 use pass_host::{HostDisk, HostFault, HostSink};
-use pass_outside::NoDisk;
+use pass_outside::{Failed, MemSink, NoDisk};
+use pass_status::write_text;
 use std::process::ExitCode;
 use std::{env, io};
 
@@ -24,19 +26,49 @@ fn main(rt: HostRuntime) -> ExitCode {
     if let Some(request) = asked(arguments.as_slice()) {
         return ExitCode::from(told(&rt, request));
     }
-    let mut sink = HostSink::new(io::writer(&rt));
+    let mut answer = MemSink::new(rt.alloc(), Vec::new(rt.alloc()));
     let [folder, words @ ..] = arguments.as_slice() else {
         // A call without a folder has no words either.
-        let ended = show(rt.alloc(), &[], &mut sink, NoDisk::new());
-        return ExitCode::from(ended.status.number());
+        let ended = show(rt.alloc(), &[], &mut answer, NoDisk::new());
+        return ExitCode::from(handed_on(&rt, ended.status, &answer));
     };
     // The folder is opened before the words are judged, beside others that read.
-    match HostDisk::open_to_read(&rt, rt.alloc(), folder.as_str()) {
+    let folder = folder.as_str();
+    match HostDisk::open_to_read(&rt, rt.alloc(), folder) {
         Ok(disk) => {
-            let ended = show(rt.alloc(), words, &mut sink, disk);
-            ExitCode::from(ended.status.number())
+            if let Some(note) = disk.note() {
+                let _told = eprintln!(rt; "passview: {folder}: {note}");
+            }
+            let ended = show(rt.alloc(), words, &mut answer, disk);
+            ExitCode::from(handed_on(&rt, ended.status, &answer))
         }
-        Err(fault) => ExitCode::from(unopened(&rt, fault)),
+        Err(fault) => ExitCode::from(unopened(&rt, folder, fault)),
+    }
+}
+
+// Hands on what was answered: an answer to standard output, and a refusal to standard error.
+fn handed_on(rt: &HostRuntime, status: Status, answer: &MemSink) -> u8 {
+    match status {
+        Status::Done => match write_text(&mut HostSink::new(io::writer(rt)), answer.taken()) {
+            Ok(()) => status.number(),
+            Err(Failed) => Status::WriteFault.number(),
+        },
+        // The answer is kept in memory, of which there wasn't enough.
+        Status::WriteFault => Status::NoMemory.number(),
+        _ => {
+            tell(rt, status);
+            status.number()
+        }
+    }
+}
+
+// Tells why there is no answer.
+fn tell(rt: &HostRuntime, status: Status) {
+    if let Ok(text) = status.text(rt.alloc()) {
+        let _told = eprint!(rt; "{text}");
+    }
+    if status == Status::BadWords {
+        let _told = eprintln!(rt; "passview: passview --help lists the words");
     }
 }
 
@@ -61,13 +93,12 @@ fn arguments(rt: &HostRuntime) -> io::Result<Vec<String>> {
     }
 }
 
-// Says that the folder can't be opened, unless it was for want of memory.
-fn unopened(rt: &HostRuntime, fault: HostFault) -> u8 {
-    match fault {
-        HostFault::Failed => {
-            let _written = println!(rt; "fault open");
-            UNOPENED
-        }
-        HostFault::NoMemory => Status::NoMemory.number(),
+// Says that the folder can't be opened and what to do, unless it was for want of memory.
+fn unopened(rt: &HostRuntime, folder: &str, fault: HostFault) -> u8 {
+    if fault == HostFault::NoMemory {
+        return Status::NoMemory.number();
     }
+    let _told = eprintln!(rt; "fault open");
+    let _advice = eprintln!(rt; "passview: {folder}: {fault}");
+    UNOPENED
 }

@@ -7,9 +7,9 @@ use Rattle.pass_ask.proofs.words.read_words.Goals as goal
 
 pub returns-in-Ok-try_get_matches_from-clause-command : goal.returns-in-Ok-try_get_matches_from-clause-command
 returns-in-Ok-try_get_matches_from-clause-command c =
-    subst (λ (o : Option Command). Reads c.command_found.result o)
+    subst (λ (o : Option Command). Reads c.taken.result o)
     (sym (taken_words _ (map string_bytes c.args.words.now) c.try_get_matches_from.result c.in-Ok-try_get_matches_from.matches c.in-Ok.ensures c.in-Ok-try_get_matches_from.is c.try_get_matches_from.ensures.kinds c.in-Ok-try_get_matches_from.ensures.matches))
-    c.command_found.ensures.command
+    c.taken.ensures.command
 
 pub returns-in-Err-clause-command : goal.returns-in-Err-clause-command
 returns-in-Err-clause-command c =

@@ -9,16 +9,29 @@ use pass_trace::Command;
 /// How many numbers of the trace a process has beside those of FIFOs.
 const ROOM_BESIDE_FIFOS: usize = 32;
 
+// Whether a path is that of a file in memory, which several may have.
+pub(crate) fn is_in_memory(path: &[u8]) -> bool {
+    path.starts_with(b"/memfd:")
+}
+
 impl Run<'_> {
     /// What the run was given as its first descriptors.
     pub fn give(&mut self, process: &mut Process) -> Taken {
         for number in 0..3u32 {
             let path = Vec::new(self.alloc);
             let opening = self.add_opening(What::Given(number), path, None, Mode::Both)?;
+            self.float(opening);
             let closes = false;
             process.give(number, Held { opening, closes })?;
         }
         Ok(())
+    }
+
+    // The position of an opening that no call of the run made isn't known.
+    fn float(&mut self, opening: usize) {
+        if let Some(opening) = self.openings.get_mut(opening) {
+            opening.floats = true;
+        }
     }
 
     /// The pipes of the FIFOs, of which each process has both ends.
@@ -58,7 +71,7 @@ impl Run<'_> {
                 .openings
                 .get(held.opening)
                 .is_some_and(|opening| opening.said.as_slice() == said);
-            if is_same || self.is_still(held.opening, said)? {
+            if is_same || self.is_still(process, held.opening, said)? {
                 return Ok(Some(held));
             }
         }
@@ -66,7 +79,12 @@ impl Run<'_> {
     }
 
     // Whether an opening is for what strace says by another path than before.
-    fn is_still(&mut self, opening: usize, said: &[u8]) -> Result<bool, LineFault> {
+    fn is_still(
+        &mut self,
+        process: &Process,
+        opening: usize,
+        said: &[u8],
+    ) -> Result<bool, LineFault> {
         let path = self.told_path(said)?;
         let what = self.what(opening);
         let settled = match what {
@@ -75,7 +93,7 @@ impl Run<'_> {
                 Named::File(other) if other != file => None,
                 Named::File(_) => Some(what),
                 Named::Unknown | Named::Absent | Named::Gone => {
-                    self.add_link(file, &path)?;
+                    self.add_link(process, file, &path)?;
                     Some(what)
                 }
             },
@@ -100,18 +118,21 @@ impl Run<'_> {
     }
 
     // The file of a descriptor has got a name that no call gave it.
-    fn add_link(&mut self, file: usize, path: &[u8]) -> Taken {
-        if outside(path).is_some() {
+    fn add_link(&mut self, process: &Process, file: usize, path: &[u8]) -> Taken {
+        if outside(path).is_some() || is_in_memory(path) {
             return Ok(());
         }
+        self.note_stale(path)?;
         let own = Vec::from_slice(self.alloc, path)?;
-        if let Some(one) = self.files.get_mut(file) {
-            if one.shown.is_some() {
+        match self.files.get_mut(file) {
+            Some(one) if one.shown.is_some() => {
                 one.links.insert(own)?;
-                self.files.set_name(self.alloc, path, Named::File(file))?;
             }
+            _ => return Ok(()),
         }
-        Ok(())
+        self.files.set_name(self.alloc, path, Named::File(file))?;
+        let to = self.spell(path)?;
+        self.say_link(process, file, to)
     }
 
     // What a descriptor that the run was given is for.
@@ -158,11 +179,17 @@ impl Run<'_> {
         if !path.starts_with(b"/") || outside(&path).is_some() {
             return Ok(process.held_at(number));
         }
-        let what = match self.find_or_add(&path)? {
+        let file = if is_in_memory(&path) {
+            None
+        } else {
+            self.find_or_add(&path)?
+        };
+        let what = match file {
             Some(file) => What::File(file),
             None => What::Unsaid(Skip::Descriptor),
         };
         let opening = self.add_opening(what, path, Some(said), Mode::Both)?;
+        self.float(opening);
         self.hold(process, number, opening, false)?;
         Ok(process.held_at(number))
     }
@@ -294,6 +321,7 @@ impl Run<'_> {
         opening: usize,
     ) -> Result<Option<u8>, LineFault> {
         if let Some(slot) = process.slot_of(opening) {
+            process.touch(slot);
             return Ok(Some(slot));
         }
         let Some(file) = self.file_of(opening) else {

@@ -1,47 +1,63 @@
 //! The calls that give names and take them away.
 
+use crate::descriptors::is_in_memory;
 use crate::run::Run;
 use pass_entry::Text;
-use pass_observed::{Named, Process, Shown, outside, own_descriptor, text_of, unspelled};
+use pass_observed::{Held, Named, Process, Shown, outside, own_descriptor, unspelled};
 use pass_syscall::{Base, LineFault, Parts, Skip, Taken, behind, number_of_field};
 use pass_trace::Command;
 
-/// The name that a file has while two exchange theirs; no path is spelled so.
-const BETWEEN: &str = "%:between";
+/// The path that a file has while two exchange theirs; no other has a zero byte.
+const BETWEEN: &[u8] = b"\0between";
 
 impl Run<'_> {
-    /// What happens to names below a folder that is renamed: the old path and the new one, where it is one.
+    /// A rename, or an exchange of two names: the paths that got others, the old one and the new one of each.
     pub fn rename(
         &mut self,
         process: &mut Process,
         parts: &Parts<'_>,
         below: bool,
-    ) -> Result<Option<(Vec<u8>, Vec<u8>)>, LineFault> {
+    ) -> Result<Vec<(Vec<u8>, Vec<u8>)>, LineFault> {
         let (first, second) = if below { (1, 3) } else { (0, 1) };
         let old = self.own_path_of(process, parts, first, below)?;
         let new = self.own_path_of(process, parts, second, below)?;
+        let mut moves = Vec::new(self.alloc);
         if old == new {
-            return Ok(None);
+            return Ok(moves);
         }
         if parts.has(4, b"RENAME_EXCHANGE") {
-            self.exchange(process, &old, &new)?;
-            return Ok(None);
+            let between = Vec::from_slice(self.alloc, BETWEEN)?;
+            moves.push((old.clone()?, between.clone()?))?;
+            moves.push((new.clone()?, old))?;
+            moves.push((between, new))?;
+        } else {
+            moves.push((old, new))?;
         }
-        if self.rename_link(process, &old, &new)? {
-            return Ok(None);
+        for (old, new) in &moves {
+            self.rename_all(process, old, new)?;
         }
-        self.find_below(&old)?;
-        let names = self.files.below(self.alloc, &old)?;
+        self.files.set_name(self.alloc, BETWEEN, Named::Unknown)?;
+        Ok(moves)
+    }
+
+    // A name, and those below it, are others.
+    fn rename_all(&mut self, process: &Process, old: &[u8], new: &[u8]) -> Taken {
+        self.files.replace(self.alloc, new)?;
+        if self.rename_link(process, old, new)? {
+            return Ok(());
+        }
+        self.links.move_below(old, new)?;
+        self.find_below(old)?;
+        let names = self.files.below(self.alloc, old)?;
         if names.is_empty() {
-            self.rename_path(process, &old, &new)?;
-            return Ok(None);
+            return self.rename_path(process, old, new);
         }
         for name in &names {
-            let mut moved = new.clone()?;
-            moved.extend_from_slice(name.strip_prefix(old.as_slice()).unwrap_or(&[]))?;
+            let mut moved = Vec::from_slice(self.alloc, new)?;
+            moved.extend_from_slice(name.strip_prefix(old).unwrap_or(&[]))?;
             self.rename_path(process, name, &moved)?;
         }
-        Ok(Some((old, new)))
+        Ok(())
     }
 
     // The path of a name whose own link a call takes, and not what that leads to. Where a link is rather one of its folder's, that is
@@ -58,7 +74,7 @@ impl Run<'_> {
             Some(real) => Vec::from_slice(self.alloc, real)?,
             None => return Ok(path),
         };
-        let _supposed = self.links.take(&path);
+        let _was_link = self.links.take(&path);
         self.learn_folder(&path, &real)?;
         Ok(real)
     }
@@ -70,15 +86,12 @@ impl Run<'_> {
         old: &[u8],
         new: &[u8],
     ) -> Result<bool, LineFault> {
-        let target = self.links.take(old);
-        let _over = self.links.take(new);
-        let Some(target) = target else {
+        if !self.links.rename(old, new)? {
             return Ok(false);
-        };
+        }
         if let Some(file) = self.files.place_of(new) {
             self.unlink_path(process, file, new)?;
         }
-        self.links.set(Vec::from_slice(self.alloc, new)?, target)?;
         Ok(true)
     }
 
@@ -225,45 +238,41 @@ impl Run<'_> {
             self.show(file, Some(shown));
         }
         // Where the file isn't shown by the name, the one that had it before has none in the trace either.
-        let is_hidden = from.is_none() || self.is_left_out(file);
-        if let (Some(other), true) = (freed, is_hidden) {
-            return self.say_named(process, other, Command::Unlink { name: to });
+        let is_left_out = self.is_left_out(file);
+        if let (Some(other), true) = (freed, from.is_none() || is_left_out) {
+            let name = to.clone()?;
+            self.say_named(process, other, Command::Unlink { name })?;
+            if is_left_out {
+                return Ok(());
+            }
         }
         match from {
             Some(from) => self.say_named(process, file, Command::Rename { from, to }),
-            None => Ok(()),
+            None => self.say_link(process, file, to),
         }
     }
 
-    // Two files exchange their names.
-    fn exchange(&mut self, process: &Process, one: &[u8], other: &[u8]) -> Taken {
-        let (Some(first), Some(second)) = (self.find_or_add(one)?, self.find_or_add(other)?) else {
+    /// A further name of a file, which the trace knows by one: it gives it the other one for a moment.
+    pub(crate) fn say_link(&mut self, process: &Process, file: usize, to: Text) -> Taken {
+        let Some(from) = self.name_in_trace(file)? else {
             return Ok(());
         };
-        let (from, to) = (self.spell(one)?, self.spell(other)?);
-        let Some(between) = text_of(self.alloc, BETWEEN.as_bytes())? else {
-            return Ok(());
-        };
-        self.files.set_name(self.alloc, one, Named::File(second))?;
-        self.files.set_name(self.alloc, other, Named::File(first))?;
-        let (shown, other_shown) = (self.shown(other)?, self.shown(one)?);
-        self.show(first, Some(shown));
-        self.show(second, Some(other_shown));
-        let aside = between.clone()?;
-        let (first_name, second_name) = (from.clone()?, to.clone()?);
-        self.say_named(process, first, Command::Rename { from, to: aside })?;
-        self.say_named(
-            process,
-            second,
-            Command::Rename {
-                from: second_name,
-                to: first_name,
-            },
-        )?;
-        self.say_named(process, first, Command::Rename { from: between, to })
+        let (back, aside) = (from.clone()?, to.clone()?);
+        self.say_named(process, file, Command::Rename { from, to: aside })?;
+        self.say_named(process, file, Command::Rename { from: to, to: back })
     }
 
-    /// A further name of a file. The trace knows it by one name, and gives it the other one for a moment.
+    // What the store has by a path that was free when the run began is gone.
+    pub(crate) fn note_stale(&mut self, path: &[u8]) -> Taken {
+        let is_free = matches!(self.files.named(path), Named::Unknown | Named::Absent);
+        if is_free && self.is_stored(path)? {
+            let name = self.spell(path)?;
+            self.stale.push(name)?;
+        }
+        Ok(())
+    }
+
+    /// A further name of a file, by which it is also known from then on.
     pub fn link(&mut self, process: &mut Process, parts: &Parts<'_>, below: bool) -> Taken {
         let (first, second) = if below { (1, 3) } else { (0, 1) };
         let follows = parts.has(4, b"AT_SYMLINK_FOLLOW");
@@ -274,11 +283,11 @@ impl Run<'_> {
         };
         let new = self.path_of(process, parts, second, below, false)?;
         let held = match (parts.has(4, b"AT_EMPTY_PATH"), parts.base(first, below)?) {
-            (true, Base::Held(fd)) => Some(fd.number),
-            _ => own_descriptor(&old),
+            (true, Base::Held(fd)) => self.held(process, fd)?,
+            _ => own_descriptor(&old).and_then(|number| process.held_at(number)),
         };
-        let file = match held.and_then(|number| process.held_at(number)) {
-            Some(held) => self.file_of(held.opening),
+        let file = match held {
+            Some(held) => self.held_file(held)?,
             None => self.find_or_add(&old)?,
         };
         match file {
@@ -287,16 +296,26 @@ impl Run<'_> {
         }
     }
 
+    /// The file that a descriptor is for, or one that was opened for its path alone.
+    pub fn held_file(&mut self, held: Held) -> Result<Option<usize>, LineFault> {
+        if let Some(file) = self.file_of(held.opening) {
+            return Ok(Some(file));
+        }
+        let path = Vec::from_slice(self.alloc, self.opened_path(held.opening))?;
+        if !path.starts_with(b"/") || is_in_memory(&path) {
+            self.skip(Skip::Descriptor)?;
+            return Ok(None);
+        }
+        self.find_or_add(&path)
+    }
+
     fn link_file(&mut self, process: &Process, file: usize, new: Vec<u8>) -> Taken {
         if outside(&new).is_some() {
             return self.skip(Skip::Device);
         }
         self.note_use(file, true, true)?;
         let shown = self.shown(&new)?;
-        let is_free = matches!(self.files.named(&new), Named::Unknown | Named::Absent);
-        if is_free && self.is_stored(&new)? {
-            self.stale.push(shown.name.clone()?)?;
-        }
+        self.note_stale(&new)?;
         self.files.set_name(self.alloc, &new, Named::File(file))?;
         let Some(from) = self.name_in_trace(file)? else {
             return Ok(());
@@ -310,14 +329,12 @@ impl Run<'_> {
         if let Some(one) = self.files.get_mut(file) {
             one.links.insert(new)?;
         }
-        let (back, aside) = (from.clone()?, to.clone()?);
-        self.say_named(process, file, Command::Rename { from, to: aside })?;
-        self.say_named(process, file, Command::Rename { from: to, to: back })
+        self.say_link(process, file, to)
     }
 
     pub fn unlink(&mut self, process: &mut Process, parts: &Parts<'_>, below: bool) -> Taken {
         let path = self.own_path_of(process, parts, usize::from(below), below)?;
-        if parts.has(2, b"AT_REMOVEDIR") || self.links.take(&path).is_some() {
+        if parts.has(2, b"AT_REMOVEDIR") || self.links.take(&path) {
             return Ok(());
         }
         let is_stored = self.is_stored(&path)?;

@@ -8,6 +8,9 @@ use pass_observed::{
 use pass_syscall::{BAD, Fd, LineFault, Parts, Skip, Taken, fd_among};
 use pass_trace::Command;
 
+/// The flag of an opening that appends, as Linux answers it.
+const O_APPEND: u64 = 0x400;
+
 /// How a file is opened.
 #[derive(Clone, Copy)]
 pub(crate) struct Ways {
@@ -58,53 +61,71 @@ impl Run<'_> {
         let name = usize::from(below);
         let flags = name.saturating_add(1);
         let ways = Ways::of(parts, flags);
-        let path = self.path_of(process, parts, name, below, ways.follows)?;
+        let asked = self.spelled_path(process, parts, name, below)?;
         let fd = parts.given()?;
         if parts.has(flags, b"O_TMPFILE") || parts.has(flags, b"__O_TMPFILE") {
             return self.make_nameless(process, fd, ways);
         }
         if parts.has(flags, b"O_DIRECTORY") || parts.has(flags, b"O_PATH") {
-            return self.open_folder(process, fd, path, ways);
+            let real = self.real_path(fd, &asked, ways.follows)?;
+            return self.open_folder(process, fd, real, ways);
         }
-        self.open_path(process, fd, path, ways)
+        self.open_path(process, fd, asked, ways)
     }
 
     pub fn creat(&mut self, process: &mut Process, parts: &Parts<'_>) -> Taken {
-        let path = self.path_of(process, parts, 0, false, true)?;
-        self.open_path(process, parts.given()?, path, Ways::CREAT)
+        let asked = self.spelled_path(process, parts, 0, false)?;
+        self.open_path(process, parts.given()?, asked, Ways::CREAT)
     }
 
+    // A folder, or what is opened for its path alone.
     fn open_folder(
         &mut self,
         process: &mut Process,
         fd: Fd<'_>,
-        path: Vec<u8>,
+        real: Vec<u8>,
         ways: Ways,
     ) -> Taken {
-        let real = self.real_path(fd, &path, true)?;
         let opening = self.add_opening(What::Folder, real, fd.path, Mode::Read)?;
         self.hold(process, fd.number, opening, ways.closes)
     }
 
-    // The path that strace tells of what was opened, and else the one that was asked for. Where they differ, that is a link, the path's
-    // own where it may be one and else its folder's.
-    fn real_path(&mut self, fd: Fd<'_>, path: &[u8], is_own: bool) -> Result<Vec<u8>, LineFault> {
+    // The path that strace tells of what was opened, and else the one that was asked for, through the links that are known. Where these
+    // lead elsewhere, there is another link, the path's own where it may be one and else its folder's.
+    fn real_path(&mut self, fd: Fd<'_>, asked: &[u8], is_own: bool) -> Result<Vec<u8>, LineFault> {
+        let path = self.links.resolved(&[], asked, is_own)?;
         let Some(said) = fd.path else {
-            return Ok(Vec::from_slice(self.alloc, path)?);
+            return Ok(path);
         };
         let real = self.told_path(said)?;
         let is_file = real.starts_with(b"/") && path.starts_with(b"/");
-        if !is_file || outside(path).is_some() || outside(&real).is_some() {
+        if !is_file || outside(&path).is_some() || outside(&real).is_some() {
             return Ok(real);
         }
-        if real.as_slice() == path {
-            self.links.note_folder(split_last(path).0)?;
+        if path == real {
+            self.links.note_folder(split_last(&path).0)?;
+        } else if asked == real.as_slice() {
+            self.links.doubt(asked, true)?;
         } else if is_own {
-            self.learn(path, &real)?;
+            self.learn_again(asked, &real)?;
         } else {
-            self.learn_folder(path, &real)?;
+            self.learn_folder(&path, &real)?;
         }
         Ok(real)
+    }
+
+    // A path that was opened leads to another than the links that are known let expect.
+    fn learn_again(&mut self, asked: &[u8], real: &[u8]) -> Taken {
+        let path = self.links.asked(asked)?;
+        if split_last(&path).1 != split_last(real).1 {
+            return self.learn(&path, real);
+        }
+        self.links.doubt(asked, false)?;
+        let path = self.links.asked(asked)?;
+        if path.as_slice() == real {
+            return Ok(());
+        }
+        self.learn(&path, real)
     }
 
     // A path that leads to another is a link, unless both have the same last part: then its folder may be one.
@@ -113,7 +134,7 @@ impl Run<'_> {
         let path = Vec::from_slice(self.alloc, path)?;
         let real = Vec::from_slice(self.alloc, real)?;
         if is_own {
-            self.links.set(path, real)?;
+            self.links.learn(path, real)?;
         } else {
             self.links.suppose(path, real)?;
         }
@@ -130,8 +151,15 @@ impl Run<'_> {
         Ok(())
     }
 
-    fn open_path(&mut self, process: &mut Process, fd: Fd<'_>, path: Vec<u8>, ways: Ways) -> Taken {
-        let real = self.real_path(fd, &path, ways.follows)?;
+    fn open_path(
+        &mut self,
+        process: &mut Process,
+        fd: Fd<'_>,
+        asked: Vec<u8>,
+        ways: Ways,
+    ) -> Taken {
+        let path = self.links.resolved(&[], &asked, ways.follows)?;
+        let real = self.real_path(fd, &asked, ways.follows)?;
         if let Some(pipe) = self.fifos.get(real.as_slice()) {
             let pipe = *pipe;
             return match pipe {
@@ -148,10 +176,20 @@ impl Run<'_> {
         if let Some(skip) = outside(&real) {
             return self.hold_unsaid(process, fd, skip, real);
         }
-        if real.as_slice() == process.folder.as_slice() {
+        if self.is_folder(process, &real, ways)? {
             return self.open_folder(process, fd, real, ways);
         }
         self.open_file(process, fd, real, ways)
+    }
+
+    // Whether a path is that of a folder, as other names tell.
+    fn is_folder(&self, process: &Process, path: &[u8], ways: Ways) -> Result<bool, LineFault> {
+        if path == process.folder.as_slice() || path == b"/".as_slice() {
+            return Ok(true);
+        }
+        let may_be = ways.mode == Mode::Read && !ways.creates && path.starts_with(b"/");
+        let is_unknown = matches!(self.files.named(path), Named::Unknown | Named::Absent);
+        Ok(may_be && is_unknown && self.files.is_folder(self.alloc, path)?)
     }
 
     // The descriptor of its own that a process opens by a name such as /dev/fd/3.
@@ -185,12 +223,17 @@ impl Run<'_> {
             What::File(file) if self.has_name(file) => {
                 self.open_known(process, fd, file, path, ways)
             }
-            What::Given(_) if path.starts_with(b"/") && outside(&path).is_none() => {
-                self.open_file(process, fd, path, ways)
-            }
             What::Pipe { writes, .. } if writes == (ways.mode == Mode::Read) => {
                 self.hold_unsaid(process, fd, Skip::Descriptor, path)
             }
+            What::Given(_) if path.starts_with(b"/") && outside(&path).is_none() => {
+                self.open_file(process, fd, path, ways)
+            }
+            // What was opened for its path alone is opened by that.
+            What::Folder | What::Unsaid(_) if path.starts_with(b"/") => match outside(&path) {
+                Some(skip) => self.hold_unsaid(process, fd, skip, path),
+                None => self.open_file(process, fd, path, ways),
+            },
             _ => self.hold(process, fd.number, held.opening, ways.closes),
         }
     }
@@ -246,17 +289,25 @@ impl Run<'_> {
         let shown = self.shown(&path)?;
         let file = self.files.add(self.alloc, shown, Origin::Made)?;
         self.note_use(file, true, true)?;
-        let Some(slot) = self.hold_file(process, fd, file, path, ways)? else {
+        let own = path.clone()?;
+        let Some(slot) = self.hold_file(process, fd, file, own, ways)? else {
             return Ok(());
         };
         if let Some(file) = self.files.get_mut(file) {
             file.written = ways.creates;
             file.unseen = !ways.creates;
+            file.tagged = !ways.creates;
         }
-        match self.name_in_trace(file)? {
-            Some(name) => self.say(process, Command::Creat { fd: slot, name }),
-            None => Ok(()),
+        let Some(name) = self.name_in_trace(file)? else {
+            return Ok(());
+        };
+        self.say(process, Command::Creat { fd: slot, name })?;
+        if ways.creates {
+            return Ok(());
         }
+        // It was there, but process 1 can't make it, since it has made what had the name before.
+        self.say_unknown(process, slot)?;
+        self.skip_on(Skip::Descriptor, &path)
     }
 
     // Opens a file that is there.
@@ -374,6 +425,23 @@ impl Run<'_> {
             let fd = parts.fd(0)?.number;
             process.set_closes(fd, fd, parts.has(2, b"FD_CLOEXEC"));
         }
+        if parts.has(1, b"F_SETFL") {
+            return self.set_appends(process, parts.fd(0)?, parts.has(2, b"O_APPEND"));
+        }
+        if parts.has(1, b"F_GETFL") {
+            let appends = parts.count()? & O_APPEND != 0;
+            return self.set_appends(process, parts.fd(0)?, appends);
+        }
+        Ok(())
+    }
+
+    // Whether each write of an opening goes behind the file's end.
+    fn set_appends(&mut self, process: &mut Process, fd: Fd<'_>, appends: bool) -> Taken {
+        if let Some(held) = self.held(process, fd)? {
+            if let Some(opening) = self.openings.get_mut(held.opening) {
+                opening.appends = appends;
+            }
+        }
         Ok(())
     }
 
@@ -396,7 +464,12 @@ impl Run<'_> {
         self.pipes.add(ends[0], ends[1])?;
         match slots {
             [Some(reader), Some(writer)] => self.say(process, Command::Pipe { reader, writer }),
-            _ => self.skip(Skip::Descriptor),
+            [first, _] => {
+                if let Some(slot) = first {
+                    let _slot = process.vacate(slot);
+                }
+                self.skip(Skip::Descriptor)
+            }
         }
     }
 

@@ -3,8 +3,8 @@
 use crate::output::Output;
 use pass_entry::{Mode, Text};
 use pass_observed::{
-    Files, Ledger, Links, Named, Origin, Pipes, Process, Shown, Stored, Survey, Touch, below,
-    name_of, outside,
+    ATTRIBUTE, Files, Ledger, Links, Loaders, Named, Origin, Pipes, Process, Shown, Stored, Survey,
+    Touch, UNKNOWN, below, joined, name_of, outside, text_of,
 };
 use pass_syscall::{BAD, Base, LineFault, Parts, Skip, Taken, unescaped};
 use pass_trace::Command;
@@ -30,6 +30,8 @@ pub struct Opening {
     /// The same as strace last wrote it.
     pub said: Vec<u8>,
     pub at: u64,
+    /// Its position isn't known, since no call of the run opened it.
+    pub floats: bool,
     pub appends: bool,
     pub mode: Mode,
 }
@@ -63,6 +65,8 @@ pub struct Setting<'a> {
     pub root: &'a [u8],
     /// The absolute path of where the run began, or no bytes.
     pub base: &'a [u8],
+    /// What loads programs, as far as that was looked for.
+    pub loaders: &'a Loaders,
     pub known: &'a Known,
 }
 
@@ -71,6 +75,7 @@ impl<'a> Setting<'a> {
         survey: &'a Survey,
         stored: &'a Stored,
         root: &'a [u8],
+        loaders: &'a Loaders,
         known: &'a Known,
     ) -> Setting<'a> {
         let base = survey.base.as_slice();
@@ -78,9 +83,27 @@ impl<'a> Setting<'a> {
             stored,
             root,
             base,
+            loaders,
             known,
         }
     }
+}
+
+/// A program that a process ran, or the interpreter of a script.
+#[derive(Drop)]
+pub struct Program {
+    /// Its path when it was run.
+    pub path: Vec<u8>,
+    /// It was written to since, or has another name.
+    pub changed: bool,
+}
+
+// A file that was run: its path, and how often it had been written to.
+#[derive(Drop)]
+struct Ran {
+    file: usize,
+    path: Vec<u8>,
+    writes: u64,
 }
 
 #[derive(Drop)]
@@ -103,6 +126,9 @@ pub struct Run<'a> {
     pub ledger: Ledger,
     /// The files that were copied before their bytes were shown.
     pub copied: BTreeSet<usize>,
+    /// How many changes there were of files that processes share in memory.
+    pub changes: u64,
+    ran: Vec<Ran>,
 }
 
 impl<'a> Run<'a> {
@@ -126,11 +152,52 @@ impl<'a> Run<'a> {
             out: Output::new(alloc),
             ledger: Ledger::new(alloc),
             copied: BTreeSet::new(alloc),
+            changes: 0,
+            ran: Vec::new(alloc),
+        }
+    }
+
+    /// A file is run as a program.
+    pub fn note_program(&mut self, file: usize) -> Result<(), AllocError> {
+        if let Some(one) = self.files.get(file) {
+            let path = Vec::from_slice(self.alloc, one.path())?;
+            let writes = one.writes;
+            self.ran.push(Ran { file, path, writes })?;
+        }
+        Ok(())
+    }
+
+    /// The programs of the run, each as often as it was run.
+    pub fn programs(&self) -> Result<Vec<Program>, AllocError> {
+        let mut programs = Vec::new(self.alloc);
+        for ran in &self.ran {
+            let path = ran.path.clone()?;
+            let changed = self.has_changed(ran);
+            programs.push(Program { path, changed })?;
+        }
+        Ok(programs)
+    }
+
+    fn has_changed(&self, ran: &Ran) -> bool {
+        match self.files.get(ran.file) {
+            Some(file) => match &file.shown {
+                Some(shown) => file.writes != ran.writes
+                    || shown.path.as_slice() != ran.path.as_slice(),
+                None => true,
+            },
+            None => true,
         }
     }
 
     pub fn say(&mut self, process: &Process, command: Command) -> Taken {
         Ok(self.out.push(self.line, process.number, command)?)
+    }
+
+    /// The version of a descriptor's file has bytes that the text doesn't show.
+    pub fn say_unknown(&mut self, process: &Process, fd: u8) -> Taken {
+        let attr = text_of(self.alloc, ATTRIBUTE.as_bytes())?.ok_or(BAD)?;
+        let value = text_of(self.alloc, UNKNOWN.as_bytes())?.ok_or(BAD)?;
+        self.say(process, Command::Tag { fd, attr, value })
     }
 
     /// The call that is told now is in no line of the trace.
@@ -155,7 +222,7 @@ impl<'a> Run<'a> {
         }
     }
 
-    /// The path of the name at a place, which may stand behind its folder. No link leads to a folder that strace tells.
+    /// The path of the name at a place, through the links that are known; the last part's own only where it is followed.
     pub fn path_of(
         &mut self,
         process: &mut Process,
@@ -164,6 +231,18 @@ impl<'a> Run<'a> {
         below: bool,
         follows: bool,
     ) -> Result<Vec<u8>, LineFault> {
+        let path = self.spelled_path(process, parts, place, below)?;
+        Ok(self.links.resolved(&[], &path, follows)?)
+    }
+
+    /// The same as it is spelled, which may stand behind its folder. No link leads to a folder that strace tells.
+    pub(crate) fn spelled_path(
+        &mut self,
+        process: &mut Process,
+        parts: &Parts<'_>,
+        place: usize,
+        below: bool,
+    ) -> Result<Vec<u8>, LineFault> {
         let name = parts.bytes(self.alloc, place)?;
         let base = parts.base(place, below)?;
         if let Base::Own(Some(said)) = base {
@@ -171,17 +250,15 @@ impl<'a> Run<'a> {
             self.links.note_folder(&process.folder)?;
         }
         let path = match base {
-            Base::Own(_) => self.links.resolved(&process.folder, &name, follows)?,
+            Base::Own(_) => joined(self.alloc, &process.folder, &name)?,
             Base::Held(fd) => match (fd.path, process.held_at(fd.number)) {
                 (Some(said), _) => {
                     let folder = self.told_path(said)?;
                     self.links.note_folder(&folder)?;
-                    self.links.resolved(&folder, &name, follows)?
+                    joined(self.alloc, &folder, &name)?
                 }
-                (None, Some(held)) => self
-                    .links
-                    .resolved(self.opened_path(held.opening), &name, follows)?,
-                (None, None) => self.links.resolved(&[], &name, follows)?,
+                (None, Some(held)) => joined(self.alloc, self.opened_path(held.opening), &name)?,
+                (None, None) => joined(self.alloc, &[], &name)?,
             },
         };
         Ok(path)
@@ -247,10 +324,10 @@ impl<'a> Run<'a> {
     pub(crate) fn add_before(&mut self, path: &[u8]) -> Result<usize, LineFault> {
         let shown = self.shown(path)?;
         let stored = self.setting.stored.named(shown.name.as_bytes());
-        let kept = stored.map(|stored| stored.size);
+        let kept = stored.map(|stored| (stored.size, !stored.unseen));
         let place = self.files.add(self.alloc, shown, Origin::Before)?;
-        if let (Some(size), Some(file)) = (kept, self.files.get_mut(place)) {
-            file.keep(size);
+        if let (Some((size, is_seen)), Some(file)) = (kept, self.files.get_mut(place)) {
+            file.keep(size, is_seen);
         }
         Ok(place)
     }
@@ -279,6 +356,7 @@ impl<'a> Run<'a> {
             path,
             said: Vec::from_slice(self.alloc, said.unwrap_or(&[]))?,
             at: 0,
+            floats: false,
             appends: false,
             mode,
         })?;
@@ -310,6 +388,9 @@ impl<'a> Run<'a> {
         } else {
             one.content.note(touch, changes)
         };
+        if one.shared && changes && !name {
+            self.changes = self.changes.saturating_add(1);
+        }
         if meets {
             let skip = if name {
                 Skip::OverlapName

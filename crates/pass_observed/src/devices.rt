@@ -2,8 +2,8 @@
 
 use pass_syscall::{Skip, behind, small_of};
 
-/// Why a path is none of a file of the trace. What a system answers below /proc and /sys, and devices that keep and bring nothing of
-/// the run's, aren't told.
+/// Why a path is none of a file of the trace. What a system answers below /proc and /sys, devices that keep and bring nothing of the
+/// run's, and terminals aren't told. What the run wrote to a terminal comes back by the device that made it, which is told.
 pub fn outside(path: &[u8]) -> Option<Skip> {
     if path.starts_with(b"/proc/") || path.starts_with(b"/sys/") {
         return Some(Skip::Quiet);
@@ -19,9 +19,9 @@ pub fn outside(path: &[u8]) -> Option<Skip> {
         b"random".as_slice(),
         b"urandom".as_slice(),
         b"tty".as_slice(),
-        b"ptmx".as_slice(),
     ];
-    if quiet.iter().any(|name| *name == device) || device.starts_with(b"pts/") {
+    let is_terminal = device.starts_with(b"pts/") && device != b"pts/ptmx".as_slice();
+    if is_terminal || quiet.iter().any(|name| *name == device) {
         return Some(Skip::Quiet);
     }
     Some(Skip::Device)

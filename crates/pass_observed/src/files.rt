@@ -45,6 +45,8 @@ pub struct File {
     /// It has bytes that the text doesn't show; and its version says so.
     pub unseen: bool,
     pub tagged: bool,
+    /// A process shares it in memory.
+    pub shared: bool,
     /// How often it was written to.
     pub writes: u64,
     /// The last calls on its bytes, and on its names.
@@ -70,6 +72,15 @@ pub struct Files {
     names: BTreeMap<Vec<u8>, Named>,
 }
 
+impl Named {
+    // A name that wasn't there may be there.
+    fn forget(&mut self) {
+        if matches!(self, Named::Absent) {
+            *self = Named::Unknown;
+        }
+    }
+}
+
 impl Shown {
     pub(crate) fn copy(&self) -> Result<Shown, AllocError> {
         Ok(Shown {
@@ -93,16 +104,17 @@ impl File {
             written: false,
             unseen: false,
             tagged: false,
+            shared: false,
             writes: 0,
             content: Touches::NONE,
             naming: Touches::NONE,
         })
     }
 
-    /// The store has it with this size.
-    pub fn keep(&mut self, size: u64) {
+    /// The store has it with this size, and with its bytes or not.
+    pub fn keep(&mut self, size: u64, is_seen: bool) {
         self.size = size;
-        self.kept = Some(size);
+        self.kept = is_seen.then_some(size);
     }
 
     /// A call tells its size.
@@ -147,7 +159,7 @@ impl File {
         bytes: &[u8],
         short: bool,
     ) -> Result<(), AllocError> {
-        self.size = self.size.max(at.saturating_add(count).min(FILE_LIMIT));
+        self.reach(at, count);
         self.tagged = false;
         if self.origin == Origin::Before {
             let bytes = Vec::from_slice(alloc, bytes)?;
@@ -156,8 +168,31 @@ impl File {
         Ok(())
     }
 
+    // It goes as far as a call moved bytes; one that moved none tells of none.
+    fn reach(&mut self, at: u64, count: u64) {
+        if count > 0 {
+            self.size = self.size.max(at.saturating_add(count).min(FILE_LIMIT));
+        }
+    }
+
+    /// Whether a read of so many bytes is of more than the run's own calls can have brought: the text lacks one.
+    pub fn lacks(&self, at: u64, count: u64) -> bool {
+        let end = at.saturating_add(count).min(FILE_LIMIT);
+        self.origin == Origin::Made && !self.unseen && count > 0 && self.size < end
+    }
+
+    /// Whether a call told that it ended at a place before the run.
+    pub fn ended_at(&self, place: u64) -> bool {
+        self.origin == Origin::Before && self.image.told() == Some(place)
+    }
+
+    /// Whether it is known to have no bytes.
+    pub fn is_empty(&self) -> bool {
+        self.size == 0 && self.has_end()
+    }
+
     pub fn write(&mut self, at: u64, count: u64) -> Result<(), AllocError> {
-        self.size = self.size.max(at.saturating_add(count).min(FILE_LIMIT));
+        self.reach(at, count);
         self.written = true;
         self.writes = self.writes.saturating_add(1);
         if self.origin == Origin::Before {
@@ -228,6 +263,37 @@ impl Files {
         self.files.push(File::new(alloc, shown, origin)?)?;
         self.set_name(alloc, &path, Named::File(place))?;
         Ok(place)
+    }
+
+    /// Whether a path is that of a folder, since a name of a file lies below it.
+    pub fn is_folder(&self, alloc: Global, path: &[u8]) -> Result<bool, AllocError> {
+        let mut least = Vec::from_slice(alloc, path)?;
+        least.push(b'/')?;
+        for (name, named) in self.names.range(least.clone()?..) {
+            if !name.as_slice().starts_with(least.as_slice()) {
+                break;
+            }
+            if matches!(named, Named::File(_)) {
+                return Ok(true);
+            }
+        }
+        Ok(false)
+    }
+
+    /// Something else has got a path: what wasn't there by that name, and by names below it, may be there by now.
+    pub fn replace(&mut self, alloc: Global, path: &[u8]) -> Result<(), AllocError> {
+        let mut below = Vec::from_slice(alloc, path)?;
+        if let Some(named) = self.names.get_mut(path) {
+            named.forget();
+        }
+        below.push(b'/')?;
+        for (name, named) in self.names.range_mut(below.clone()?..) {
+            if !name.as_slice().starts_with(below.as_slice()) {
+                break;
+            }
+            named.forget();
+        }
+        Ok(())
     }
 
     /// The names of files below a folder.

@@ -24,6 +24,8 @@ pub struct Image {
     end: Option<u64>,
     /// Where it ended, as a call tells that moves no bytes.
     told: Option<u64>,
+    /// Where it ended at most, as a read tells that found nothing behind what was reached.
+    most: u64,
 }
 
 /// The bytes that were there before a run, as far as it reached, and those of them that it showed.
@@ -32,6 +34,8 @@ pub struct Before {
     pub bytes: Vec<u8>,
     seen: Vec<bool>,
     pub end: Option<u64>,
+    /// Where they ended at most.
+    pub most: u64,
 }
 
 impl Image {
@@ -44,6 +48,7 @@ impl Image {
             grown: 0,
             end: None,
             told: None,
+            most: FILE_LIMIT,
         }
     }
 
@@ -59,7 +64,14 @@ impl Image {
         if self.cut < end || FILE_LIMIT <= at {
             return Ok(());
         }
-        if short && self.grown < end && self.cut == FILE_LIMIT {
+        let is_end = short && self.grown < end && self.cut == FILE_LIMIT;
+        if count == 0 && self.reached < at {
+            if is_end {
+                self.most = self.most.min(end);
+            }
+            return Ok(());
+        }
+        if is_end {
             self.end = Some(end);
         }
         self.reached = self.reached.max(end);
@@ -110,7 +122,7 @@ impl Image {
     pub fn hides(&self, place: u64) -> bool {
         let end = match (self.end, self.told) {
             (Some(end), _) | (None, Some(end)) => end,
-            (None, None) => place,
+            (None, None) => self.most,
         };
         self.known < place.min(end).min(self.cut)
     }
@@ -123,10 +135,12 @@ impl Image {
     /// The bytes as they were before the run: those that it read before it wrote over them.
     pub fn before(&self, alloc: Global) -> Result<Before, AllocError> {
         let len = self.reached as usize;
+        let most = self.end.or(self.told).unwrap_or(self.most);
         let mut before = Before {
             bytes: vec![in alloc; 0u8; len]?,
             seen: vec![in alloc; false; len]?,
             end: self.end,
+            most: most.max(self.reached),
         };
         let mut over = vec![in alloc; false; len]?;
         for telling in &self.tellings {

@@ -42,7 +42,7 @@ impl Ledger {
         }
     }
 
-    /// Tells once what isn't known, and counts it then.
+    /// Tells once what isn't known, and counts it then. What is quiet isn't told.
     pub fn tell(&mut self, line: u64, skip: Skip, what: &[u8]) -> Result<(), AllocError> {
         if skip == Skip::Quiet {
             return Ok(());

@@ -8,17 +8,25 @@ pub struct Touch {
     pub ended: u64,
 }
 
-// The calls of two processes that ended last.
+// The calls of two processes that ended last, the later one first.
 #[derive(Clone, Copy)]
 struct Latest {
-    last: Option<Touch>,
-    other: Option<Touch>,
+    first: Option<Touch>,
+    second: Option<Touch>,
+}
+
+// Which of two calls ended later.
+fn later(before: Option<Touch>, touch: Touch) -> Option<Touch> {
+    match before {
+        Some(before) if touch.ended < before.ended => Some(before),
+        _ => Some(touch),
+    }
 }
 
 impl Latest {
     const NONE: Latest = Latest {
-        last: None,
-        other: None,
+        first: None,
+        second: None,
     };
 
     // Whether a call of another process had not ended when this one began.
@@ -27,18 +35,21 @@ impl Latest {
             before.is_some_and(|before| before.process != touch.process
                 && before.ended > touch.begun)
         };
-        meets(self.last) || meets(self.other)
+        meets(self.first) || meets(self.second)
     }
 
     fn note(&mut self, touch: Touch) {
-        match self.last {
-            Some(last) if last.process == touch.process => {
-                let ended = last.ended.max(touch.ended);
-                self.last = Some(Touch { ended, ..touch });
+        match self.first {
+            Some(first) if touch.ended <= first.ended => {
+                if touch.process != first.process {
+                    self.second = later(self.second, touch);
+                }
             }
-            last => {
-                self.other = last;
-                self.last = Some(touch);
+            first => {
+                if first.is_some_and(|first| first.process != touch.process) {
+                    self.second = first;
+                }
+                self.first = Some(touch);
             }
         }
     }

@@ -7,6 +7,9 @@ use std::collections::{BTreeMap, BTreeSet};
 /// How many links one name goes through at most, as in Linux.
 const MOST_LINKS: usize = 40;
 
+/// How long a path is at most, as in Linux.
+const LONGEST: usize = 4_096;
+
 // Puts a part behind a path.
 fn down(path: &mut Vec<u8>, part: &[u8]) -> Result<(), AllocError> {
     if !path.is_empty() && !path.ends_with(b"/") {
@@ -42,7 +45,7 @@ fn enter(path: &mut Vec<u8>, part: &[u8]) -> Result<(), AllocError> {
 }
 
 /// The path of a name from a folder, by the parts alone. One that is absolute begins with a slash.
-pub(crate) fn joined(alloc: Global, folder: &[u8], name: &[u8]) -> Result<Vec<u8>, AllocError> {
+pub fn joined(alloc: Global, folder: &[u8], name: &[u8]) -> Result<Vec<u8>, AllocError> {
     let mut path = Vec::new(alloc);
     if name.starts_with(b"/") {
         path.push(b'/')?;
@@ -67,12 +70,22 @@ pub fn below<'a>(folder: &[u8], path: &'a [u8]) -> Option<&'a [u8]> {
     rest.strip_prefix(b"/")
 }
 
-// What a path leads to. Where that has the same last part, and no call told which part is the link, it may be one of the path's
-// folders.
+// How it is known what a path leads to.
+#[derive(Clone, Copy, PartialEq)]
+enum Ground {
+    /// A call made the link, or read it.
+    Told,
+    /// An open shows where the path leads in the end.
+    Learned,
+    /// The same, where both have the same last part, and no call told which part is the link: it may be one of the path's folders.
+    Supposed,
+}
+
+// What a path leads to.
 #[derive(Drop)]
 struct Link {
     target: Vec<u8>,
-    is_own: bool,
+    ground: Ground,
 }
 
 /// The symbolic links that are known, by their paths, and folders to whose paths no link leads.
@@ -92,31 +105,75 @@ impl Links {
         }
     }
 
+    fn put(&mut self, path: Vec<u8>, link: Link) -> Result<(), AllocError> {
+        let _folder = self.folders.remove(path.as_slice());
+        self.targets.insert(path, link)?;
+        Ok(())
+    }
+
     /// A path is a link to a target.
     pub fn set(&mut self, path: Vec<u8>, target: Vec<u8>) -> Result<(), AllocError> {
-        let is_own = true;
-        let _folder = self.folders.remove(path.as_slice());
-        self.targets.insert(path, Link { target, is_own })?;
-        Ok(())
+        let ground = Ground::Told;
+        self.put(path, Link { target, ground })
+    }
+
+    /// A path leads to a target in the end, by a link of its own.
+    pub fn learn(&mut self, path: Vec<u8>, target: Vec<u8>) -> Result<(), AllocError> {
+        let ground = Ground::Learned;
+        self.put(path, Link { target, ground })
     }
 
     /// A path leads to a target with the same last part, by a link of its own or by one of its folder's.
     pub fn suppose(&mut self, path: Vec<u8>, target: Vec<u8>) -> Result<(), AllocError> {
-        let is_own = false;
-        let _folder = self.folders.remove(path.as_slice());
-        self.targets.insert(path, Link { target, is_own })?;
-        Ok(())
+        let ground = Ground::Supposed;
+        self.put(path, Link { target, ground })
     }
 
-    pub fn take(&mut self, path: &[u8]) -> Option<Vec<u8>> {
-        let Link { target, .. } = self.targets.remove(path)?;
-        Some(target)
+    /// A link goes by its path. Whether there was one.
+    pub fn take(&mut self, path: &[u8]) -> bool {
+        self.targets.remove(path).is_some()
+    }
+
+    /// A link gets another path, in place of what had that. Whether there is one.
+    pub fn rename(&mut self, old: &[u8], new: &[u8]) -> Result<bool, AllocError> {
+        let link = self.targets.remove(old);
+        let _over = self.targets.remove(new);
+        let Some(link) = link else {
+            return Ok(false);
+        };
+        self.put(Vec::from_slice(self.alloc, new)?, link)?;
+        Ok(true)
+    }
+
+    /// The links below a folder have other paths, as it has. What opens showed of them isn't known any more.
+    pub fn move_below(&mut self, old: &[u8], new: &[u8]) -> Result<(), AllocError> {
+        let mut front = Vec::from_slice(self.alloc, old)?;
+        front.push(b'/')?;
+        let mut paths = Vec::new(self.alloc);
+        for (path, _) in self.targets.range(front.clone()?..) {
+            if !path.as_slice().starts_with(front.as_slice()) {
+                break;
+            }
+            paths.push(path.clone()?)?;
+        }
+        for path in &paths {
+            let mut moved = Vec::from_slice(self.alloc, new)?;
+            moved.extend_from_slice(behind(path, old.len()))?;
+            if let Some(link) = self.targets.remove(path.as_slice()) {
+                if link.ground == Ground::Told {
+                    self.put(moved, link)?;
+                }
+            }
+        }
+        Ok(())
     }
 
     /// A path that is known to lead somewhere is itself a link.
     pub fn confirm(&mut self, path: &[u8]) {
         if let Some(link) = self.targets.get_mut(path) {
-            link.is_own = true;
+            if link.ground == Ground::Supposed {
+                link.ground = Ground::Learned;
+            }
         }
     }
 
@@ -131,9 +188,9 @@ impl Links {
     /// What a path leads to, where the link is rather its folder's.
     pub fn supposed(&self, path: &[u8]) -> Option<&[u8]> {
         match self.targets.get(path) {
-            Some(link) if !link.is_own && !self.folders.contains(split_last(path).0) => Some(
-                link.target.as_slice(),
-            ),
+            Some(link)
+                if link.ground == Ground::Supposed && !self.folders.contains(split_last(path).0) =>
+                Some(link.target.as_slice()),
             _ => None,
         }
     }
@@ -150,31 +207,76 @@ impl Links {
             return Ok(path);
         }
         for _ in 0..MOST_LINKS {
-            match self.step(&path, follows)? {
-                Some(next) => path = next,
-                None => break,
+            let Some(len) = self.first_link(&path, follows) else {
+                break;
+            };
+            path = self.beyond(&path, len)?;
+            if path.len() > LONGEST {
+                break;
             }
         }
         Ok(path)
     }
 
-    // The path with its first link replaced by what it leads to.
-    fn step(&self, path: &[u8], follows: bool) -> Result<Option<Vec<u8>>, AllocError> {
+    /// The path that leads to what an open showed, by no link that is known, or by one of its own that an open had shown.
+    pub fn asked(&self, path: &[u8]) -> Result<Vec<u8>, AllocError> {
+        let mut path = self.resolved(&[], path, false)?;
+        for _ in 0..MOST_LINKS {
+            match self.targets.get(path.as_slice()) {
+                Some(link) if link.ground == Ground::Told => {}
+                _ => break,
+            }
+            let next = self.beyond(&path, path.len())?;
+            path = self.resolved(&[], &next, false)?;
+        }
+        Ok(path)
+    }
+
+    /// What opens showed of the links by which a path leads elsewhere isn't so any more; or, where none is left, no link is there.
+    pub fn doubt(&mut self, path: &[u8], none_left: bool) -> Result<(), AllocError> {
+        let mut path = Vec::from_slice(self.alloc, path)?;
+        for _ in 0..MOST_LINKS {
+            let Some(len) = self.first_link(&path, true) else {
+                break;
+            };
+            let next = self.beyond(&path, len)?;
+            let front = ahead(&path, len);
+            let is_told = match self.targets.get(front) {
+                Some(link) => link.ground == Ground::Told,
+                None => false,
+            };
+            if none_left || !is_told {
+                let _link = self.targets.remove(front);
+            }
+            path = next;
+        }
+        Ok(())
+    }
+
+    // How long the front of a path is that is a link, the first one.
+    fn first_link(&self, path: &[u8], follows: bool) -> Option<usize> {
         for (end, byte) in path.iter().enumerate() {
             let next = end.saturating_add(1);
             let is_last = next == path.len();
             let front = if is_last { path } else { ahead(path, end) };
-            if (*byte == b'/' || is_last) && (follows || !is_last) {
-                if let Some(link) = self.targets.get(front) {
-                    let (folder, _) = split_last(front);
-                    let mut whole = joined(self.alloc, folder, &link.target)?;
-                    for part in behind(path, front.len()).split(|byte| *byte == b'/') {
-                        enter(&mut whole, part)?;
-                    }
-                    return Ok(Some(whole));
-                }
+            let is_front = (*byte == b'/' || is_last) && (follows || !is_last);
+            if is_front && self.targets.contains_key(front) {
+                return Some(front.len());
             }
         }
-        Ok(None)
+        None
+    }
+
+    // The path where a front of it that is a link is replaced by what that leads to.
+    fn beyond(&self, path: &[u8], len: usize) -> Result<Vec<u8>, AllocError> {
+        let front = ahead(path, len);
+        let Some(link) = self.targets.get(front) else {
+            return Vec::from_slice(self.alloc, path);
+        };
+        let mut whole = joined(self.alloc, split_last(front).0, &link.target)?;
+        for part in behind(path, front.len()).split(|byte| *byte == b'/') {
+            enter(&mut whole, part)?;
+        }
+        Ok(whole)
     }
 }

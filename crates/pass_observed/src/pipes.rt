@@ -4,6 +4,19 @@ use crate::overlaps::Touches;
 use pass_entry::PIPE_CAPACITY;
 use std::alloc::{AllocError, Global};
 
+/// How many bytes a pipe of the trace keeps for later readers, while the run's holds as many more.
+const KEPT: u64 = 64;
+
+/// What a read takes from a pipe of the trace.
+#[derive(Clone, Copy)]
+pub enum Taking {
+    Bytes(u64),
+    /// Nothing, as its process has taken what there is to know of.
+    Enough,
+    /// Nothing, as it would wait.
+    Nothing,
+}
+
 #[derive(Drop)]
 pub struct Pipe {
     /// The openings of its two ends.
@@ -15,6 +28,8 @@ pub struct Pipe {
     /// How many bytes it holds in the trace, and how many it held in the run.
     bytes: u64,
     held: u64,
+    /// The process that took last, where nothing was written since.
+    taker: Option<u32>,
     pub reads: Touches,
     pub writes: Touches,
 }
@@ -25,23 +40,29 @@ pub struct Pipes {
 }
 
 impl Pipe {
-    /// Takes what a read of so many bytes takes in the trace: None where it would wait. As long as the run's pipe holds more, the
-    /// trace's holds some too, so that each later reader takes a byte of it.
-    pub fn take(&mut self, count: u64) -> Option<u64> {
+    /// Takes what a process's read of so many bytes takes in the trace. As long as the run's pipe holds more, the trace's keeps some
+    /// too, of which a process that hasn't taken what was written last takes one.
+    pub fn take(&mut self, process: u32, count: u64) -> Taking {
         if count == 0 {
             return if self.bytes == 0 && self.writers == 0 {
-                Some(0)
+                Taking::Bytes(0)
             } else {
-                None
+                Taking::Nothing
             };
         }
-        let kept = u64::from(count < self.held);
-        let taken = count
-            .min(self.bytes.saturating_sub(kept))
-            .max(self.bytes.min(1));
+        let is_held = count <= self.held;
         self.held = self.held.saturating_sub(count);
+        let taken = count.min(self.bytes.saturating_sub(self.held.min(KEPT)));
+        if taken == 0 && is_held && self.taker == Some(process) {
+            return Taking::Enough;
+        }
+        let taken = taken.max(self.bytes.min(1));
+        if taken == 0 {
+            return Taking::Nothing;
+        }
         self.bytes = self.bytes.saturating_sub(taken);
-        if taken == 0 { None } else { Some(taken) }
+        self.taker = Some(process);
+        Taking::Bytes(taken)
     }
 
     /// Takes a byte in the trace alone.
@@ -59,6 +80,7 @@ impl Pipe {
         let added = count.min((PIPE_CAPACITY as u64).saturating_sub(self.bytes));
         self.held = self.held.saturating_add(count);
         self.bytes = self.bytes.saturating_add(added);
+        self.taker = None;
         Some(added)
     }
 
@@ -105,6 +127,7 @@ impl Pipes {
             writers: 1,
             bytes: 0,
             held: 0,
+            taker: None,
             reads: Touches::NONE,
             writes: Touches::NONE,
         })?;

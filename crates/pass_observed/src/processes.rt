@@ -34,6 +34,7 @@ pub struct Range {
 #[derive(Clone, Copy)]
 pub struct Mapping {
     pub start: u64,
+    pub end: u64,
     pub opening: usize,
     pub file: usize,
     pub writes: bool,
@@ -57,6 +58,8 @@ pub struct Process {
     slots: Vec<Option<Slot>>,
     clock: u64,
     pub mappings: Vec<Mapping>,
+    /// How many changes of shared files there were when it last looked at what it shares.
+    pub looked: u64,
     /// The file that it was last begun from, as long as its first bytes weren't read.
     pub program: Option<usize>,
 }
@@ -76,6 +79,7 @@ impl Process {
             slots: vec![in alloc; None; MOST_SLOTS]?,
             clock: 0,
             mappings: Vec::new(alloc),
+            looked: 0,
             program: None,
         })
     }
@@ -102,6 +106,7 @@ impl Process {
             slots: self.slots.clone()?,
             clock: self.clock,
             mappings: self.mappings.clone()?,
+            looked: self.looked,
             program: self.program,
         })
     }
@@ -175,6 +180,15 @@ impl Process {
             if *fd <= last {
                 held.closes = closes;
             }
+        }
+    }
+
+    /// A number is used again.
+    pub fn touch(&mut self, number: u8) {
+        self.clock = self.clock.saturating_add(1);
+        let used = self.clock;
+        if let Some(Some(slot)) = self.slots.get_mut(number as usize) {
+            slot.used = used;
         }
     }
 

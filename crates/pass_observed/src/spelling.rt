@@ -1,12 +1,13 @@
 //! How names and words are spelled in a trace.
-ghost use Rattle.std.specs.Prelude.{◌≡◌, true, IfOk, IfSome, string_bytes};
+ghost use Rattle.std.specs.Prelude.{◌≡◌, ◌++◌, true, IfOk, IfSome, OnOk, length, string_bytes};
 ghost use Rattle.percent_encoding.specs.AsciiSet.{contains};
 ghost use Rattle.percent_encoding.specs.Percent.{percent_decode};
+ghost use Rattle.pass_observed.specs.Spellings.{fitting, is_kept_byte, spelled_byte, whole_spelling, word_spelling};
 
 use md5::{Digest, Md5};
 use pass_entry::{LINE_LIMIT, NAME_LIMIT, Text, TextFault};
 use pass_syscall::{ahead, behind};
-use percent_encoding::{AsciiSet, CONTROLS, percent_decode, percent_encode};
+use percent_encoding::{AsciiSet, CONTROLS, percent_decode, percent_encode, percent_encode_byte};
 use std::alloc::{AllocError, Global};
 
 // The bytes that are spelled as `%` and two digits in base 16: each outside `!` to `~`, and `%` itself.
@@ -40,6 +41,11 @@ pub fn unspelled(alloc: Global, spelling: &[u8]) -> Result<Option<Vec<u8>>, Allo
     percent_decode(spelling).append_to(&mut bytes)?;
     Ok(Some(bytes))
 }
+
+/// The attribute of a version whose bytes the text doesn't show.
+pub const ATTRIBUTE: &str = "BYTES";
+
+pub const UNKNOWN: &str = "unknown";
 
 /// No byte is spelled `%:`, which no other word is.
 const EMPTY: &str = "%:";
@@ -100,8 +106,89 @@ fn taken(text: Result<Text, TextFault>) -> Result<Option<Text>, AllocError> {
 }
 
 /// A name of letters that are spelled already; None where it is none.
-pub fn text_of(alloc: Global, name: &[u8]) -> Result<Option<Text>, AllocError> {
-    taken(Text::name(alloc, name))
+pub fn text_of(alloc: Global, name: &[u8]) -> Result<Option<Text>, AllocError>
+    ensures { IfOk result (λ found. IfSome found (λ text. text ≡ name.now)) }
+{
+    match Text::name(alloc, name) {
+        Ok(text) => Ok(Some(text)),
+        Err(TextFault::NoMemory) => Err(AllocError),
+        Err(TextFault::BadLength) | Err(TextFault::BadByte) => Ok(None),
+    }
+}
+
+// Whether a byte stands for itself.
+fn is_kept_byte(byte: u8) -> bool
+    ensures { result ≡ is_kept_byte byte }
+{
+    (b'!'..=b'~').contains(&byte) && byte != b'%'
+}
+
+fn push_byte(out: &mut Vec<u8>, byte: u8) -> Result<(), AllocError>
+    ensures { OnOk result (out.new.items ≡ out.old.items ++ spelled_byte byte) }
+{
+    if is_kept_byte(byte) {
+        out.push(byte)?;
+        Ok(())
+    } else {
+        out.extend_from_slice(percent_encode_byte(byte).as_bytes())
+    }
+}
+
+// All bytes, spelled.
+fn whole_spelling(alloc: Global, bytes: &[u8]) -> Result<Vec<u8>, AllocError>
+    ensures { IfOk result (λ text. text.items ≡ whole_spelling bytes.now) }
+{
+    let mut text = Vec::new(alloc);
+    for byte in bytes {
+        push_byte(&mut text, *byte)?;
+    }
+    Ok(text)
+}
+
+// How many bytes the spelling of a byte has.
+fn length_of(byte: u8) -> usize
+    ensures { result ≡ length (spelled_byte byte) }
+{
+    if is_kept_byte(byte) {
+        1
+    } else {
+        percent_encode_byte(byte).len()
+    }
+}
+
+// The bytes from the front, spelled, as many as there is room for.
+#[tactic(auto, using(crate::proofs::Fittings::fitting_step, crate::proofs::Fittings::fitting_stop))]
+fn fitting(alloc: Global, bytes: &[u8], most: usize) -> Result<Vec<u8>, AllocError>
+    ensures { IfOk result (λ text. text.items ≡ fitting most bytes.now) }
+{
+    let mut text = Vec::new(alloc);
+    let mut room = most;
+    for i in 0..bytes.len() {
+        let byte = bytes[i];
+        let length = length_of(byte);
+        if length > room {
+            return Ok(text);
+        }
+        room -= length;
+        push_byte(&mut text, byte)?;
+    }
+    Ok(text)
+}
+
+/// A word as an attribute or a value of a trace. One that is too long is its front and a mark.
+pub fn word_spelling(alloc: Global, bytes: &[u8]) -> Result<Vec<u8>, AllocError>
+    ensures { IfOk result (λ text. text.items ≡ word_spelling bytes.now) }
+{
+    if bytes.is_empty() {
+        return Vec::from_slice(alloc, EMPTY.as_bytes());
+    }
+    let whole = whole_spelling(alloc, bytes)?;
+    if whole.len() <= NAME_LIMIT {
+        return Ok(whole);
+    }
+    let mut text = fitting(alloc, bytes, NAME_LIMIT.saturating_sub(MORE.len()))?;
+    text.extend_from_slice(MORE.as_bytes())?;
+    Ok(text)
 }
 
 /// The words of a program behind its name. Where the line hasn't room for all of them, it has the front of them and a mark.

@@ -1,6 +1,7 @@
 //! The files that a store has before a run is recorded in it.
 
-use pass_entry::{BLOCK_SIZE, Kind, Record};
+use crate::spelling::{ATTRIBUTE, UNKNOWN};
+use pass_entry::{BLOCK_SIZE, KIND_LIMIT, Kind, Record};
 use std::alloc::{AllocError, Global};
 use std::collections::BTreeMap;
 
@@ -10,6 +11,8 @@ pub struct Stored {
     files: BTreeMap<u64, StoredFile>,
     /// The numbers of the files by the names that they have now.
     names: BTreeMap<Vec<u8>, u64>,
+    /// How many app objects it has had.
+    apps: u64,
 }
 
 /// A file of a store: its name, its size and the digests of its blocks.
@@ -17,6 +20,8 @@ pub struct Stored {
 pub struct StoredFile {
     name: Vec<u8>,
     pub size: u64,
+    /// It has bytes that no text showed.
+    pub unseen: bool,
     digests: BTreeMap<u32, [u8; 16]>,
 }
 
@@ -25,6 +30,7 @@ impl StoredFile {
         StoredFile {
             name: Vec::new(alloc),
             size: 0,
+            unseen: false,
             digests: BTreeMap::new(alloc),
         }
     }
@@ -35,6 +41,7 @@ impl StoredFile {
             let blocks = size.div_ceil(BLOCK_SIZE);
             self.digests.retain(|block, _| u64::from(*block) < blocks);
         }
+        self.unseen = self.unseen && size > 0;
         self.size = size;
     }
 
@@ -50,6 +57,7 @@ impl Stored {
         Stored {
             files: BTreeMap::new(alloc),
             names: BTreeMap::new(alloc),
+            apps: 0,
         }
     }
 
@@ -73,6 +81,9 @@ impl Stored {
                 if *kind == Kind::File {
                     self.files.insert(pnode.0, StoredFile::new(alloc))?;
                 }
+                if *kind == Kind::App {
+                    self.apps = self.apps.saturating_add(1);
+                }
             }
             Record::Name { pnode, name } => {
                 if let Some(file) = self.files.get_mut(&pnode.0) {
@@ -89,10 +100,14 @@ impl Stored {
                     file.digests.insert(*block, *md5)?;
                 }
             }
-            Record::Attr { .. }
-            | Record::Input { .. }
-            | Record::Version { .. }
-            | Record::Ceiling { .. } => {}
+            Record::Attr { node, attr, value } => {
+                let is_unseen = attr.as_bytes() == ATTRIBUTE.as_bytes()
+                    && value.as_bytes() == UNKNOWN.as_bytes();
+                if let (Some(file), true) = (self.files.get_mut(&node.pnode.0), is_unseen) {
+                    file.unseen = true;
+                }
+            }
+            Record::Input { .. } | Record::Version { .. } | Record::Ceiling { .. } => {}
         }
         Ok(())
     }
@@ -112,6 +127,11 @@ impl Stored {
     /// How many files it has had.
     pub fn len(&self) -> usize {
         self.files.len()
+    }
+
+    /// Whether it may have one more app object.
+    pub fn has_room_for_app(&self) -> bool {
+        self.apps < u64::from(KIND_LIMIT)
     }
 
     /// The file that has a name now.

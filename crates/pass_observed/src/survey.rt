@@ -123,6 +123,7 @@ impl Survey {
         };
         let folder = match folder {
             Some(said) => unescaped(alloc, said)?,
+            None if name.is_empty() => return Ok(()),
             None => self.base.clone()?,
         };
         let path = joined(alloc, &folder, &name)?;

@@ -9,8 +9,8 @@ is_whole text = (length text == 0) || (slice_index text (length text - 1) == 10)
 abbrev pub count_lines : List ℕ → ℕ
 count_lines text = count_by (λ b. b == 10) text
 
--- The lines of strace from which the lines of a trace come, none of them after that of a later line, and each one of so many. So
--- each process's lines stand in the order of its calls; 0 stands for what was there before the run.
+-- A number for each line of a trace, none of them greater than that of a later line, nor than a count of lines of strace. What they
+-- are for, which no clause says: the line of strace from which a line comes, or 0 for what was there before the run.
 pub record IsInOrder (origins : List ℕ) (count : ℕ) : Type 0 where
   pub rising : (j : ℕ) → j < length origins → (i : ℕ) → i ≤ j → slice_index origins i ≤ slice_index origins j
   pub within : (i : ℕ) → i < length origins → slice_index origins i ≤ count

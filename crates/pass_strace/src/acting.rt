@@ -8,8 +8,8 @@ use pass_syscall::{
 };
 use pass_trace::Command;
 use pass_transfer::{
-    copy_range, cut, cut_name, device, exec, leave, map, pour, seek, send_file, tee, transfer,
-    unmap_part,
+    copy_range, cut, cut_name, device, exec, leave, map, pour, protect, seek, send_file, tee,
+    transfer, unmap_part,
 };
 use std::alloc::Global;
 use std::collections::BTreeMap;
@@ -69,7 +69,7 @@ impl<'a> Tracing<'a> {
         Ok(())
     }
 
-    // A call, as long as the trace has room for what it is.
+    // A call. Where the trace has no more room, what it does is known all the same, so that each reading finds the same files.
     fn take_call(&mut self, alloc: Global, step: &Step<'_>) -> Taken {
         let Some((name, call)) = call_of(name_of_call(step.front).ok_or(BAD)?) else {
             return Ok(());
@@ -89,9 +89,6 @@ impl<'a> Tracing<'a> {
             return Err(LineFault::Bad(StraceReason::Process));
         };
         let who = *who;
-        if self.run.out.is_full() {
-            return Ok(());
-        }
         self.look_at(step, name, who);
         if looks {
             return self.look(who, call, &parts);
@@ -203,6 +200,9 @@ impl<'a> Tracing<'a> {
     }
 
     fn wait_for(&mut self, who: usize, parts: &Parts<'_>) -> Taken {
+        if parts.word(2) == b"NULL".as_slice() {
+            return self.wait_unasked(who, parts);
+        }
         let keeps = parts.has(3, b"WNOWAIT");
         let ended = parts.has(2, b"CLD_EXITED")
             || parts.has(2, b"CLD_KILLED")
@@ -210,6 +210,23 @@ impl<'a> Tracing<'a> {
         match number_of_pid(parts.word(2)) {
             Some(pid) if ended && !keeps => self.wait_child(who, pid),
             _ => Ok(()),
+        }
+    }
+
+    // A wait that doesn't ask whose end it was, nor whether it was one.
+    fn wait_unasked(&mut self, who: usize, parts: &Parts<'_>) -> Taken {
+        if !parts.has(3, b"WEXITED") || parts.has(3, b"WNOWAIT") {
+            return Ok(());
+        }
+        let others = [
+            b"WNOHANG".as_slice(),
+            b"WSTOPPED".as_slice(),
+            b"WCONTINUED".as_slice(),
+        ];
+        let may_be_none = others.iter().any(|flag| parts.has(3, flag));
+        match number_of_pid(parts.word(1)) {
+            Some(pid) if parts.has(0, b"P_PID") && !may_be_none => self.wait_child(who, pid),
+            _ => self.run.skip(Skip::Child),
         }
     }
 
@@ -247,15 +264,19 @@ impl Tracing<'_> {
         let Some(process) = self.processes.get_mut(who) else {
             return Ok(());
         };
-        let Some((old, new)) = self.run.rename(process, parts, is_below)? else {
-            return Ok(());
-        };
+        for (old, new) in self.run.rename(process, parts, is_below)? {
+            self.move_folders(&old, &new)?;
+        }
+        Ok(())
+    }
+
+    fn move_folders(&mut self, old: &[u8], new: &[u8]) -> Taken {
         for process in self.processes.iter_mut() {
             if process.ended {
                 continue;
             }
-            if let Some(rest) = below(&old, &process.folder) {
-                let mut moved = new.clone()?;
+            if let Some(rest) = below(old, &process.folder) {
+                let mut moved = Vec::from_slice(self.run.alloc, new)?;
                 if !rest.is_empty() {
                     moved.push(b'/')?;
                     moved.extend_from_slice(rest)?;
@@ -299,6 +320,7 @@ fn act_in(run: &mut Run<'_>, process: &mut Process, call: Call, parts: &Parts<'_
         Call::EnterHeld => run.enter_held(process, parts),
         Call::Map => map(run, process, parts),
         Call::Unmap => unmap_part(run, process, parts),
+        Call::Protect => protect(run, process, parts),
         Call::OpenUnsaid(skip) => {
             run.hold_silently(process, parts.given()?, skip, Vec::new(run.alloc))
         }

@@ -3,10 +3,12 @@
 use md5::{Digest, Md5};
 use pass_descriptor::Output;
 use pass_entry::{BLOCK_SIZE, Mode};
-use pass_observed::{Before, File, Ledger, Origin, Stored, StoredFile, text_of};
+use pass_observed::{
+    ATTRIBUTE, Before, File, Ledger, Origin, Stored, StoredFile, UNKNOWN, text_of,
+};
 use pass_syscall::{BAD, LineFault, Skip};
 use pass_trace::Command;
-use pass_transfer::{ATTRIBUTE, UNKNOWN, payload_of};
+use pass_transfer::payload_of;
 use std::alloc::{AllocError, Global};
 
 #[derive(Drop)]
@@ -43,6 +45,15 @@ impl Telling<'_> {
     fn make(&mut self, file: &File, before: &Before) -> Result<(), LineFault> {
         let name = file.first.name.clone()?;
         self.say(Command::Creat { fd: 0, name })?;
+        self.fill(before)?;
+        if !before.is_whole() || file.is_seen_in_memory() {
+            self.tag(file)?;
+        }
+        Ok(self.say(Command::Close { fd: 0 })?)
+    }
+
+    // What was read goes to a file without bytes.
+    fn fill(&mut self, before: &Before) -> Result<(), AllocError> {
         let mut place = 0;
         for block in 0..before.count_blocks() {
             let at = start_of(block);
@@ -54,10 +65,15 @@ impl Telling<'_> {
         if place != size {
             self.say(Command::Truncate { fd: 0, size })?;
         }
-        if !before.is_whole() || file.is_seen_in_memory() {
-            self.tag(file)?;
-        }
-        Ok(self.say(Command::Close { fd: 0 })?)
+        Ok(())
+    }
+
+    // A file of which the store doesn't know all bytes, and the run shows all, is written anew.
+    fn make_again(&mut self, file: &File, before: &Before) -> Result<(), AllocError> {
+        self.open(file)?;
+        self.say(Command::Truncate { fd: 0, size: 0 })?;
+        self.fill(before)?;
+        self.say(Command::Close { fd: 0 })
     }
 
     // Writes a block at a place from another, and answers the place behind it.
@@ -88,8 +104,43 @@ impl Telling<'_> {
         stored: &StoredFile,
     ) -> Result<(), LineFault> {
         let size = before.bytes.len() as u64;
-        let is_shorter = before.end.is_some_and(|end| end < stored.size);
+        let is_shorter = before.most < stored.size;
         let is_longer = stored.size < size;
+        let is_seen = before.is_whole() && !file.is_seen_in_memory();
+        let is_known = is_seen && (before.end.is_some() || stored.size <= size);
+        if stored.unseen && is_known && before.end.is_some() {
+            return Ok(self.make_again(file, before)?);
+        }
+        let mut opened = self.write_changed(file, before, stored)?;
+        if is_shorter || (is_longer && !opened) {
+            if !opened {
+                self.open(file)?;
+                opened = true;
+            }
+            let size = if is_shorter { before.most } else { size };
+            self.say(Command::Truncate { fd: 0, size })?;
+        }
+        let is_shown = is_seen && !stored.unseen && (!is_shorter || before.most == size);
+        if opened {
+            if !is_shown {
+                self.tag(file)?;
+            }
+            self.say(Command::Close { fd: 0 })?;
+        }
+        let is_used = 0 < size || file.is_seen_in_memory();
+        if !opened && !file.written && is_used && !is_known {
+            self.ledger.tell(0, Skip::Part, file.path())?;
+        }
+        Ok(())
+    }
+
+    // Writes the blocks that have changed. Whether there are any, so that the file is open.
+    fn write_changed(
+        &mut self,
+        file: &File,
+        before: &Before,
+        stored: &StoredFile,
+    ) -> Result<bool, AllocError> {
         let mut place = 0;
         let mut opened = false;
         for block in 0..before.count_blocks() {
@@ -102,26 +153,7 @@ impl Telling<'_> {
                 place = self.write(before, at, place)?;
             }
         }
-        if is_shorter || (is_longer && !opened) {
-            if !opened {
-                self.open(file)?;
-                opened = true;
-            }
-            self.say(Command::Truncate { fd: 0, size })?;
-        }
-        let is_shown = before.is_whole() && !file.is_seen_in_memory();
-        if opened {
-            if !is_shown {
-                self.tag(file)?;
-            }
-            self.say(Command::Close { fd: 0 })?;
-        }
-        let is_used = 0 < size || file.is_seen_in_memory();
-        let is_known = is_shown && (before.end.is_some() || stored.size <= size);
-        if !opened && !file.written && is_used && !is_known {
-            self.ledger.tell(0, Skip::Part, file.path())?;
-        }
-        Ok(())
+        Ok(opened)
     }
 
     fn open(&mut self, file: &File) -> Result<(), AllocError> {

@@ -4,18 +4,28 @@ ghost use Rattle.pass_strace.specs.declared.fault.TranslationFault.TheVariants.{
 ghost use Rattle.pass_strace.specs.declared.fault.Refusal.TheVariants.{Strace};
 ghost use Rattle.pass_syscall.specs.declared.fault.StraceReason.TheVariants.{Cut};
 ghost use Rattle.pass_trace.specs.Traces.{trace_of, IsTraceText};
+ghost use Rattle.pass_strace.specs.Facts.{BeginsWith, IsTold};
 ghost use Rattle.pass_strace.specs.Translations.{count_lines, is_whole, IsInOrder};
 
 use crate::acting::Tracing;
+use crate::facts::{Fact, TOLD, begins_told, fact_lines};
 use crate::fault::{Refusal, TranslationFault};
 use crate::telling::Telling;
-use pass_descriptor::{Known, Output, Run, Setting};
+use pass_descriptor::{Known, Output, Program, Run, Setting};
 use pass_entry::KIND_LIMIT;
-use pass_observed::{Ledger, Origin, Skipped, Stored, Survey, Told, below};
+use pass_observed::{Ledger, Loaders, Origin, Skipped, Stored, Survey, Told, below};
 use pass_syscall::{Joining, LineFault, Skip, Step, StraceReason, join};
 use pass_trace::{Command, Trace, TraceFault, TraceLine, TraceReason, parse, print};
 use std::alloc::{AllocError, Global};
 use std::collections::BTreeSet;
+
+/// What a trace is for: the files that its store has, the folder below which names are relative, and what is said of the run.
+#[derive(Clone, Copy)]
+pub struct Request<'a> {
+    pub stored: &'a Stored,
+    pub root: &'a [u8],
+    pub facts: &'a [Fact],
+}
 
 /// The trace of a run.
 #[derive(Drop)]
@@ -33,7 +43,7 @@ pub struct Translated {
 }
 
 // The lines of the trace: what was there before the run, and the calls of its processes.
-fn assemble(alloc: Global, run: Run<'_>) -> Result<(Output, Ledger), LineFault> {
+fn assemble(alloc: Global, run: Run<'_>, has_facts: bool) -> Result<(Output, Ledger), LineFault> {
     let Run {
         setting,
         files,
@@ -58,27 +68,42 @@ fn assemble(alloc: Global, run: Run<'_>) -> Result<(Output, Ledger), LineFault> 
             telling.tell(file)?;
         }
     }
-    begin_run(&mut out)?;
+    begin_run(&mut out, has_facts)?;
     whole.lines.append(&mut out.lines)?;
     whole.origins.append(&mut out.origins)?;
     Ok((whole, ledger))
 }
 
-// Process 1 begins the first process of the run, behind the FIFOs' pipes.
-fn begin_run(out: &mut Output) -> Result<(), AllocError> {
-    let begun = out.lines.iter().position(|line| line.process != 1);
-    let Some(begun) = begun else {
+// Process 1 begins the first process of the run, behind the FIFOs' pipes. That process is told of the run first, where something is
+// said of it.
+fn begin_run(out: &mut Output, has_facts: bool) -> Result<(), AllocError> {
+    let Some(begun) = out.lines.iter().position(|line| line.process != 1) else {
         return Ok(());
     };
-    let fork = TraceLine {
+    if has_facts {
+        insert(out, begun, 2, Command::Close { fd: TOLD })?;
+        insert(out, begun, 2, Command::Read { fd: TOLD, len: 1 })?;
+    }
+    insert(out, begun, 1, Command::Fork { child: 2 })
+}
+
+// Puts a line in that comes from none of the text.
+fn insert(
+    out: &mut Output,
+    place: usize,
+    process: u32,
+    command: Command,
+) -> Result<(), AllocError> {
+    let line = TraceLine {
         number: 0,
-        process: 1,
-        command: Command::Fork { child: 2 },
+        process,
+        command,
     };
-    out.lines.insert(begun, fork)?;
+    let at = place.min(out.lines.len());
+    out.lines.insert(at, line)?;
     // There are as many origins as lines.
-    let place = begun.min(out.origins.len());
-    out.origins.insert(place, 0)?;
+    let at = place.min(out.origins.len());
+    out.origins.insert(at, 0)?;
     Ok(())
 }
 
@@ -123,23 +148,49 @@ fn are_in_order(origins: &[u64], count: u64) -> bool
     true
 }
 
+// The text of lines, which begins with that of the facts.
+#[tactic(auto, using(crate::proofs::Fronts::begins_with))]
+fn text_with(alloc: Global, facts: &[Fact], rest: Vec<TraceLine>) -> Result<Vec<u8>, AllocError>
+    ensures { IfOk result (λ text. BeginsWith facts.now text.items) }
+{
+    let mut rest = rest;
+    let mut lines = fact_lines(alloc, facts)?;
+    lines.append(&mut rest)?;
+    let text = print(alloc, &Trace { lines })?;
+    Ok(text)
+}
+
+// The origins of the facts' lines, and those of the lines behind them.
+fn origins_with(alloc: Global, facts: &[Fact], rest: Vec<u64>) -> Result<Vec<u64>, AllocError> {
+    let mut rest = rest;
+    let lines = fact_lines(alloc, facts)?;
+    let mut origins = vec![in alloc; 0; lines.len()]?;
+    origins.append(&mut rest)?;
+    Ok(origins)
+}
+
 // The text of the lines, which is read again: so it is one of a trace.
 fn checked(
     alloc: Global,
     out: Output,
     ledger: Ledger,
-    count: u64,
+    source: &[u8],
+    facts: &[Fact],
 ) -> Result<Translated, TranslationFault>
     ensures text { IfOk result (λ t. IsTraceText t.text.items) }
     ensures lines { IfOk result (λ t. t.lines.items ≡ trace_of t.text.items) }
     ensures origins { IfOk result (λ t. length t.origins.items ≡ length t.lines.items) }
-    ensures order { IfOk result (λ t. IsInOrder t.origins.items count) }
+    ensures order { IfOk result (λ t. IsInOrder t.origins.items (count_lines source.now)) }
+    ensures facts { IfOk result (λ t. BeginsWith facts.now t.text.items) }
+    ensures told { IfOk result (λ t. IsTold facts.now t.lines.items) }
 {
     let Output { lines, origins } = out;
     let Ledger { skipped, told, .. } = ledger;
-    let text = print(alloc, &Trace { lines })?;
+    let text = text_with(alloc, facts, lines)?;
+    let origins = origins_with(alloc, facts, origins)?;
     let lines = read_again(alloc, &text, &origins)?;
-    if lines.len() != origins.len() || !are_in_order(&origins, count) {
+    let count = count_lines(source) as u64;
+    if lines.len() != origins.len() || !are_in_order(&origins, count) || !is_told(facts, &lines) {
         return Err(refused(&origins, 1, TraceReason::Process));
     }
     Ok(Translated {
@@ -149,6 +200,13 @@ fn checked(
         skipped,
         told,
     })
+}
+
+// Whether the run's first process begins by what is said of the run.
+fn is_told(facts: &[Fact], lines: &[TraceLine]) -> bool
+    ensures { IsTrue result → IsTold facts.now lines.now }
+{
+    facts.is_empty() || begins_told(lines)
 }
 
 // Each line ends with LF.
@@ -232,12 +290,13 @@ fn learned(alloc: Global, run: &Run<'_>) -> Result<Known, AllocError> {
 }
 
 // The lines of a reading. Without paths beside the descriptors some things can't be known.
-fn lines_of(
+fn output_of(
     alloc: Global,
     survey: &Survey,
     run: Run<'_>,
+    has_facts: bool,
 ) -> Result<(Output, Ledger), TranslationFault> {
-    let (out, mut ledger) = assemble(alloc, run).map_err(at_front)?;
+    let (out, mut ledger) = assemble(alloc, run, has_facts).map_err(at_front)?;
     if !survey.has_paths && !out.lines.is_empty() {
         ledger.tell(1, Skip::Paths, b"-y")?;
     }
@@ -254,32 +313,67 @@ fn at_front(fault: LineFault) -> TranslationFault {
 fn translated_steps<'a>(
     alloc: Global,
     steps: &[Step<'_>],
-    stored: &'a Stored,
-    root: &'a [u8],
+    request: Request<'a>,
+    loaders: &'a Loaders,
 ) -> Result<(Output, Ledger), TranslationFault> {
+    let Request {
+        stored,
+        root,
+        facts,
+    } = request;
+    let has_facts = !facts.is_empty();
     let survey = Survey::of(alloc, steps)?;
     let nothing = Known::nothing(alloc);
-    let first = Setting::of(&survey, stored, root, &nothing);
+    let first = Setting::of(&survey, stored, root, loaders, &nothing);
     let run = traced(alloc, steps, &survey, first)?;
     let known = learned(alloc, &run)?;
     if known.is_empty() {
-        return lines_of(alloc, &survey, run);
+        return output_of(alloc, &survey, run, has_facts);
     }
-    let second = Setting::of(&survey, stored, root, &known);
+    let second = Setting::of(&survey, stored, root, loaders, &known);
     let run = traced(alloc, steps, &survey, second)?;
-    lines_of(alloc, &survey, run)
+    output_of(alloc, &survey, run, has_facts)
+}
+
+// The programs of a reading.
+fn run_programs(
+    alloc: Global,
+    lines: &[u8],
+    request: Request<'_>,
+) -> Result<Vec<Program>, TranslationFault> {
+    let Joining { steps, .. } = join(alloc, lines)?;
+    let survey = Survey::of(alloc, &steps)?;
+    let nothing = Known::nothing(alloc);
+    let loaders = Loaders::none(alloc);
+    let setting = Setting::of(&survey, request.stored, request.root, &loaders, &nothing);
+    let run = traced(alloc, &steps, &survey, setting)?;
+    Ok(run.programs()?)
+}
+
+/// The programs of a run, and the interpreters of its scripts; none of a text that isn't translated.
+pub fn programs_of(
+    alloc: Global,
+    text: &[u8],
+    request: Request<'_>,
+) -> Result<Vec<Program>, AllocError> {
+    match run_programs(alloc, text.strip_suffix(b"\n").unwrap_or(text), request) {
+        Ok(programs) => Ok(programs),
+        Err(TranslationFault::NoMemory) => Err(AllocError),
+        Err(TranslationFault::Refused { .. }) => Ok(Vec::new(alloc)),
+    }
 }
 
 /// The trace of a run of which `strace -f -y -xx -s 1073741823 -o` wrote this text, to be recorded in a store that has these files.
 ///
 /// The calls that move bytes, open, close, name or cut files, and begin, end or wait for processes are lines of the trace. Process
 /// 1 makes the files that were there before the run, with the bytes that are read of them, and begins the run's first process. Names
-/// of files below the root are relative to it, and others absolute.
+/// of files below the root are relative to it, and others absolute. What is said of the run are attributes of an app object, which its
+/// first process is told of.
 pub fn translate<'a>(
     alloc: Global,
     text: &[u8],
-    stored: &'a Stored,
-    root: &'a [u8],
+    request: Request<'a>,
+    loaders: &'a Loaders,
 ) -> Result<Translated, TranslationFault>
     // A text that ends within a line is refused with that line.
     ensures cut { is_whole text.now ≡ false → result ≡ Err (Refused (count_lines text.now + 1) (Strace Cut)) }
@@ -289,7 +383,11 @@ pub fn translate<'a>(
     // They stand in the order of the lines of strace from which they come.
     ensures origins { IfOk result (λ t. length t.origins.items ≡ length t.lines.items) }
     ensures order { IfOk result (λ t. IsInOrder t.origins.items (count_lines text.now)) }
+    // In front are the facts, spelled as they were given, and the run's first process begins by reading of them.
+    ensures facts { IfOk result (λ t. BeginsWith request.entry.facts.now t.text.items) }
+    ensures told { IfOk result (λ t. IsTold request.entry.facts.now t.lines.items) }
 {
+    let facts = request.facts;
     let count = count_lines(text) as u64;
     if !is_whole(text) {
         let line = count.saturating_add(1);
@@ -297,10 +395,10 @@ pub fn translate<'a>(
         return Err(TranslationFault::Refused { line, reason });
     }
     if text.is_empty() {
-        return checked(alloc, Output::new(alloc), Ledger::new(alloc), count);
+        return checked(alloc, Output::new(alloc), Ledger::new(alloc), text, facts);
     }
     let Joining { steps, alive, .. } = join(alloc, &text[..text.len() - 1])?;
-    let (out, ledger) = translated_steps(alloc, &steps, stored, root)?;
+    let (out, ledger) = translated_steps(alloc, &steps, request, loaders)?;
     if !alive.is_empty() {
         let reason = Refusal::Strace(StraceReason::Cut);
         return Err(TranslationFault::Refused {
@@ -308,5 +406,5 @@ pub fn translate<'a>(
             reason,
         });
     }
-    checked(alloc, out, ledger, count)
+    checked(alloc, out, ledger, text, facts)
 }

@@ -45,6 +45,8 @@ pub enum Call {
     EnterHeld,
     Map,
     Unmap,
+    /// It changes what a process may do with its memory.
+    Protect,
     /// It gives a descriptor, or two, of what no trace says.
     OpenUnsaid(Skip),
     PairUnsaid(Skip),
@@ -52,7 +54,7 @@ pub enum Call {
     Skipped(Skip),
 }
 
-const CALLS: [(&[u8], Call); 92] = [
+const CALLS: [(&[u8], Call); 94] = [
     (b"open", Call::Open { below: false }),
     (b"openat", Call::Open { below: true }),
     (b"openat2", Call::Open { below: true }),
@@ -120,6 +122,8 @@ const CALLS: [(&[u8], Call); 92] = [
     (b"mmap", Call::Map),
     (b"munmap", Call::Unmap),
     (b"msync", Call::Unmap),
+    (b"mprotect", Call::Protect),
+    (b"pkey_mprotect", Call::Protect),
     (b"socket", Call::OpenUnsaid(Skip::Socket)),
     (b"accept", Call::OpenUnsaid(Skip::Socket)),
     (b"accept4", Call::OpenUnsaid(Skip::Socket)),

@@ -27,6 +27,8 @@ pub enum Skip {
     Child,
     /// The text doesn't have all bytes that it moved.
     Bytes,
+    /// It is a program, and what loads it can't be found out any more.
+    Loader,
     /// The file was read in part, so whether it changed since the store has it isn't known.
     Part,
     /// The text was written without `-y`: folders, links and descriptors that were given are known by their spelling alone.
@@ -55,6 +57,7 @@ impl Skip {
             Skip::Size => "size",
             Skip::Child => "child",
             Skip::Bytes => "bytes",
+            Skip::Loader => "loader",
             Skip::Part => "part",
             Skip::Paths => "paths",
             Skip::OverlapFile => "overlap-file",

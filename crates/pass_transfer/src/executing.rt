@@ -1,12 +1,32 @@
-//! Programs that a process runs, and the interpreters of scripts among them.
+//! Programs that a process runs, with the interpreters of scripts and what loads programs.
 
-use crate::mappings::{close_aside, open_aside, unmap};
-use crate::transfers::{Side, position};
+use crate::mappings::{close_aside, open_aside, say_look, unmap};
+use crate::transfers::{Side, position, tell_of};
 use pass_descriptor::Run;
 use pass_entry::Mode;
-use pass_observed::{Process, Range, line_of, own_descriptor};
-use pass_syscall::{Parts, Taken, before, behind, behind_spaces};
+use pass_observed::{Held, Loader, Process, Range, line_of, own_descriptor};
+use pass_syscall::{Base, LineFault, Parts, Skip, Taken, before, behind, behind_spaces};
 use pass_trace::Command;
+
+// The descriptor by which a program is run: that of a name such as /dev/fd/3, or of a folder where the name behind it is empty.
+fn held_program(
+    run: &mut Run<'_>,
+    process: &mut Process,
+    parts: &Parts<'_>,
+    path: &[u8],
+    name: usize,
+) -> Result<Option<Held>, LineFault> {
+    if let Some(number) = own_descriptor(path) {
+        return Ok(process.held_at(number));
+    }
+    if name == 0 || !parts.bytes(run.alloc, name)?.is_empty() {
+        return Ok(None);
+    }
+    match parts.base(name, true)? {
+        Base::Held(fd) => run.held(process, fd),
+        Base::Own(_) => Ok(None),
+    }
+}
 
 /// The program's own file is what its process reads.
 pub fn exec(run: &mut Run<'_>, process: &mut Process, parts: &Parts<'_>, below: bool) -> Taken {
@@ -15,9 +35,13 @@ pub fn exec(run: &mut Run<'_>, process: &mut Process, parts: &Parts<'_>, below: 
     let (words, cut) = parts.texts(run.alloc, place)?;
     let cut = cut || parts.word(place).ends_with(b"...]");
     let path = run.path_of(process, parts, name, below, true)?;
-    let held = own_descriptor(&path).and_then(|number| process.held_at(number));
-    let file = match held {
-        Some(held) => run.file_of(held.opening),
+    let file = match held_program(run, process, parts, &path, name)? {
+        Some(held) => run.held_file(held)?,
+        None if path.as_slice() == b"/proc/self/exe".as_slice() => {
+            // The same program again, which its process comes from already.
+            run.skip(Skip::Descriptor)?;
+            None
+        }
         None => run.find_or_add(&path)?,
     };
     unmap(run, process, 0, u64::MAX)?;
@@ -33,13 +57,35 @@ pub fn exec(run: &mut Run<'_>, process: &mut Process, parts: &Parts<'_>, below: 
         return run.tell_left_out(file);
     }
     let args = line_of(run.alloc, &words, cut)?;
-    if let (Some(name), Some(args)) = (run.name_in_trace(file)?, args) {
-        if let Some(file) = run.files.get_mut(file) {
-            file.tagged = false;
-        }
-        run.say(process, Command::Exec { name, args })?;
+    let (Some(name), Some(args)) = (run.name_in_trace(file)?, args) else {
+        return run.skip(Skip::Descriptor);
+    };
+    if let Some(file) = run.files.get_mut(file) {
+        file.tagged = false;
     }
-    Ok(())
+    run.say(process, Command::Exec { name, args })?;
+    load(run, process, file)
+}
+
+// What loads a program is run before it, and no call tells it.
+fn load(run: &mut Run<'_>, process: &mut Process, program: usize) -> Taken {
+    run.note_program(program)?;
+    let loaders = run.setting.loaders;
+    let found = match run.files.get(program) {
+        Some(file) => loaders.of(file.path()),
+        None => None,
+    };
+    match found {
+        Some(Loader::Named(path)) => {
+            let path = run.links.resolved(&process.folder, path.as_slice(), true)?;
+            match run.find_or_add(&path)? {
+                Some(file) => read_once(run, process, file),
+                None => Ok(()),
+            }
+        }
+        Some(Loader::Unknown) => tell_of(run, Skip::Loader, program),
+        Some(Loader::Nothing) | None => Ok(()),
+    }
 }
 
 /// A program that begins with `#!` is a script, whose interpreter reads it: that is what the system ran.
@@ -69,6 +115,7 @@ pub(crate) fn interpret(
         let path = run.links.resolved(&[], path, true)?;
         if let Some(file) = run.find_or_add(&path)? {
             read_once(run, process, file)?;
+            load(run, process, file)?;
         }
     }
     Ok(())
@@ -79,10 +126,6 @@ fn read_once(run: &mut Run<'_>, process: &mut Process, file: usize) -> Taken {
     let Some(end) = open_aside(run, process, file, Mode::Read)? else {
         return Ok(());
     };
-    if let Some(file) = run.files.get_mut(file) {
-        file.tagged = false;
-    }
-    let (fd, len) = (end.slot, 1);
-    run.say(process, Command::Read { fd, len })?;
+    say_look(run, process, end, file)?;
     close_aside(run, process, end)
 }

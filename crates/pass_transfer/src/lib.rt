@@ -9,8 +9,7 @@ mod transfers;
 
 pub use executing::exec;
 pub use leaving::leave;
-pub use mappings::{map, unmap_part};
+pub use mappings::{map, protect, unmap_part};
 pub use transfers::{
-    ATTRIBUTE, UNKNOWN, copy_range, cut, cut_name, device, payload_of, pour, seek, send_file, tee,
-    transfer,
+    copy_range, cut, cut_name, device, payload_of, pour, seek, send_file, tee, transfer,
 };

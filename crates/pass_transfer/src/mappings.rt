@@ -4,8 +4,9 @@ use crate::transfers::{End, Side, end_of, payload_of, seek_to, tag, tell_of};
 use pass_descriptor::{Run, What};
 use pass_entry::{Mode, TRANSFER_LIMIT};
 use pass_observed::{Mapping, Process};
-use pass_syscall::{LineFault, Parts, Skip, Taken};
+use pass_syscall::{Fd, LineFault, Parts, Skip, Taken};
 use pass_trace::Command;
+use std::collections::BTreeSet;
 
 /// A file in memory, of which its process may read any byte: it reads once where the part begins. What it shares it may write too.
 pub fn map(run: &mut Run<'_>, process: &mut Process, parts: &Parts<'_>) -> Taken {
@@ -18,11 +19,14 @@ pub fn map(run: &mut Run<'_>, process: &mut Process, parts: &Parts<'_>) -> Taken
         };
     };
     let at = Some(parts.number(5)?);
+    if is_shared && is_memory(run, process, fd)? {
+        return run.skip(Skip::Memory);
+    }
     let Some(end) = end_of(run, process, Side { fd, at }, false)? else {
         return Ok(());
     };
     let What::File(file) = end.what else {
-        return run.skip(Skip::Quiet);
+        return Ok(());
     };
     run.note_use(file, false, false)?;
     seek_to(run, process, end)?;
@@ -44,6 +48,12 @@ pub fn map(run: &mut Run<'_>, process: &mut Process, parts: &Parts<'_>) -> Taken
     }
 }
 
+// Whether what a descriptor is for has no bytes but those in memory, as /dev/zero.
+fn is_memory(run: &mut Run<'_>, process: &mut Process, fd: Fd<'_>) -> Result<bool, LineFault> {
+    let held = run.held(process, fd)?;
+    Ok(held.is_some_and(|held| run.what(held.opening) == What::Unsaid(Skip::Quiet)))
+}
+
 // Whether a part is no program's, of whose bytes the first tell enough.
 fn is_data(parts: &Parts<'_>) -> bool {
     !parts.has(2, b"PROT_EXEC") && !parts.has(3, b"MAP_DENYWRITE")
@@ -57,14 +67,15 @@ fn share(
     end: End,
     file: usize,
 ) -> Taken {
-    let mode = match run.openings.get(end.opening) {
-        Some(opening) => opening.mode,
-        None => Mode::Read,
-    };
-    let writes = parts.has(2, b"PROT_WRITE") && mode != Mode::Read;
+    let writes = parts.has(2, b"PROT_WRITE") && may_write(run, end.opening);
     let seen = writes_to(run, file);
+    let start = parts.count()?;
+    if let Some(file) = run.files.get_mut(file) {
+        file.shared = true;
+    }
     process.mappings.push(Mapping {
-        start: parts.count()?,
+        start,
+        end: start.saturating_add(parts.number(1)?),
         opening: end.opening,
         file,
         writes,
@@ -75,6 +86,34 @@ fn share(
     } else {
         Ok(())
     }
+}
+
+fn may_write(run: &Run<'_>, opening: usize) -> bool {
+    match run.openings.get(opening) {
+        Some(opening) => opening.mode != Mode::Read,
+        None => false,
+    }
+}
+
+/// A process may write from now on to parts of what it shares in memory.
+pub fn protect(run: &mut Run<'_>, process: &mut Process, parts: &Parts<'_>) -> Taken {
+    if !parts.has(2, b"PROT_WRITE") {
+        return Ok(());
+    }
+    let start = parts.number(0)?;
+    let end = start.saturating_add(parts.number(1)?);
+    for place in 0..process.mappings.len() {
+        let Some(mapping) = process.mappings.get_mut(place) else {
+            break;
+        };
+        let is_in = start < mapping.end && mapping.start < end;
+        if is_in && !mapping.writes && may_write(run, mapping.opening) {
+            mapping.writes = true;
+            let mapping = *mapping;
+            store_mapped(run, process, mapping)?;
+        }
+    }
+    Ok(())
 }
 
 // How often a file was written to.
@@ -129,22 +168,35 @@ pub fn unmap_part(run: &mut Run<'_>, process: &mut Process, parts: &Parts<'_>) -
 
 /// What a process wrote to the parts that begin in a range is in their files by now.
 pub(crate) fn unmap(run: &mut Run<'_>, process: &mut Process, start: u64, end: u64) -> Taken {
+    let mut stored = BTreeSet::new(run.alloc);
     for place in 0..process.mappings.len() {
         let Some(mapping) = process.mappings.get(place).copied() else {
             break;
         };
-        if mapping.writes && start <= mapping.start && mapping.start < end {
-            if let Some(end) = mapped_end(run, process, mapping, Mode::Write)? {
-                store(run, process, end)?;
-                close_mapped(run, process, mapping, end)?;
-            }
+        let is_in = start <= mapping.start && mapping.start < end;
+        if is_in && mapping.writes && !stored.contains(&mapping.file) {
+            stored.insert(mapping.file)?;
+            store_mapped(run, process, mapping)?;
         }
     }
     Ok(())
 }
 
+// The same of one part.
+fn store_mapped(run: &mut Run<'_>, process: &mut Process, mapping: Mapping) -> Taken {
+    let Some(end) = mapped_end(run, process, mapping, Mode::Write)? else {
+        return Ok(());
+    };
+    store(run, process, end)?;
+    close_mapped(run, process, mapping, end)
+}
+
 /// Before a process writes, it may have read what others wrote to the files that it shares in memory.
 pub(crate) fn look_into_mappings(run: &mut Run<'_>, process: &mut Process) -> Taken {
+    if process.looked == run.changes {
+        return Ok(());
+    }
+    process.looked = run.changes;
     for place in 0..process.mappings.len() {
         let Some(mapping) = process.mappings.get(place).copied() else {
             break;
@@ -157,18 +209,21 @@ pub(crate) fn look_into_mappings(run: &mut Run<'_>, process: &mut Process) -> Ta
             mapping.seen = writes;
         }
         if let Some(end) = mapped_end(run, process, mapping, Mode::Read)? {
-            run.say(
-                process,
-                Command::Read {
-                    fd: end.slot,
-                    len: 1,
-                },
-            )?;
-            process.place(end.slot, end.opening, u64::MAX);
+            say_look(run, process, end, mapping.file)?;
             close_mapped(run, process, mapping, end)?;
         }
     }
     Ok(())
+}
+
+/// A read of a file of which no call tells the bytes.
+pub(crate) fn say_look(run: &mut Run<'_>, process: &mut Process, end: End, file: usize) -> Taken {
+    if let Some(file) = run.files.get_mut(file) {
+        file.tagged = false;
+    }
+    process.place(end.slot, end.opening, u64::MAX);
+    let (fd, len) = (end.slot, 1);
+    run.say(process, Command::Read { fd, len })
 }
 
 // A descriptor of the trace for what a process shares: its own, or one for this call.

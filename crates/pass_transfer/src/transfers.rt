@@ -4,18 +4,14 @@ use crate::executing::interpret;
 use crate::mappings::{close_aside, look_into_mappings, open_aside};
 use pass_descriptor::{Run, What};
 use pass_entry::{Bytes, FILE_LIMIT, Mode, TRANSFER_LIMIT};
-use pass_observed::{Process, text_of};
+use pass_observed::{Process, Taking};
 use pass_syscall::{
     BAD, Fd, LineFault, Parts, Shown, Skip, Taken, ahead, behind, fd_among, number_among,
+    number_of_field,
 };
 use pass_trace::limits::GREATEST_OFFSET;
 use pass_trace::{Command, Payload};
 use std::alloc::{AllocError, Global};
-
-/// The attribute of a version whose bytes the text doesn't show.
-pub const ATTRIBUTE: &str = "BYTES";
-
-pub const UNKNOWN: &str = "unknown";
 
 /// A descriptor that bytes come from or go to, at an offset or at its position.
 #[derive(Clone, Copy)]
@@ -112,7 +108,8 @@ pub(crate) fn end_of(
     };
     let opening = match run.what(held.opening) {
         What::Unsaid(skip) => return no_end(run, held.opening, skip),
-        What::Folder => return no_end(run, held.opening, Skip::Quiet),
+        // What is read or written is no folder.
+        What::Folder => return no_end(run, held.opening, Skip::Descriptor),
         What::Given(number) => {
             let what = run.given_file(number)?;
             if let Some(opening) = run.openings.get_mut(held.opening) {
@@ -186,19 +183,63 @@ fn advance(run: &mut Run<'_>, process: &mut Process, end: End, count: u64, said:
     }
 }
 
-// How many bytes of a transfer the trace moves: None where it moves none, as with a pipe that would wait.
-fn room(run: &mut Run<'_>, end: End, writes: bool, count: u64) -> Option<u64> {
+// How many bytes the trace takes from where a transfer begins.
+fn taken(run: &mut Run<'_>, process: &Process, end: End, count: u64) -> Taking {
     match end.what {
-        What::Pipe { pipe, .. } => {
-            let pipe = run.pipes.get_mut(pipe)?;
-            if writes {
-                pipe.add(count)
-            } else {
-                pipe.take(count)
-            }
-        }
+        What::Pipe { pipe, .. } => match run.pipes.get_mut(pipe) {
+            Some(pipe) => pipe.take(process.number, count),
+            None => Taking::Nothing,
+        },
+        _ => Taking::Bytes(count.min(FILE_LIMIT.saturating_sub(end.at))),
+    }
+}
+
+// How many bytes it puts there: None where nobody may read them.
+fn room(run: &mut Run<'_>, end: End, count: u64) -> Option<u64> {
+    match end.what {
+        What::Pipe { pipe, .. } => run.pipes.get_mut(pipe)?.add(count),
         _ => Some(count.min(FILE_LIMIT.saturating_sub(end.at))),
     }
+}
+
+// Where a descriptor stands that no call of the run opened isn't known, unless its file was empty or read as a whole.
+fn note_floating(run: &mut Run<'_>, end: End, moved: &Moved<'_>, writes: bool) -> Taken {
+    let (What::File(file), true) = (end.what, end.moves) else {
+        return Ok(());
+    };
+    let (Some(opening), Some(one)) = (run.openings.get_mut(end.opening), run.files.get_mut(file))
+    else {
+        return Ok(());
+    };
+    if !opening.floats || (writes && opening.appends) {
+        return Ok(());
+    }
+    let is_whole = !writes && one.ended_at(end.at.saturating_add(moved.count));
+    if is_whole || (end.at == 0 && one.is_empty()) {
+        opening.floats = false;
+        return Ok(());
+    }
+    if !writes {
+        return tell_of(run, Skip::Part, file);
+    }
+    one.unseen = true;
+    tell_of(run, Skip::Bytes, file)
+}
+
+// A read of more than a file of the run's can have shows that the text lacks a write.
+fn note_lack(run: &mut Run<'_>, process: &Process, end: End, count: u64) -> Taken {
+    let What::File(file) = end.what else {
+        return Ok(());
+    };
+    let Some(one) = run.files.get_mut(file) else {
+        return Ok(());
+    };
+    if !one.lacks(end.at, count) {
+        return Ok(());
+    }
+    one.unseen = true;
+    tell_of(run, Skip::Bytes, file)?;
+    tag(run, process, end)
 }
 
 // What is known of a file, or of a pipe, by a transfer from it.
@@ -221,8 +262,7 @@ fn take_from(run: &mut Run<'_>, end: End, moved: &Moved<'_>) -> Taken {
 }
 
 // The same by one to it, which shows its bytes or not.
-fn put_to(run: &mut Run<'_>, process: &mut Process, end: End, count: u64, shown: bool) -> Taken {
-    look_into_mappings(run, process)?;
+fn put_to(run: &mut Run<'_>, end: End, count: u64, shown: bool) -> Taken {
     match end.what {
         What::File(file) => {
             run.note_use(file, true, false)?;
@@ -274,10 +314,7 @@ pub(crate) fn tag(run: &mut Run<'_>, process: &Process, end: End) -> Taken {
         return Ok(());
     }
     file.tagged = true;
-    let attr = text_of(run.alloc, ATTRIBUTE.as_bytes())?.ok_or(BAD)?;
-    let value = text_of(run.alloc, UNKNOWN.as_bytes())?.ok_or(BAD)?;
-    let fd = end.slot;
-    run.say(process, Command::Tag { fd, attr, value })
+    run.say_unknown(process, end.slot)
 }
 
 // The pieces of a transfer from a descriptor of the trace.
@@ -317,10 +354,13 @@ pub(crate) fn read(
     let Some(end) = end_of(run, process, side, false)? else {
         return Ok(());
     };
+    note_floating(run, end, &moved, false)?;
+    note_lack(run, process, end, moved.count)?;
     take_from(run, end, &moved)?;
-    let Some(said) = room(run, end, false, moved.count) else {
-        tell_untold(run, end, moved.count)?;
-        return run.skip(Skip::Quiet);
+    let said = match taken(run, process, end, moved.count) {
+        Taking::Bytes(said) => said,
+        Taking::Enough => return Ok(()),
+        Taking::Nothing => return tell_untold(run, end, moved.count),
     };
     seek_to(run, process, end)?;
     say_reads(run, process, end.slot, said)?;
@@ -343,13 +383,15 @@ pub(crate) fn write(
     side: Side<'_>,
     moved: Moved<'_>,
 ) -> Taken {
+    look_into_mappings(run, process)?;
     let Some(end) = end_of(run, process, side, true)? else {
         return Ok(());
     };
     let shown = moved.count <= moved.bytes.len() as u64;
-    put_to(run, process, end, moved.count, shown)?;
-    let Some(said) = room(run, end, true, moved.count) else {
-        return run.skip(Skip::Quiet);
+    note_floating(run, end, &moved, true)?;
+    put_to(run, end, moved.count, shown)?;
+    let Some(said) = room(run, end, moved.count) else {
+        return Ok(());
     };
     seek_to(run, process, end)?;
     say_writes(run, process, end.slot, said, moved.bytes)?;
@@ -366,18 +408,31 @@ fn copy(
     to: Side<'_>,
     copied: Copied,
 ) -> Taken {
-    let count = copied.count;
+    let moved = Moved::unseen(copied.count);
+    look_into_mappings(run, process)?;
     let Some(source) = end_of(run, process, from, false)? else {
-        return write(run, process, to, Moved::unseen(count));
+        return write(run, process, to, moved);
     };
     let Some(target) = end_of(run, process, to, true)? else {
-        return read(run, process, from, Moved::unseen(count));
+        return read(run, process, from, moved);
     };
+    if is_lost(process, source) {
+        run.skip(Skip::Descriptor)?;
+        return write(run, process, to, moved);
+    }
+    note_floating(run, source, &moved, false)?;
+    note_floating(run, target, &moved, true)?;
+    note_lack(run, process, source, moved.count)?;
     let known = knows(run, source, copied)?;
-    take_from(run, source, &Moved::unseen(count))?;
-    put_to(run, process, target, count, known)?;
-    let taken = room(run, source, false, count).unwrap_or(0);
-    copy_between(run, process, (source, taken), target, count)
+    take_from(run, source, &moved)?;
+    put_to(run, target, moved.count, known)?;
+    let taken = taken(run, process, source, moved.count);
+    copy_between(run, process, (source, taken), target, moved.count)
+}
+
+// Whether the number of a side went to another one, since the process holds too many ends of pipes.
+fn is_lost(process: &Process, end: End) -> bool {
+    process.slot_of(end.opening) != Some(end.slot)
 }
 
 // Whether the bytes that a copy takes are shown, here or elsewhere.
@@ -406,18 +461,23 @@ fn knows(run: &mut Run<'_>, source: End, copied: Copied) -> Result<bool, LineFau
 fn copy_between(
     run: &mut Run<'_>,
     process: &mut Process,
-    from: (End, u64),
+    from: (End, Taking),
     target: End,
     count: u64,
 ) -> Taken {
-    let (source, taken) = from;
-    if taken == 0 {
-        tell_untold(run, source, count)?;
-    }
-    let added = room(run, target, true, count);
+    let (source, taking) = from;
+    let taken = match taking {
+        Taking::Bytes(taken) => taken,
+        Taking::Enough => 0,
+        Taking::Nothing => {
+            tell_untold(run, source, count)?;
+            0
+        }
+    };
+    let added = room(run, target, count);
     seek_to(run, process, source)?;
     seek_to(run, process, target)?;
-    say_copies(run, process, from, (target, added))?;
+    say_copies(run, process, (source, taken), (target, added))?;
     tag(run, process, target)?;
     advance(run, process, source, count, taken);
     advance(run, process, target, count, added.unwrap_or(0));
@@ -535,6 +595,7 @@ pub fn send_file(run: &mut Run<'_>, process: &mut Process, parts: &Parts<'_>) ->
 pub fn tee(run: &mut Run<'_>, process: &mut Process, parts: &Parts<'_>) -> Taken {
     let count = parts.count()?;
     let (fd, at) = (parts.fd(0)?, None);
+    look_into_mappings(run, process)?;
     let Some(source) = end_of(run, process, Side { fd, at }, false)? else {
         return Ok(());
     };
@@ -542,14 +603,19 @@ pub fn tee(run: &mut Run<'_>, process: &mut Process, parts: &Parts<'_>) -> Taken
     let Some(target) = end_of(run, process, Side { fd, at }, true)? else {
         return Ok(());
     };
-    let taken = match source.what {
+    let shown = match source.what {
         What::Pipe { pipe, .. } => match run.pipes.get_mut(pipe) {
             Some(pipe) => pipe.show(),
             None => 0,
         },
         _ => 0,
     };
-    put_to(run, process, target, count, false)?;
+    let taken = if shown == 0 {
+        Taking::Nothing
+    } else {
+        Taking::Bytes(shown)
+    };
+    put_to(run, target, count, false)?;
     copy_between(run, process, (source, taken), target, count)
 }
 
@@ -569,21 +635,37 @@ pub fn device(run: &mut Run<'_>, process: &mut Process, parts: &Parts<'_>) -> Ta
 // A file shares the blocks of another, all or some.
 fn reflink(run: &mut Run<'_>, process: &mut Process, parts: &Parts<'_>) -> Taken {
     let target = parts.fd(0)?;
-    let Some(source) = fd_among(parts.word(2), 0) else {
+    let range = parts.word(2);
+    let Some(source) = fd_among(range, 0) else {
         return run.skip(Skip::Bytes);
     };
-    let at = Some(0);
-    let from = Side { fd: source, at };
+    let start = number_of_field(range, b"src_offset").unwrap_or(0);
+    let place = number_of_field(range, b"dest_offset").unwrap_or(0);
+    let length = number_of_field(range, b"src_length").unwrap_or(0);
     let file = run
         .held(process, source)?
         .and_then(|held| run.file_of(held.opening));
-    let count = match file.and_then(|file| run.files.get(file)) {
+    let size = match file.and_then(|file| run.files.get(file)) {
         Some(file) => file.size,
         None => 0,
     };
-    let is_whole = true;
-    let to = Side { fd: target, at };
-    copy(run, process, from, to, Copied { count, is_whole })
+    // A length of 0 stands for all up to the end.
+    let is_whole = length == 0;
+    let count = if is_whole {
+        size.saturating_sub(start)
+    } else {
+        length
+    };
+    let (fd, at) = (source, Some(start));
+    let from = Side { fd, at };
+    let (fd, at) = (target, Some(place));
+    copy(
+        run,
+        process,
+        from,
+        Side { fd, at },
+        Copied { count, is_whole },
+    )
 }
 
 pub fn seek(run: &mut Run<'_>, process: &mut Process, parts: &Parts<'_>) -> Taken {
@@ -593,6 +675,7 @@ pub fn seek(run: &mut Run<'_>, process: &mut Process, parts: &Parts<'_>) -> Take
     let at = parts.count()?;
     if let Some(opening) = run.openings.get_mut(held.opening) {
         opening.at = at;
+        opening.floats = false;
     }
     let is_end = parts.has(2, b"SEEK_END") && parts.word(1) == b"0".as_slice();
     let file = run.file_of(held.opening);
@@ -613,7 +696,7 @@ pub fn cut(run: &mut Run<'_>, process: &mut Process, parts: &Parts<'_>) -> Taken
 
 fn cut_end(run: &mut Run<'_>, process: &mut Process, end: End, size: u64) -> Taken {
     let What::File(file) = end.what else {
-        return run.skip(Skip::Quiet);
+        return Ok(());
     };
     run.note_use(file, true, false)?;
     if size > FILE_LIMIT {

@@ -1,9 +1,10 @@
 //! Reads on standard input what strace wrote of a run, and writes its trace to standard output. What the trace can't say, and why
-//! there is none, goes to standard error. It is called as `passtrace [DIR] [--root FOLDER]`: the trace is for the store of DIR,
-//! and names below FOLDER are relative to it.
+//! there is none, goes to standard error. It is called as `passtrace [DIR] [--root FOLDER] [--loaders] [--fact NAME VALUE]..`: the
+//! trace is for the store of DIR, names below FOLDER are relative to it, programs are read for what loads them, and the run has these
+//! attributes.
 //!
 //! `pass_on` writes exactly the text that `pass_strace::translate` gives (`text`, `written`), whose lines have an origin each, in
-//! order (`lines`, `origins`, `order`), and nothing where there is none (`untouched`). A text that ends within a line is refused
+//! order (`lines`, `origins`, `order`), which begins with the attributes (`facts`, `told`), and nothing where there is none (`untouched`). A text that ends within a line is refused
 //! with that line, unless it can't be read or memory is refused (`cut`). A fault of a stream is told exactly where its count rose
 //! (`read`, `read_ok`, `read_kept`, `write`, `write_ok`). The words of the call, the store that is read and the exit numbers are
 //! tested.
@@ -11,15 +12,18 @@
 
 mod help;
 mod passing;
+mod programs;
 mod words;
 
 use crate::help::HELP;
 use crate::passing::{Fault, pass_on};
-use crate::words::Words;
+use crate::programs::HostPrograms;
+use crate::words::{Pair, Words};
 use pass_help::{Request, VERSION, asked};
 use pass_host::{HostDisk, HostFault, HostSink, HostSource};
 use pass_log::{LogFault, LogImage, read_image};
-use pass_strace::{Stored, Told};
+use pass_strace::{Fact, Request as Wanted, Stored, Told};
+use std::alloc::{AllocError, Global};
 use std::process::ExitCode;
 use std::{env, io};
 
@@ -49,24 +53,58 @@ fn main(rt: HostRuntime) -> ExitCode {
     if let Some(request) = asked(arguments.as_slice()) {
         return ExitCode::from(tell_request(&rt, request));
     }
-    let Some(words) = Words::of(arguments) else {
+    let Some(words) = Words::of(rt.alloc(), arguments) else {
         return ExitCode::from(bad_words(&rt));
     };
-    let stored = match stored_in(&rt, &words) {
+    ExitCode::from(pass(&rt, &words))
+}
+
+// Writes the trace, and tells what it can't say.
+fn pass(rt: &HostRuntime, words: &Words) -> u8 {
+    let stored = match stored_in(rt, words) {
         Ok(stored) => stored,
-        Err(status) => return ExitCode::from(status),
+        Err(status) => return status,
     };
+    let Ok(facts) = facts_of(rt.alloc(), &words.pairs) else {
+        return NO_MEMORY;
+    };
+    let request = Wanted {
+        stored: &stored,
+        root: words.root(),
+        facts: if stored.has_room_for_app() {
+            &facts
+        } else {
+            &[]
+        },
+    };
+    let host = HostPrograms { rt };
+    let programs = if words.loaders { Some(&host) } else { None };
     let mut source = HostSource::new(rt.reader());
-    let mut sink = HostSink::new(io::writer(&rt));
-    match pass_on(rt.alloc(), &mut source, &mut sink, &stored, words.root()) {
+    let mut sink = HostSink::new(io::writer(rt));
+    match pass_on(rt.alloc(), &mut source, &mut sink, request, programs) {
         Ok(translated) => {
-            for told in &translated.told {
-                tell(&rt, told);
+            if request.facts.len() < facts.len() {
+                let _told = eprintln!(rt; "untold facts run line 0 times 1");
             }
-            ExitCode::SUCCESS
+            for told in &translated.told {
+                tell(rt, told);
+            }
+            DONE
         }
-        Err(fault) => ExitCode::from(refused(&rt, fault)),
+        Err(fault) => refused(rt, fault),
     }
+}
+
+// The attributes of the run.
+fn facts_of(alloc: Global, pairs: &[Pair]) -> Result<Vec<Fact>, AllocError> {
+    let mut facts = Vec::new(alloc);
+    for pair in pairs {
+        let fact = Fact::of(alloc, pair.name.as_bytes(), pair.value.as_bytes())?;
+        if let Some(fact) = fact {
+            facts.push(fact)?;
+        }
+    }
+    Ok(facts)
 }
 
 // The words with which the program was called.
@@ -100,11 +138,7 @@ fn stored_in(rt: &HostRuntime, words: &Words) -> Result<Stored, u8> {
     };
     let mut disk = match HostDisk::open_to_read(rt, rt.alloc(), folder) {
         Ok(disk) => disk,
-        Err(HostFault::Failed) => {
-            let _told = eprintln!(rt; "fault open");
-            return Err(UNOPENED);
-        }
-        Err(HostFault::NoMemory) => return Err(NO_MEMORY),
+        Err(fault) => return Err(unopened(rt, folder, fault)),
     };
     let LogImage { list, .. } = match read_image(rt.alloc(), &mut disk) {
         Ok(image) => image,
@@ -114,6 +148,16 @@ fn stored_in(rt: &HostRuntime, words: &Words) -> Result<Stored, u8> {
         Ok(stored) => Ok(stored),
         Err(_) => Err(NO_MEMORY),
     }
+}
+
+// Tells why the folder of the store can't be opened and what to do, unless it is for want of memory.
+fn unopened(rt: &HostRuntime, folder: &str, fault: HostFault) -> u8 {
+    if fault == HostFault::NoMemory {
+        return NO_MEMORY;
+    }
+    let _told = eprintln!(rt; "fault open");
+    let _advice = eprintln!(rt; "passtrace: {folder}: {fault}");
+    UNOPENED
 }
 
 // Tells why the log of the store can't be read, unless it is for want of memory.

@@ -4,11 +4,15 @@ ghost use Rattle.pass_outside.specs.Faults.{HasRisen};
 ghost use Rattle.pass_trace.specs.Traces.{IsTraceText, trace_of};
 ghost use Rattle.pass_syscall.specs.declared.fault.StraceReason.TheVariants.{Cut};
 ghost use Rattle.pass_strace.specs.declared.fault.Refusal.TheVariants.{Strace};
+ghost use Rattle.pass_strace.specs.Facts.{BeginsWith, IsTold};
 ghost use Rattle.pass_strace.specs.Translations.{IsInOrder, count_lines, is_whole};
 ghost use Rattle.passtrace.specs.declared.passing.Fault.TheVariants.{NoMemory, Refused, Unread, Unwritten};
 
+use crate::programs::{Programs, loaders_of};
 use pass_outside::{Failed, Sink, Source};
-use pass_strace::{Refusal, Stored, Translated, TranslationFault, translate};
+use pass_strace::{
+    Loaders, Refusal, Request, Translated, TranslationFault, programs_of, translate,
+};
 use std::alloc::{AllocError, Global};
 
 /// How many bytes are asked of the source at once.
@@ -79,34 +83,49 @@ fn write_all<K: Sink>(sink: &mut K, text: &[u8]) -> Result<(), Failed>
     Ok(())
 }
 
+// What loads the programs of the run, where that is looked for.
+fn loaders<P: Programs>(
+    alloc: Global,
+    text: &[u8],
+    request: Request<'_>,
+    programs: Option<&P>,
+) -> Result<Loaders, AllocError> {
+    match programs {
+        Some(programs) => loaders_of(alloc, programs, &programs_of(alloc, text, request)?),
+        None => Ok(Loaders::none(alloc)),
+    }
+}
+
 fn translated<'a>(
     alloc: Global,
     text: &[u8],
-    stored: &'a Stored,
-    root: &'a [u8],
+    request: Request<'a>,
+    loaders: &'a Loaders,
 ) -> Result<Translated, Fault>
     ensures text { IfOk result (λ t. IsTraceText t.text.items) }
     ensures lines { IfOk result (λ t. t.lines.items ≡ trace_of t.text.items) }
     ensures origins { IfOk result (λ t. length t.origins.items ≡ length t.lines.items) }
     ensures order { IfOk result (λ t. IsInOrder t.origins.items (count_lines text.now)) }
     ensures cut { is_whole text.now ≡ false → result ≡ Err (Refused (count_lines text.now + 1) (Strace Cut)) }
+    ensures facts { IfOk result (λ t. BeginsWith request.entry.facts.now t.text.items) }
+    ensures told { IfOk result (λ t. IsTold request.entry.facts.now t.lines.items) }
     ensures unread { IsErrOf result Unread → ⊥ }
     ensures unwritten { IsErrOf result Unwritten → ⊥ }
 {
-    match translate(alloc, text, stored, root) {
+    match translate(alloc, text, request, loaders) {
         Ok(translated) => Ok(translated),
         Err(TranslationFault::Refused { line, reason }) => Err(Fault::Refused { line, reason }),
         Err(TranslationFault::NoMemory) => Err(Fault::NoMemory),
     }
 }
 
-/// Reads all that the source has left, and writes its trace to the sink, for a store that has these files.
-pub(crate) fn pass_on<'a, S: Source, K: Sink>(
+/// Reads all that the source has left, and writes its trace to the sink. Where programs are handed in, what loads them is read too.
+pub(crate) fn pass_on<S: Source, K: Sink, P: Programs>(
     alloc: Global,
     source: &mut S,
     sink: &mut K,
-    stored: &'a Stored,
-    root: &'a [u8],
+    request: Request<'_>,
+    programs: Option<&P>,
 ) -> Result<Translated, Fault>
     // What is written is the text of a trace, whose lines stand in the order of those from which they come, one for each.
     ensures text { IfOk result (λ t. IsTraceText t.text.items) }
@@ -114,6 +133,9 @@ pub(crate) fn pass_on<'a, S: Source, K: Sink>(
     ensures origins { IfOk result (λ t. length t.origins.items ≡ length t.lines.items) }
     ensures order { IfOk result (λ t. IsTrue S.tells → IsInOrder t.origins.items (count_lines (S.left source.old))) }
     ensures written { IfOk result (λ t. IsTrue K.tells → K.taken sink.new ≡ K.taken sink.old ++ t.text.items) }
+    // In front stands what is said of the run, and its first process begins by reading of it.
+    ensures facts { IfOk result (λ t. BeginsWith request.entry.facts.now t.text.items) }
+    ensures told { IfOk result (λ t. IsTold request.entry.facts.now t.lines.items) }
     // A text that ends within a line is refused with that line, as far as it could be read.
     ensures cut { IsTrue S.tells → is_whole (S.left source.old) ≡ false
         → (result ≡ Err (Refused (count_lines (S.left source.old) + 1) (Strace Cut))) ⊎ (IsErrOf result Unread ⊎ IsErrOf result NoMemory) }
@@ -127,7 +149,8 @@ pub(crate) fn pass_on<'a, S: Source, K: Sink>(
     ensures write_ok { OnOk result (K.fault_count sink.new ≡ K.fault_count sink.old) }
 {
     let text = read_all(alloc, source)?;
-    let translated = translated(alloc, &text, stored, root)?;
+    let loaders = loaders(alloc, &text, request, programs)?;
+    let translated = translated(alloc, &text, request, &loaders)?;
     match write_all(sink, &translated.text) {
         Ok(()) => Ok(translated),
         Err(Failed) => Err(Fault::Unwritten),

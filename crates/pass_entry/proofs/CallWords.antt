@@ -27,6 +27,7 @@ call_of-call_word call.MakePipe = refl
 call_of-call_word call.Fork = refl
 call_of-call_word call.Exec = refl
 call_of-call_word call.WaitChild = refl
+call_of-call_word call.Await = refl
 call_of-call_word call.Exit = refl
 call_of-call_word call.Rename = refl
 call_of-call_word call.Unlink = refl

@@ -25,6 +25,7 @@ call_word call.MakePipe = codes "pipe"
 call_word call.Fork = codes "fork"
 call_word call.Exec = codes "exec"
 call_word call.WaitChild = codes "wait"
+call_word call.Await = codes "await"
 call_word call.Exit = codes "exit"
 call_word call.Rename = codes "rename"
 call_word call.Unlink = codes "unlink"
@@ -39,8 +40,8 @@ call_word call.Sync = codes "sync"
 abbrev pub call_names : List CallName
 call_names =
     call.Start ∷ call.Creat ∷ call.OpenName ∷ call.CloseFd ∷ call.Read ∷ call.Write ∷ call.Seek ∷ call.Truncate ∷ call.MakePipe ∷ call.Fork
-    ∷ call.Exec ∷ call.WaitChild ∷ call.Exit ∷ call.Rename ∷ call.Unlink ∷ call.MakeObj ∷ call.Revive ∷ call.FreezeObj ∷ call.Disclose ∷ call.TagObj
-    ∷ call.Sync ∷ []
+    ∷ call.Exec ∷ call.WaitChild ∷ call.Await ∷ call.Exit ∷ call.Rename ∷ call.Unlink ∷ call.MakeObj ∷ call.Revive ∷ call.FreezeObj ∷ call.Disclose
+    ∷ call.TagObj ∷ call.Sync ∷ []
 
 -- the call with this word
 abbrev pub call_of : List ℕ → Option CallName

@@ -142,6 +142,7 @@ given_short session history who p made steps k what (act.Known n) y r e = none_g
 given_short session history who p made steps k what (act.Deny ask) y r e = none_given _ y (some_is _ _ e) (quiet_denied (refusal (process_after history what) ask))
 given_short session history who p made steps k what (act.Push out bytes) y r e = quiet_pushed (pipe_after history what) (length bytes) ((pipe_after history what).readers == 0) (nat_lt (pipe_capacity - length (pipe_after history what).bytes) (length bytes)) y e
 given_short session history who p made steps k what act.Reap y r e = quiet_reaped (has_ended history what) y e
+given_short session history who p made steps k what act.Ended y r e = quiet_reaped (has_ended history what) y e
 given_short session history who p made steps k what _ y r e = none_given answer.Done y (some_is _ _ e) refl
 
 gives_short : (session : Session) (history : List Entry) → IsLegal session history → (i : ℕ) (e : Entry) → slice_get history i ≡ Some e → length (bytes_of e.reply) ≤ transfer_limit
@@ -211,6 +212,7 @@ steps_few who p made requests.Fork =
     let a = length-append (map join (pipe_descriptors p)) (born ∷ []) in let b = length-map (pipe_descriptors p) join in let c = few_pipes p in omega (arith, a, b, c)
 steps_few who p made (requests.Exec name args) = omega arith
 steps_few who p made (requests.WaitChild child) = omega arith
+steps_few who p made (requests.Await child) = omega arith
 steps_few who p made requests.Exit =
     let leave : Descriptor → Step = λ d. act_on d.pnode (act.Leave (end_of d.mode)) in
     let a = length-append (map leave (pipe_descriptors p)) (act_on who act.Finish ∷ []) in let b = length-map (pipe_descriptors p) leave in let c = few_pipes p in omega (arith, a, b, c)

@@ -76,6 +76,7 @@ ends_of who p made requests.Fork =
     )
 ends_of who p made (requests.Exec name args) = (refl, (refl, (refl, tt)))
 ends_of who p made (requests.WaitChild child) = (refl, (refl, tt))
+ends_of who p made (requests.Await child) = (refl, (refl, tt))
 ends_of who p made requests.Exit =
     let leave : Descriptor → Step = λ d. act_on d.pnode (act.Leave (end_of d.mode)) in
     let finish : Step = act_on who act.Finish in

@@ -65,6 +65,8 @@ Row who p made steps k what (act.Exec out name args) =
 Row who p made steps k what act.Reap = (k ≡ 0) × (finite_set.contains p.children what ≡ true)
 Row who p made steps k what (act.Gather out child) =
     (what ≡ who) × (k ≡ 1) × (out ≡ place_at made 0) × (slice_get steps 0 ≡ Some (act_on child act.Reap))
+Row who p made steps k what act.Ended = (k ≡ 0) × (finite_set.contains p.children what ≡ true)
+Row who p made steps k what (act.Release child) = (what ≡ who) × (k ≡ 1) × (slice_get steps 0 ≡ Some (act_on child act.Ended))
 Row who p made steps k what act.Finish = (what ≡ who) × (suc k ≡ length steps)
 Row who p made steps k what (act.Kept fd) = what ≡ who
 Row who p made steps k what (act.Give at len) =
@@ -270,6 +272,7 @@ rows_of who p made (requests.MakePipe reader writer) within fine =
 rows_of who p made requests.Fork within fine = fork_rows who p made (pipe_descriptors p) (from_pipes (finite_map.get p.descriptors) (range_with_len 0 64) 2)
 rows_of who p made (requests.Exec name args) within fine = (refl, ((refl, refl, name, refl), ((refl, refl, refl, refl), tt)))
 rows_of who p made (requests.WaitChild child) within fine = ((refl, child_allowed p child fine), ((refl, refl, refl, refl), tt))
+rows_of who p made (requests.Await child) within fine = ((refl, child_allowed p child fine), ((refl, refl, refl), tt))
 rows_of who p made requests.Exit within fine = exit_rows who p made (pipe_descriptors p) (from_pipes (finite_map.get p.descriptors) (range_with_len 0 64) 0)
 rows_of who p made (requests.Rename from to) within fine = (refl, tt)
 rows_of who p made (requests.Unlink name) within fine = (refl, tt)

@@ -114,6 +114,8 @@ suits (act.Gain out fd) k = same_kind k kind.Process
 suits (act.Exec out name args) k = same_kind k kind.Process
 suits act.Reap k = same_kind k kind.Process
 suits (act.Gather out child) k = same_kind k kind.Process
+suits act.Ended k = same_kind k kind.Process
+suits (act.Release child) k = same_kind k kind.Process
 suits act.Finish k = same_kind k kind.Process
 suits (act.Kept fd) k = same_kind k kind.Process
 suits (act.Give at len) k = same_kind k kind.File
@@ -153,12 +155,18 @@ NewLaw = (session : Session) → IsSound session → (history : List Entry) (i n
     → ((k : Kind) → ¬ (Exists (opening_registry session.start) n k))
     × ((j : ℕ) (f : Entry) → slice_get history j ≡ Some f → made_object f.act f.reply ≡ Some n → i ≡ j)
 
--- an entry on a process is its own, its `Born`, or a `Reap` after its end
+-- the act is one of its parent on a process that has ended
+abbrev pub sees_end : Act → Bool
+sees_end act.Reap = true
+sees_end act.Ended = true
+sees_end _ = false
+
+-- an entry on a process is its own, its `Born`, or one of its parent after its end
 abbrev pub OnProcessLaw : Type 0
 OnProcessLaw = (session : Session) → IsSound session → (history : List Entry) (e : Entry) → IsLegal session history → MayFollow session history e
     → Exists (registry_after session history) e.what kind.Process
     → (e.who ≡ e.what) ⊎ (((out : ℕ) × (descriptors : finite_map.FinMap nat_cmp Descriptor) × (e.act ≡ act.Born out descriptors))
-    ⊎ ((e.act ≡ act.Reap) × (has_ended history e.what ≡ true)))
+    ⊎ ((sees_end e.act ≡ true) × (has_ended history e.what ≡ true)))
 
 -- call numbers, file sizes and descriptors stay in their ranges
 abbrev pub NumberLaw : Type 0

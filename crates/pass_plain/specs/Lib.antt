@@ -26,3 +26,4 @@ pub mod NextSteps
 pub mod CallLaws
 pub mod States
 pub mod Lineages
+pub mod Awaits

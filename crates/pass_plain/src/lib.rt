@@ -6,7 +6,8 @@
 //! The module `laws` carries what follows from legality: an IN names an earlier OUT (`sources`); what an object's holder and a
 //! caller's holder have seen decides what may come next, and with which records (`two_prefixes`); ranges of sizes, offsets,
 //! descriptors, call numbers and pipes (`bounds`); how calls end (`ends`); what is made is new and what is used is there
-//! (`objects`); processes begin once (`processes`); how one object's version, mark and sources move (`lineages`).
+//! (`objects`); processes begin once (`processes`); how one object's version, mark and sources move (`lineages`); by an await no data
+//! flows (`awaits`).
 #![tactic(auto)]
 
 mod contents;

@@ -1,11 +1,12 @@
 //! The state of one process in a history.
 ghost use Rattle.std.specs.Prelude.{◌≡◌, ◌<◌, ◌≤◌, ◌+◌, ◌^◌, ◌&&◌, None, OnOk, OnErr, length, List, nat_lt};
+ghost use Rattle.std.specs.Bool.{OnFalse};
 ghost use Rattle.pass_entry.specs.declared.entry.Ask.TheVariants as ask;
 ghost use Rattle.std.specs.FinMap as finite_map;
 ghost use Rattle.std.specs.FinSet as finite_set;
 ghost use Rattle.pass_entry.specs.Limits.{transfer_limit};
 ghost use Rattle.pass_entry.specs.declared.entry.Entry.{Entry};
-ghost use Rattle.pass_plain.specs.Processes.{new_process, process_act, changed_at, risen, OffsetsFit, AllBelow64, Gains, faults_if, is_held, pipe_end as pipe_end_of, refusal as refusal_of, is_file, file_limit};
+ghost use Rattle.pass_plain.specs.Processes.{Process, new_process, process_act, changed_at, risen, OffsetsFit, AllBelow64, Gains, changes_process as changes_process_of, faults_if, is_held, pipe_end as pipe_end_of, refusal as refusal_of, is_file, file_limit};
 
 use pass_entry::{Act, Ask, CallFault, Descriptor, Descriptors, FILE_LIMIT, Kind, Mode, Pnode};
 use std::alloc::{AllocError, Global};
@@ -199,6 +200,9 @@ impl ProcessState {
             Act::Gather { child, .. } => {
                 let _ = self.children.remove(child);
             }
+            Act::Release { child } => {
+                let _ = self.children.remove(child);
+            }
             Act::Finish => {
                 self.ended = true;
                 self.descriptors = Descriptors::new();
@@ -220,6 +224,28 @@ fn passes_limit(d: &Descriptor, len: u32) -> bool
     ensures { result ≡ is_file d.now && nat_lt file_limit (d.now.offset + len) }
 {
     d.kind == Kind::File && (d.offset > FILE_LIMIT || d.offset + u64::from(len) > FILE_LIMIT)
+}
+
+/// The act changes the state of its process.
+pub fn changes_process(act: &Act) -> bool
+    ensures exact { result ≡ changes_process_of act.now }
+    ensures kept { OnFalse result ((past : List Entry) (p : Process) → process_act past p act.now ≡ p) }
+{
+    matches!(
+        act,
+        Act::Attach { .. }
+            | Act::AttachPipe { .. }
+            | Act::Detach { .. }
+            | Act::Seek { .. }
+            | Act::Show { .. }
+            | Act::Spawn { .. }
+            | Act::Born { .. }
+            | Act::Gain { .. }
+            | Act::Exec { .. }
+            | Act::Gather { .. }
+            | Act::Release { .. }
+            | Act::Finish
+    )
 }
 
 /// The descriptor of an end of a new pipe.

@@ -21,6 +21,7 @@ pub enum Request {
     Fork,
     Exec { name: Text, args: Text },
     WaitChild { child: Pnode },
+    Await { child: Pnode },
     Exit,
     Rename { from: Text, to: Text },
     Unlink { name: Text },
@@ -51,6 +52,7 @@ impl Request {
             Request::Fork => CallName::Fork,
             Request::Exec { .. } => CallName::Exec,
             Request::WaitChild { .. } => CallName::WaitChild,
+            Request::Await { .. } => CallName::Await,
             Request::Exit => CallName::Exit,
             Request::Rename { .. } => CallName::Rename,
             Request::Unlink { .. } => CallName::Unlink,
@@ -69,7 +71,11 @@ impl Request {
         ensures { result ≡ is_within_of self.now }
     {
         match self {
-            Request::Start | Request::Fork | Request::Exit | Request::WaitChild { .. } => true,
+            Request::Start
+            | Request::Fork
+            | Request::Exit
+            | Request::WaitChild { .. }
+            | Request::Await { .. } => true,
             Request::Creat { fd, name } => *fd < 64 && name.is_name(),
             Request::OpenName { fd, name, mode } => {
                 *fd < 64 && name.is_name() && *mode != Mode::App
@@ -122,7 +128,9 @@ impl Request {
                 first: *reader,
                 second: *writer,
             }),
-            Request::WaitChild { child } => Some(Ask::Child { pnode: *child }),
+            Request::WaitChild { child } | Request::Await { child } => {
+                Some(Ask::Child { pnode: *child })
+            }
             Request::Disclose { target, source } => Some(Ask::HeldTwo {
                 first: *target,
                 second: *source,
@@ -173,6 +181,7 @@ impl Clone for Request {
                 args: args.clone()?,
             },
             Request::WaitChild { child } => Request::WaitChild { child: *child },
+            Request::Await { child } => Request::Await { child: *child },
             Request::Exit => Request::Exit,
             Request::Rename { from, to } => Request::Rename {
                 from: from.clone()?,

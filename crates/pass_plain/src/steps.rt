@@ -52,6 +52,7 @@ fn is_last_act(before: &ProcessState, name: CallName, act: &Act) -> bool
                 | Act::Show { .. }
                 | Act::Spawn { .. }
                 | Act::Reap
+                | Act::Ended
                 | Act::Give { .. }
                 | Act::Load
                 | Act::Take { .. }

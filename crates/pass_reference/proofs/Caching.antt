@@ -16,13 +16,13 @@ use Rattle.pass_plain.specs.Histories.{is_own, is_fault, own_step, is_made, pnod
 use Rattle.pass_plain.specs.Sessions.{Session, opening_bytes}
 use Rattle.pass_plain.specs.Recording.{bytes_after}
 use Rattle.pass_plain.specs.Pipes.{Pipe, pipe_act, pipe_after, new_pipe}
-use Rattle.pass_plain.specs.Processes.{Process, Held, process_act, process_after, begins, has_begun}
+use Rattle.pass_plain.specs.Processes.{Process, Held, changes_process, process_act, process_after, begins, has_begun}
 use Rattle.pass_plain.specs.Replies.{reply_to}
 use Rattle.pass_plain.specs.Registries.{registry_act}
 use Rattle.pass_plain.specs.Legal.{CallerAllows, is_start, last_number}
 use Rattle.pass_plain.specs.States.{registry_of, noted, Call, IsBlank, IsLawful}
 use Rattle.pass_reference.specs.States.{pipe_step, call_of, IsRegistry, IsPipe, IsCaller}
-use Rattle.pass_reference.specs.Cache.{IsCached, ChangesAt, is_pipe_change, is_process_change, other_process, IsCachedFile, IsCachedPipe, IsCachedCaller}
+use Rattle.pass_reference.specs.Cache.{IsCached, ChangesAt, is_pipe_change, other_process, IsCachedFile, IsCachedPipe, IsCachedCaller}
 use Rattle.pass_plain.specs.declared.start.Start.{Start}
 use Rattle.pass_plain.specs.declared.registry.RegistryState.{RegistryState}
 use Rattle.pass_reference.specs.declared.pipe.PipeState.{PipeState}
@@ -154,7 +154,7 @@ module _ (history : List Entry) (e : Entry) (object : ℕ) where
   new_pipe_quiet quiet new = pipe_stays (step_quiet quiet) ∙ new
 
 -- processes
-quiet_process : (past : List Entry) (p : Process) (a : Act) → is_process_change a ≡ false → process_act past p a ≡ p
+quiet_process : (past : List Entry) (p : Process) (a : Act) → changes_process a ≡ false → process_act past p a ≡ p
 quiet_process past p (act.Attach fd d) quiet = absurd (cc)
 quiet_process past p (act.AttachPipe reader writer pnode) quiet = absurd (cc)
 quiet_process past p (act.Detach fd) quiet = absurd (cc)
@@ -165,11 +165,12 @@ quiet_process past p (act.Born out descriptors) quiet = absurd (cc)
 quiet_process past p (act.Gain out fd) quiet = absurd (cc)
 quiet_process past p (act.Exec out name args) quiet = absurd (cc)
 quiet_process past p (act.Gather out child) quiet = absurd (cc)
+quiet_process past p (act.Release child) quiet = absurd (cc)
 quiet_process past p act.Finish quiet = absurd (cc)
 quiet_process past p _ quiet = refl
 
 -- what changes a process makes no object
-makes_nothing : (session : Session) (history : List Entry) (what k : ℕ) (a : Act) (y : Reply) → is_process_change a ≡ true → reply_to session history what a ≡ Some y → is_made k y ≡ false
+makes_nothing : (session : Session) (history : List Entry) (what k : ℕ) (a : Act) (y : Reply) → changes_process a ≡ true → reply_to session history what a ≡ Some y → is_made k y ≡ false
 makes_nothing session history what k (act.Attach fd d) y change e = ap (is_made k) (sym (some_is _ _ e))
 makes_nothing session history what k (act.AttachPipe reader writer pnode) y change e = ap (is_made k) (sym (some_is _ _ e))
 makes_nothing session history what k (act.Detach fd) y change e = ap (is_made k) (sym (some_is _ _ e))
@@ -180,13 +181,14 @@ makes_nothing session history what k (act.Born out descriptors) y change e = ap 
 makes_nothing session history what k (act.Gain out fd) y change e = ap (is_made k) (sym (some_is _ _ e))
 makes_nothing session history what k (act.Exec out name args) y change e = ap (is_made k) (sym (some_is _ _ e))
 makes_nothing session history what k (act.Gather out child) y change e = ap (is_made k) (sym (some_is _ _ e))
+makes_nothing session history what k (act.Release child) y change e = ap (is_made k) (sym (some_is _ _ e))
 makes_nothing session history what k act.Finish y change e = ap (is_made k) (sym (some_is _ _ e))
 makes_nothing session history what k _ y change e = absurd (cc)
 
 -- another process than the caller and the one that an entry may change besides
 module _ (session : Session) (history : List Entry) (e : Entry) (k : ℕ) (replied : reply_to session history e.what e.act ≡ Some e.reply)
     (not_caller : e.who ≢ k) (not_other : other_process e ≢ k) where
-  started : (b : Bool) → is_process_change e.act ≡ b → e.call ≡ call.Start → e.reply ≡ answer.Made k → ⊥
+  started : (b : Bool) → changes_process e.act ≡ b → e.call ≡ call.Start → e.reply ≡ answer.Made k → ⊥
   started true t start made =
       let z : true ≡ false = sym (same_itself k) ∙ ap (is_made k) (sym made) ∙ makes_nothing session history e.what k e.act e.reply t replied in cc
   started false t start made =
@@ -195,11 +197,11 @@ module _ (session : Session) (history : List Entry) (e : Entry) (k : ℕ) (repli
 
   born : (out : ℕ) (descriptors : Held) → e.act ≡ act.Born out descriptors → e.what ≡ k → ⊥
   born out descriptors is here =
-      not_other (ap (λ a. if is_process_change a then e.what else if is_start e.call then pnode_of e.reply else e.who) is ∙ here)
+      not_other (ap (λ a. if changes_process a then e.what else if is_start e.call then pnode_of e.reply else e.who) is ∙ here)
 
   never : begins k e.call e.act e.what e.reply ≡ true → ⊥
   never t = elim (begins-cases k e.call e.act e.what e.reply t) [
-    | inl s ↦ started (is_process_change e.act) refl s.0 s.1
+    | inl s ↦ started (changes_process e.act) refl s.0 s.1
     | inr b ↦ born b.0 b.1 b.2 b.3
   ]
 
@@ -211,13 +213,13 @@ module _ (session : Session) (history : List Entry) (e : Entry) (k : ℕ) (repli
       at false t = t
 
   state_left : (p : Process) → own_step (λ past p e. process_act past p e.act) k history p e ≡ p
-  state_left p = at (is_process_change e.act) refl
+  state_left p = at (changes_process e.act) refl
     where
       same_if : (b : Bool) → process_act history p e.act ≡ p → cond b (process_act history p e.act) p ≡ p
       same_if true same = same
       same_if false same = refl
 
-      at : (b : Bool) → is_process_change e.act ≡ b → own_step (λ past p e. process_act past p e.act) k history p e ≡ p
+      at : (b : Bool) → changes_process e.act ≡ b → own_step (λ past p e. process_act past p e.act) k history p e ≡ p
       at true t =
           own_step-other (λ past p e. process_act past p e.act) k history p e
           (different e.what k (λ same. not_other (ap (λ b. if b then e.what else if is_start e.call then pnode_of e.reply else e.who) t ∙ same)))

@@ -12,6 +12,7 @@ use Rattle.pass_plain.specs.Sessions.{opening_bytes}
 use Rattle.pass_plain.specs.Sound.{IsSound}
 use Rattle.pass_plain.specs.Legal.{IsLegal, session_of, is_start}
 use Rattle.pass_plain.specs.Pipes.{new_pipe, pipe_after}
+use Rattle.pass_plain.specs.Processes.{changes_process}
 use Rattle.pass_plain.specs.Recording.{bytes_after}
 use Rattle.pass_plain.specs.States.{IsBlank}
 use Rattle.pass_reference.specs.States.{IsRegistry, IsPipe, IsCaller}
@@ -29,24 +30,9 @@ is_pipe_change (act.Join end) = true
 is_pipe_change (act.Leave end) = true
 is_pipe_change _ = false
 
--- the act changes the state of its process
-abbrev pub is_process_change : Act → Bool
-is_process_change (act.Attach fd d) = true
-is_process_change (act.AttachPipe reader writer pnode) = true
-is_process_change (act.Detach fd) = true
-is_process_change (act.Seek fd at) = true
-is_process_change (act.Show fd len) = true
-is_process_change (act.Spawn child) = true
-is_process_change (act.Born out descriptors) = true
-is_process_change (act.Gain out fd) = true
-is_process_change (act.Exec out name args) = true
-is_process_change (act.Gather out child) = true
-is_process_change act.Finish = true
-is_process_change _ = false
-
 -- besides its caller an entry changes at most this process: the one on which it is, or the first, which it begins
 abbrev pub other_process : Entry → ℕ
-other_process e = if is_process_change e.act then e.what else if is_start e.call then pnode_of e.reply else e.who
+other_process e = if changes_process e.act then e.what else if is_start e.call then pnode_of e.reply else e.who
 
 -- the state of an object is kept; where none is lost and none is kept, the object is as it began
 abbrev pub IsCached : {X : Type 0} → (ℕ → Type 0) → (ℕ → X → Type 0) → Cached X → ℕ → Type 0

@@ -62,6 +62,7 @@ pipe_reply pipe _ = Some answer.Done
 abbrev pub process_reply : Process → Act → Option Reply
 process_reply p (act.Deny ask) = Some (option_map_or (λ f. answer.Fault f) (refusal p ask) answer.Done)
 process_reply p act.Reap = if p.ended then Some answer.Done else None
+process_reply p act.Ended = if p.ended then Some answer.Done else None
 process_reply p _ = Some answer.Done
 
 -- whose state the answer to an act is read from
@@ -77,6 +78,7 @@ holder_of (act.Take len) = holder.Pipe
 holder_of (act.Push out bytes) = holder.Pipe
 holder_of (act.Deny ask) = holder.Process
 holder_of act.Reap = holder.Process
+holder_of act.Ended = holder.Process
 holder_of _ = holder.Nothing
 
 -- the act asks for as many bytes as one entry may give

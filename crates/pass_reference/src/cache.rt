@@ -12,7 +12,7 @@ ghost use Rattle.pass_plain.specs.Recording.{is_change as is_change_of, bytes_af
 ghost use Rattle.pass_plain.specs.Sessions.{opening_bytes};
 ghost use Rattle.pass_plain.specs.States.{IsBlank, IsLawful};
 ghost use Rattle.pass_reference.specs.States.{IsRegistry, IsPipe, IsCaller};
-ghost use Rattle.pass_reference.specs.Cache.{is_pipe_change as is_pipe_change_of, is_process_change as is_process_change_of, other_process as other_process_of, ChangesAt, IsCachedFile, IsCachedPipe, IsCachedCaller, AreCached, IsPlainState};
+ghost use Rattle.pass_reference.specs.Cache.{is_pipe_change as is_pipe_change_of, other_process as other_process_of, ChangesAt, IsCachedFile, IsCachedPipe, IsCachedCaller, AreCached, IsPlainState};
 
 use crate::callers::{Caller, is_start};
 use crate::file::content_after;
@@ -20,6 +20,7 @@ use crate::pipe::PipeState;
 use crate::registry;
 use pass_entry::{Act, Entry, Pnode};
 use pass_plain::file::{apply, opening_content};
+use pass_plain::process::changes_process;
 use pass_plain::registry::{RegistryState, is_fault, is_own};
 use pass_plain::steps::pnode_of;
 use pass_plain::{Start, is_change};
@@ -92,31 +93,11 @@ fn is_pipe_change(act: &Act) -> bool
     )
 }
 
-/// The act changes the state of its process.
-fn is_process_change(act: &Act) -> bool
-    ensures { result ≡ is_process_change_of act.now }
-{
-    matches!(
-        act,
-        Act::Attach { .. }
-            | Act::AttachPipe { .. }
-            | Act::Detach { .. }
-            | Act::Seek { .. }
-            | Act::Show { .. }
-            | Act::Spawn { .. }
-            | Act::Born { .. }
-            | Act::Gain { .. }
-            | Act::Exec { .. }
-            | Act::Gather { .. }
-            | Act::Finish
-    )
-}
-
 /// The process that an entry may change besides its caller, or the caller.
 fn other_process(e: &Entry) -> Pnode
     ensures { result ≡ other_process_of e.now }
 {
-    if is_process_change(&e.act) {
+    if changes_process(&e.act) {
         e.what
     } else if is_start(e.call) {
         pnode_of(&e.reply)

@@ -56,6 +56,8 @@ pub(crate) fn copied_act(act: &Act) -> Result<Act, AllocError>
             out: *out,
             child: *child,
         },
+        Act::Ended => Act::Ended,
+        Act::Release { child } => Act::Release { child: *child },
         Act::Finish => Act::Finish,
         Act::Kept { fd } => Act::Kept { fd: *fd },
         Act::Give { at, len } => Act::Give { at: *at, len: *len },

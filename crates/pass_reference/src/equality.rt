@@ -183,6 +183,11 @@ pub fn same_act(a: &Act, b: &Act) -> bool
             Act::Gather { out: o, child: c } => *out == *o && *child == *c,
             _ => false,
         },
+        Act::Ended => matches!(b, Act::Ended),
+        Act::Release { child } => match b {
+            Act::Release { child: other } => *child == *other,
+            _ => false,
+        },
         Act::Finish => matches!(b, Act::Finish),
         Act::Kept { fd } => match b {
             Act::Kept { fd: other } => *fd == *other,

@@ -32,7 +32,7 @@ fn asks(call: CallName, ask: &Ask) -> bool
         CallName::MakePipe => {
             matches!(ask, Ask::FreeTwo { first, second } if *first < 64 && *second < 64)
         }
-        CallName::WaitChild => matches!(ask, Ask::Child { .. }),
+        CallName::WaitChild | CallName::Await => matches!(ask, Ask::Child { .. }),
         CallName::Disclose => {
             matches!(ask, Ask::HeldTwo { first, second } if *first < 64 && *second < 64)
         }
@@ -277,6 +277,7 @@ fn shown(
         CallName::Fork => Ok(Some(Request::Fork)),
         CallName::Exec => shown_exec(first, last),
         CallName::WaitChild => Ok(Some(Request::WaitChild { child: what })),
+        CallName::Await => Ok(Some(Request::Await { child: what })),
         CallName::Exit => Ok(Some(Request::Exit)),
         CallName::Rename => shown_rename(first),
         CallName::Unlink => shown_unlink(first),

@@ -37,7 +37,7 @@ pub fn holder_of(act: &Act) -> Holder
         | Act::Known { .. } => Holder::Registry,
         Act::Give { .. } => Holder::File,
         Act::Take { .. } | Act::Push { .. } => Holder::Pipe,
-        Act::Deny { .. } | Act::Reap => Holder::Process,
+        Act::Deny { .. } | Act::Reap | Act::Ended => Holder::Process,
         _ => Holder::Nothing,
     }
 }
@@ -144,7 +144,7 @@ pub fn process_reply(state: &ProcessState, act: &Act) -> Option<Reply>
             Some(fault) => Some(Reply::Fault(fault)),
             None => Some(Reply::Done),
         },
-        Act::Reap => {
+        Act::Reap | Act::Ended => {
             if state.is_ended() {
                 Some(Reply::Done)
             } else {

@@ -339,6 +339,18 @@ fn wait_steps(
     Ok(vec![in alloc; (child, Act::Reap), (who, Act::Gather { out, child })]?)
 }
 
+fn await_steps(
+    alloc: Global,
+    who: Pnode,
+    before: &ProcessState,
+    made: &[(u64, Entry)],
+    child: Pnode,
+) -> Result<Vec<Step>, AllocError>
+    ensures { IfOk result (λ v. v.items ≡ own_steps_of who before.now made.now (requests.Await child)) }
+{
+    Ok(vec![in alloc; (child, Act::Ended), (who, Act::Release { child })]?)
+}
+
 fn make_object_steps(
     alloc: Global,
     who: Pnode,
@@ -444,6 +456,7 @@ fn own_steps(
         Request::Fork => fork_steps(alloc, who, before, made),
         Request::Exec { name, args } => exec_steps(alloc, who, before, made, name, args),
         Request::WaitChild { child } => wait_steps(alloc, who, before, made, *child),
+        Request::Await { child } => await_steps(alloc, who, before, made, *child),
         Request::Exit => exit_steps(alloc, who, before, made),
         Request::Rename { from, to } => rename_steps(alloc, who, before, made, from, to),
         Request::Unlink { name } => unlink_steps(alloc, who, before, made, name),

@@ -11,3 +11,8 @@ pub returns-in-Gather-clause-ok : goal.returns-in-Gather-clause-ok
 returns-in-Gather-clause-ok c = λ past gains.
     let taken = set-remove c.self.inside.children c.remove-in-Gather.new.self c.in-Gather.child c.remove-in-Gather.ensures.updates in
     rw (c.in-Gather.is, ← c.self.view_is) (ap (λ children. record { ended = c.self.inside.ended; descriptors = c.self.inside.descriptors; last_read = c.self.inside.last_read.items; children = children }) taken)
+
+pub returns-in-Release-clause-ok : goal.returns-in-Release-clause-ok
+returns-in-Release-clause-ok c = λ past gains.
+    let taken = set-remove c.self.inside.children c.remove-in-Release.new.self c.in-Release.child c.remove-in-Release.ensures.updates in
+    rw (c.in-Release.is, ← c.self.view_is) (ap (λ children. record { ended = c.self.inside.ended; descriptors = c.self.inside.descriptors; last_read = c.self.inside.last_read.items; children = children }) taken)

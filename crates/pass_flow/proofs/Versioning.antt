@@ -23,10 +23,13 @@ use Rattle.pass_plain.proofs.TwoPrefixes.{none_later}
 use Rattle.pass_plain.proofs.Versioned.{version_law}
 use Rattle.pass_plain.proofs.LastNodes.{versions_low}
 use Rattle.pass_version.specs.States.{IsStateAfter, VersionState}
+use Rattle.pass_version.specs.declared.versions.Taken.{Taken}
+use Rattle.pass_version.specs.declared.versions.Taken.TheVariants as taken
 use Rattle.pass_version.proofs.OneObject.{alike_then, alike_turned, act_alike, alike_state}
 use Rattle.pass_book.specs.declared.view.VaultSync.{VaultSync}
 use Rattle.pass_book.specs.Tokens.{BookId, DeskState}
 use Rattle.pass_hold.specs.Callings.{IsEntered}
+use Rattle.pass_hold.specs.Slips.{taken_records}
 use Rattle.pass_hold.proofs.Objects.{lineage_stays, node_there, repeats_has}
 use Rattle.pass_flow.specs.Entering.{IsVersioned, is_object_act, current_node, moved_by, version_records, moved_records, later_records, rest_records}
 
@@ -66,6 +69,29 @@ object_act act.Keep is = record { no_exec = refl; freezes_alone = λ t. absurd (
 object_act act.Freeze is = record { no_exec = refl; freezes_alone = λ t. refl; tags_alone = λ t. absurd (cc); fresh = λ l s. refl; freezes = λ l s. refl; records = λ session desk source e node t. refl; takes = λ l s some. absurd (some refl); alone = λ l. refl }
 object_act (act.Tag attr value) is = record { no_exec = refl; freezes_alone = λ t. absurd (cc); tags_alone = λ t. (refl, refl); fresh = λ l s. refl; freezes = λ l s. refl; records = λ session desk source e node t. absurd (cc); takes = λ l s some. absurd (some refl); alone = λ l. refl }
 object_act _ is = absurd (cc)
+
+-- the records of a take
+
+by_taken : (h m : Bool) (n s : Node) (rest : List Record)
+    → taken_records (if h then taken.Dropped else if m then taken.FrozenAndLinked else taken.Linked) n s rest
+    ≡ ((if not h && m then log.Version n ∷ [] else []) ++ (if not h then log.Input n s ∷ [] else [])) ++ rest
+by_taken true m n s rest = refl
+by_taken false true n s rest = refl
+by_taken false false n s rest = refl
+
+pub take_slip : (a : Act) → IsObjectAct a → (out_of a ≡ None → ⊥) → (l : Lineage) (s n : Node) → n ≡ (linked l s).node → (t : Taken)
+    → t ≡ (if has l s then taken.Dropped else if l.marked then taken.FrozenAndLinked else taken.Linked) → (rest : List Record) → taken_records t n s rest ≡ version_records l (Some s) a ++ rest
+take_slip a is takes l s n at t told rest =
+    let node : n ≡ (lineage_act l (Some s) a).node = at ∙ ap (λ (m : Lineage). m.node) (sym (is.takes l s takes)) in
+    let fresh : not (has l s) ≡ is_fresh_act l (Some s) a = sym (is.fresh l (Some s)) in
+    let freeze : not (has l s) && l.marked ≡ is_freeze_act l (Some s) a =
+    ap (λ b. b || (not (has l s) && l.marked)) (sym (calm (always_freezes a) refl)) ∙ ap (λ b. always_freezes a || (b && l.marked)) fresh ∙ sym (is.freezes l (Some s)) in
+    ap (λ t. taken_records t n s rest) told ∙ by_taken (has l s) l.marked n s rest
+    ∙ (λ i. ((if freeze i then log.Version (node i) ∷ [] else []) ++ (if fresh i then log.Input (node i) s ∷ [] else [])) ++ rest)
+  where
+    calm : (b : Bool) → always_freezes a ≡ b → always_freezes a ≡ false
+    calm true t = absurd (takes (is.freezes_alone t))
+    calm false t = t
 
 -- what an act makes of a lineage hangs on what can be told of it
 

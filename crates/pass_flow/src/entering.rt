@@ -18,20 +18,8 @@ ghost use Rattle.pass_flow.specs.Entering.{IsVersioned, is_object_act, moved_by,
 
 use pass_book::{Desk, Slip};
 use pass_entry::{Act, Entry, Node, Record, Reply};
-use pass_hold::{Caller, Shelf, Whose};
-use pass_version::{Taken, Versions};
-
-fn some_node(node: &Node) -> Option<Node>
-    ensures { result ≡ Some node.now }
-{
-    Some(*node)
-}
-
-fn some_input(node: &Node, source: &Node) -> Option<(Node, Node)>
-    ensures { result ≡ Some (node.now, source.now) }
-{
-    Some((*node, *source))
-}
+use pass_hold::{Caller, Shelf, Whose, slip_of};
+use pass_version::Versions;
 
 /// Takes from a source, and gives the records of that before others.
 fn taken_slip(versions: &mut Versions, act: &Act, source: &Node, rest: Vec<Record>) -> Slip
@@ -44,24 +32,7 @@ fn taken_slip(versions: &mut Versions, act: &Act, source: &Node, rest: Vec<Recor
     ensures slip { result ≡ version_records versions.old.lineage (Some source.now) act.now ++ rest.items }
 {
     let taken = versions.take(*source);
-    let node = versions.current();
-    match taken {
-        Taken::Dropped => Slip {
-            version: None,
-            input: None,
-            rest,
-        },
-        Taken::Linked => Slip {
-            version: None,
-            input: some_input(&node, source),
-            rest,
-        },
-        Taken::FrozenAndLinked => Slip {
-            version: some_node(&node),
-            input: some_input(&node, source),
-            rest,
-        },
-    }
+    slip_of(taken, &versions.current(), source, rest)
 }
 
 /// Moves a version by an act that takes from no source, and gives the new version where one is begun.

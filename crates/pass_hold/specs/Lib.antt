@@ -2,3 +2,4 @@ pub mod Callers
 pub mod Callings
 pub mod Goings
 pub mod Places
+pub mod Slips

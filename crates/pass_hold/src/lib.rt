@@ -22,9 +22,11 @@ mod claims;
 mod entering;
 pub mod laws;
 mod shelf;
+mod slips;
 pub mod whose;
 
 pub use blank::Blank;
 pub use caller::Caller;
 pub use shelf::Shelf;
+pub use slips::slip_of;
 pub use whose::Whose;

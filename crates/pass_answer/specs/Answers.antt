@@ -56,6 +56,7 @@ Tells session after now (requests.Truncate fd size) made moved.Done = Unit {0}
 Tells session after now requests.Fork made moved.Done = Unit {0}
 Tells session after now (requests.Exec name args) made moved.Done = Unit {0}
 Tells session after now (requests.WaitChild child) made moved.Done = Unit {0}
+Tells session after now (requests.Await child) made moved.Done = Unit {0}
 Tells session after now (requests.Rename from to) made moved.Done = Unit {0}
 Tells session after now (requests.Unlink name) made moved.Done = Unit {0}
 Tells session after now (requests.Disclose target source) made moved.Done = Unit {0}

@@ -1,4 +1,5 @@
 pub mod Answers
 pub mod Endings
 pub mod Lives
+pub mod Ready
 pub mod Syncs

@@ -39,8 +39,8 @@ use Rattle.pass_answer.proofs.Naming.{at_descriptor, pipe_no_file, read_at}
 use Rattle.pass_answer.proofs.ObjectSteps.{place_is}
 use Rattle.pass_answer.proofs.Waiting.{waits}
 use Rattle.pass_answer.proofs.Steps.{not_refused, step_at, next_allows, next_keeps, gone_by, gone_own}
-use Rattle.pass_calls.specs.Ready.{IsReadyIfFull}
-use Rattle.pass_calls.proofs.Readiness.{ready_at}
+use Rattle.pass_answer.specs.Ready.{IsReadyIfFull}
+use Rattle.pass_answer.proofs.Ready.{ready_at}
 
 module _ (who : ℕ) (p : Process) (fd len what : ℕ) (free : refusal p (ask.ToRead fd) ≡ None)
     (named : (d : Descriptor) → finite_map.get p.descriptors fd ≡ Some d → (is_pipe d ≡ true) × (what ≡ d.pnode)) where

@@ -1,11 +1,8 @@
--- A call that finds too few places, and whose first step is ready.
-use Rattle.std.proofs.Common.{◌≡◌, ℕ, ◌+◌, ap, sym, ◌∙◌, subst, arith, [], List}
-use Rattle.std.specs.Prelude.{◌≢◌, Option, Some, None, Err, slice_get}
-use Rattle.pass_entry.proofs.Lists.{some_is}
+-- A call that finds too few places, and whose process looks once more.
+use Rattle.std.proofs.Common.{◌≡◌, ℕ, ◌+◌, ap, sym, subst, arith, List}
+use Rattle.std.specs.Prelude.{Option, Err}
 use Rattle.pass_plain.specs.declared.request.Request.{Request}
-use Rattle.pass_plain.specs.Calls.{Step, call_steps}
 use Rattle.pass_plain.specs.Places.{left_for}
-use Rattle.pass_plain.specs.Replies.{reply_to}
 use Rattle.pass_plain.specs.Sessions.{Session}
 use Rattle.pass_entry.specs.declared.entry.Entry.{Entry}
 use Rattle.pass_hold.specs.Callers.{CallerState, moved_on}
@@ -16,19 +13,6 @@ use Rattle.pass_proc.specs.declared.way.Way.{Way}
 use Rattle.pass_answer.specs.Answers.{Answers, IsFull}
 use Rattle.pass_answer.specs.declared.answer.CallEnd.{CallEnd}
 use Rattle.pass_answer.specs.declared.answer.CallEnd.TheVariants as ends
-use Rattle.pass_calls.specs.Ready.{IsReadyIfFull}
-
-pub is_there : {A : Type 0} (o : Option A) (x : A) → o ≡ Some x → o ≢ None
-is_there o x is none = absurd (let z : Some x ≡ None = sym is ∙ none in cc)
-
--- its first step is this one, which is ready
-pub ready_at : (session : Session) (old new : ProcView) (r : Request) (s : Step) → slice_get (call_steps old.who old.state [] r) 0 ≡ Some s → reply_to session new.seen s.0 s.1 ≢ None
-    → (end : CallEnd) → IsReadyIfFull session old new r (Err end)
-ready_at session old new r s first ready (ends.Full left need) = λ step at none. ready (subst (λ (t : Step). reply_to session new.seen t.0 t.1 ≡ None) (some_is step s (sym at ∙ first)) none)
-ready_at session old new r s first ready (ends.Fault f) = tt
-ready_at session old new r s first ready ends.Again = tt
-ready_at session old new r s first ready (ends.DiskFault opened now) = tt
-ready_at session old new r s first ready ends.NoMemory = tt
 
 -- the process has looked once more, and found the same
 module _ (session : Session) (places : ℕ) (old : ProcView) (p : ProcessView) (n : ℕ) (d e : CallerState) (way : Option Way) (r : Request)

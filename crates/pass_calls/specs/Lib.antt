@@ -1,3 +1,2 @@
 pub mod Grants
-pub mod Ready
 pub mod Renamings

@@ -13,7 +13,7 @@ ghost use Rattle.pass_plain.specs.Replies.{taken};
 ghost use Rattle.pass_hold.specs.Callings.{IsIdle};
 ghost use Rattle.pass_hold.specs.Places.{HasRoom};
 ghost use Rattle.pass_answer.specs.Answers.{Answers, Stepped};
-ghost use Rattle.pass_calls.specs.Ready.{IsReadyIfFull};
+ghost use Rattle.pass_answer.specs.Ready.{IsReadyIfFull};
 
 use pass_answer::{CallEnd, Moved};
 use pass_entry::Bytes;

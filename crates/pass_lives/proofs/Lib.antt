@@ -1,3 +1,4 @@
+pub mod Awaits
 pub mod ExitSteps
 pub mod ForkBegins
 pub mod ForkSteps

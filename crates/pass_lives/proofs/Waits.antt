@@ -1,6 +1,6 @@
 -- The steps of a wait for a child, and a wait for one that has not ended.
-use Rattle.std.proofs.Common.{◌≡◌, ℕ, ◌+◌, ◌-◌, ◌<◌, List, [], ◌∷◌, ◌++◌, length, refl, ap, sym, ◌∙◌, subst, arith, false}
-use Rattle.std.specs.Prelude.{Option, Some, None, slice_get, if◌then◌else◌}
+use Rattle.std.proofs.Common.{◌≡◌, ℕ, ◌+◌, ◌-◌, ◌<◌, List, [], ◌∷◌, ◌++◌, length, refl, ap, sym, ◌∙◌, subst, arith, true, false}
+use Rattle.std.specs.Prelude.{Option, Some, None, Err, slice_get, if◌then◌else◌}
 use Rattle.std.specs.FinSet as finite_set
 use Rattle.pass_entry.specs.declared.entry.Act.TheVariants as act
 use Rattle.pass_entry.specs.declared.entry.Ask.TheVariants as ask
@@ -13,6 +13,7 @@ use Rattle.pass_plain.specs.Calls.{Made, Step, refused_ask, steps_of}
 use Rattle.pass_plain.specs.Legal.{CallerAllows}
 use Rattle.pass_plain.specs.Places.{keeps}
 use Rattle.pass_plain.specs.Processes.{Process, has_ended, refusal}
+use Rattle.pass_plain.specs.Replies.{reply_to}
 use Rattle.pass_plain.specs.Sessions.{Session}
 use Rattle.pass_hold.specs.Callings.{IsEntered, IsGoing, IsIdle, IsInCall, HasGone, HasLooked}
 use Rattle.pass_hold.proofs.Callings.{begins_call, call_made, going_looked, idle_again, more}
@@ -21,9 +22,12 @@ use Rattle.pass_proc.specs.Ends.{reap_entry}
 use Rattle.pass_proc.specs.Procs.{ProcView}
 use Rattle.pass_proc.proofs.Steps.{begun}
 use Rattle.pass_answer.specs.Answers.{HasMoved, HasWaited}
+use Rattle.pass_answer.specs.Ready.{IsReadyIfFull}
+use Rattle.pass_answer.specs.declared.answer.CallEnd.{CallEnd}
 use Rattle.pass_answer.specs.declared.answer.Moved.TheVariants as moved
 use Rattle.pass_answer.proofs.ObjectSteps.{place_is}
 use Rattle.pass_answer.proofs.Steps.{not_refused, step_at, next_allows, next_keeps, gone_by, gone_own}
+use Rattle.pass_answer.proofs.Ready.{is_there, ready_at}
 use Rattle.pass_answer.proofs.Waiting.{waits}
 
 module _ (session : Session) (seen : List Entry) (who number : ℕ) (p : Process) (child : ℕ) (idle : IsIdle session seen who (number - 1) p) (some : 0 < number)
@@ -103,3 +107,12 @@ child_waits session old new child idle free looked lives same =
     (step_at old.who old.state (requests.WaitChild child) (not_refused old.state (requests.WaitChild child) (ask.Child child) refl free) [] 0 (child, act.Reap) refl)
     (ap (λ b. if b then Some answer.Done else None) lives) looked.begins (omega (arith, rose)) (ap (λ (v : ProcView). v.looked) same) (ap (λ (v : ProcView). v.who) same)
     (same ∙ ap (λ n. record old { seen = new.seen; syncs = new.syncs; looks = n; looked = length new.seen }) (sym rose))
+
+-- where the child has ended, too few places may be the answer
+pub child_ready : (session : Session) (old new : ProcView) (child : ℕ) → refusal old.state (ask.Child child) ≡ None → has_ended new.seen child ≡ true
+    → (end : CallEnd) → IsReadyIfFull session old new (requests.WaitChild child) (Err end)
+child_ready session old new child free ended end =
+    ready_at session old new (requests.WaitChild child) (child, act.Reap)
+    (step_at old.who old.state (requests.WaitChild child) (not_refused old.state (requests.WaitChild child) (ask.Child child) refl free) [] 0 (child, act.Reap) refl)
+    (is_there (reply_to session new.seen child act.Reap) answer.Done (ap (λ b. if b then Some answer.Done else None) ended))
+    end

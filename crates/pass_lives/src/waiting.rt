@@ -6,6 +6,7 @@ ghost use Rattle.pass_plain.specs.Processes.{refusal};
 ghost use Rattle.pass_hold.specs.Callings.{IsIdle};
 ghost use Rattle.pass_hold.specs.Places.{HasRoom};
 ghost use Rattle.pass_answer.specs.Answers.{Answers, Stepped};
+ghost use Rattle.pass_answer.specs.Ready.{IsReadyIfFull};
 ghost use Rattle.pass_answer.specs.declared.answer.CallEnd.TheVariants as ends;
 ghost use Rattle.pass_answer.specs.declared.answer.Moved.TheVariants as moved;
 
@@ -53,10 +54,13 @@ pub fn wait_ended<J: Whose>(
     requires child { ended.old.who ≡ child }
     requires free { refusal proc.old.state (ask.Child child) ≡ None }
     ensures call { Answers J.book.session J.places proc.old proc.new (requests.WaitChild child) result }
+    ensures ready { IsReadyIfFull J.book.session proc.old proc.new (requests.WaitChild child) result }
     ensures memory { ¬ IsErrOf result ends.NoMemory }
     ensures who { ended.new.who ≡ ended.old.who }
 {
     if let Err(full) = proc.caller.room(shelf, 3) {
+        // The child has ended in all that the process sees.
+        ended.look(shelf);
         return Err(CallEnd::from(full));
     }
     let number = proc.number + 1;
@@ -74,7 +78,7 @@ pub fn wait_ended<J: Whose>(
     Ok(Moved::Done)
 }
 
-/// Looks for a child that has not ended, as its right to end shows: the answer is Again. It makes no entry and takes no memory.
+/// Looks for a child that has not ended, as its right to end shows: the answer to either wait is Again. It makes no entry and takes no memory.
 pub fn wait_living<J: Whose>(
     living: &mut Living<J>,
     shelf: &mut Shelf<J>,
@@ -84,6 +88,7 @@ pub fn wait_living<J: Whose>(
     requires child { living.old.who ≡ child }
     requires free { refusal proc.old.state (ask.Child child) ≡ None }
     ensures call { Answers J.book.session J.places proc.old proc.new (requests.WaitChild child) (Err result) }
+    ensures quiet { Answers J.book.session J.places proc.old proc.new (requests.Await child) (Err result) }
     ensures again { result ≡ ends.Again }
     ensures who { living.new.who ≡ living.old.who }
 {

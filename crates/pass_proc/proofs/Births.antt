@@ -26,7 +26,7 @@ use Rattle.pass_version.proofs.OneObject.{opening_law, alike_state}
 use Rattle.pass_hold.specs.Callers.{CallerState}
 use Rattle.pass_hold.specs.Callings.{IsEntered, IsIdle}
 use Rattle.pass_hold.proofs.Objects.{object_after, takes}
-use Rattle.pass_proc.specs.Acts.{taken_records}
+use Rattle.pass_hold.specs.Slips.{taken_records}
 use Rattle.pass_proc.specs.Births.{birth_entry, first_lineage}
 use Rattle.pass_proc.specs.Procs.{IsCallerOf}
 use Rattle.pass_proc.specs.Views.{IsProcess, process_of}

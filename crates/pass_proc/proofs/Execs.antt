@@ -22,7 +22,8 @@ use Rattle.pass_version.specs.declared.versions.Taken.TheVariants as taken
 use Rattle.pass_version.proofs.OneObject.{step_law, alike_state}
 use Rattle.pass_hold.specs.Callings.{IsEntered}
 use Rattle.pass_hold.proofs.Objects.{lineage_stays}
-use Rattle.pass_proc.specs.Acts.{own_entry, taken_records}
+use Rattle.pass_hold.specs.Slips.{taken_records}
+use Rattle.pass_proc.specs.Acts.{own_entry}
 use Rattle.pass_proc.specs.Execs.{program_records}
 use Rattle.pass_proc.specs.Views.{ProcessView, IsProcess}
 use Rattle.pass_proc.proofs.Own.{state_now}

@@ -1,10 +1,10 @@
 -- A process after one more entry of its own on itself.
-use Rattle.std.proofs.Common.{◌≡◌, ℕ, ◌+◌, ◌<◌, ◌≤◌, ◌^◌, List, [], ◌∷◌, ◌++◌, length, refl, ap, sym, ◌∙◌, subst, arith, Bool, true, false, ◌&&◌, ◌||◌, not, cond, length-append}
+use Rattle.std.proofs.Common.{◌≡◌, ℕ, ◌+◌, ◌-◌, ◌<◌, ◌≤◌, ◌^◌, List, [], ◌∷◌, ◌++◌, length, refl, ap, sym, ◌∙◌, subst, arith, Bool, true, false, ◌&&◌, ◌||◌, not, cond, length-append}
 use Rattle.std.specs.Prelude.{Option, Some, None, slice_get, if◌then◌else◌}
 use Rattle.std.specs.Option.{option_map_or}
 use Rattle.std.specs.Cmp.{nat_cmp_total}
 use Rattle.std.specs.Ordering.{nat_cmp}
-use Rattle.std.specs.FinSet.{FinSet, contains, insert, len, len-insert}
+use Rattle.std.specs.FinSet.{FinSet, contains, insert, len, len-insert, len-remove, remove}
 use Rattle.pass_entry.specs.declared.entry.Entry.{Entry}
 use Rattle.pass_entry.specs.declared.entry.Act.{Act}
 use Rattle.pass_entry.specs.declared.entry.Act.TheVariants as act
@@ -43,11 +43,19 @@ pub record IsPlain (a : Act) : Type 1 where
 low_itself : (n : ℕ) → n ≤ n + 0
 low_itself n = omega arith
 
+remove_low : (s : FinSet nat_cmp) (k : ℕ) → len (remove s k) ≤ len s + 0
+remove_low s k = let e = len-remove nat_cmp_total s k in by_test (contains s k) e
+  where
+    by_test : (b : Bool) → len (remove s k) ≡ cond b (len s - 1) (len s) → len (remove s k) ≤ len s + 0
+    by_test true e = omega (arith, e)
+    by_test false e = omega (arith, e)
+
 pub quiet_plain : (a : Act) → is_quiet a ≡ true → IsPlain a
 quiet_plain (act.Attach fd d) is = record { alone = refl; steady = refl; gains = λ h b. tt; still = λ h p. refl; lists = λ s d o e n. refl; children = λ p. low_itself (len p.children) }
 quiet_plain (act.AttachPipe r w n) is = record { alone = refl; steady = refl; gains = λ h b. tt; still = λ h p. refl; lists = λ s d o e n. refl; children = λ p. low_itself (len p.children) }
 quiet_plain (act.Detach fd) is = record { alone = refl; steady = refl; gains = λ h b. tt; still = λ h p. refl; lists = λ s d o e n. refl; children = λ p. low_itself (len p.children) }
 quiet_plain (act.Seek fd at) is = record { alone = refl; steady = refl; gains = λ h b. tt; still = λ h p. refl; lists = λ s d o e n. refl; children = λ p. low_itself (len p.children) }
+quiet_plain (act.Release child) is = record { alone = refl; steady = refl; gains = λ h b. tt; still = λ h p. refl; lists = λ s d o e n. refl; children = λ p. remove_low p.children child }
 quiet_plain (act.Kept fd) is = record { alone = refl; steady = refl; gains = λ h b. tt; still = λ h p. refl; lists = λ s d o e n. refl; children = λ p. low_itself (len p.children) }
 quiet_plain _ is = absurd (cc)
 
@@ -56,6 +64,7 @@ quiet_idle (act.Attach fd d) is = refl
 quiet_idle (act.AttachPipe r w n) is = refl
 quiet_idle (act.Detach fd) is = refl
 quiet_idle (act.Seek fd at) is = refl
+quiet_idle (act.Release child) is = refl
 quiet_idle (act.Kept fd) is = refl
 quiet_idle _ is = absurd (cc)
 
@@ -64,6 +73,7 @@ quiet_room (act.Attach fd d) is = refl
 quiet_room (act.AttachPipe r w n) is = refl
 quiet_room (act.Detach fd) is = refl
 quiet_room (act.Seek fd at) is = refl
+quiet_room (act.Release child) is = refl
 quiet_room (act.Kept fd) is = refl
 quiet_room _ is = absurd (cc)
 

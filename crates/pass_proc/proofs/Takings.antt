@@ -25,7 +25,8 @@ use Rattle.pass_version.specs.declared.versions.Taken.TheVariants as taken
 use Rattle.pass_version.proofs.OneObject.{alike_state}
 use Rattle.pass_hold.specs.Callings.{IsEntered}
 use Rattle.pass_hold.proofs.Objects.{takes, repeats_has}
-use Rattle.pass_proc.specs.Acts.{is_taking, room_needed, taken_records}
+use Rattle.pass_hold.specs.Slips.{taken_records}
+use Rattle.pass_proc.specs.Acts.{is_taking, room_needed}
 use Rattle.pass_proc.specs.Views.{ProcessView, IsProcess}
 use Rattle.pass_proc.proofs.Own.{state_now}
 

@@ -1,27 +1,23 @@
 -- The acts on a living process, by what they do to it.
-use Rattle.std.specs.Prelude.{ℕ, Bool, true, false, List, [], ◌∷◌, Option}
+use Rattle.std.specs.Prelude.{ℕ, Bool, true, false, List, [], Option}
 use Rattle.std.specs.Option.{option_map_or}
 use Rattle.pass_entry.specs.declared.entry.Entry.{Entry}
 use Rattle.pass_entry.specs.declared.entry.Act.{Act}
 use Rattle.pass_entry.specs.declared.entry.Act.TheVariants as act
 use Rattle.pass_entry.specs.declared.entry.CallName.{CallName}
 use Rattle.pass_entry.specs.declared.entry.Reply.{Reply}
-use Rattle.pass_entry.specs.declared.objects.Node.{Node}
-use Rattle.pass_entry.specs.declared.record.Record.{Record}
-use Rattle.pass_entry.specs.declared.record.Record.TheVariants as log
-use Rattle.pass_version.specs.declared.versions.Taken.{Taken}
-use Rattle.pass_version.specs.declared.versions.Taken.TheVariants as taken
 
 -- an entry by a process on itself
 abbrev pub own_entry : ℕ → ℕ → CallName → Act → Reply → Entry
 own_entry who number call a reply = record { who = who; number = number; call = call; what = who; act = a; reply = reply }
 
--- it changes at most the descriptors, and no version
+-- it changes at most the descriptors or lets a child go, and no version
 abbrev pub is_quiet : Act → Bool
 is_quiet (act.Attach fd d) = true
 is_quiet (act.AttachPipe reader writer pnode) = true
 is_quiet (act.Detach fd) = true
 is_quiet (act.Seek fd at) = true
+is_quiet (act.Release child) = true
 is_quiet (act.Kept fd) = true
 is_quiet _ = false
 
@@ -50,9 +46,3 @@ bytes_in o = option_map_or (λ bytes. bytes) o []
 abbrev pub room_needed : Act → ℕ
 room_needed (act.Spawn child) = 1
 room_needed _ = 0
-
--- the records of a version that has taken from a source, before others
-abbrev pub taken_records : Taken → Node → Node → List Record → List Record
-taken_records taken.Dropped node source rest = rest
-taken_records taken.Linked node source rest = log.Input node source ∷ rest
-taken_records taken.FrozenAndLinked node source rest = log.Version node ∷ log.Input node source ∷ rest

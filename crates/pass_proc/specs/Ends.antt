@@ -52,6 +52,10 @@ IsOne None None = ⊥
 IsOne None (Some proc) = Unit {0}
 IsOne (Some line) proc = Unit {0}
 
--- a process waits for a child that has ended
+-- a process waits for a child that has ended, and takes from it
 abbrev pub reap_entry : ℕ → ℕ → ℕ → Entry
 reap_entry who number child = record { who = who; number = number; call = calls.WaitChild; what = child; act = act.Reap; reply = answer.Done }
+
+-- a process waits for a child that has ended, and takes nothing from it
+abbrev pub end_entry : ℕ → ℕ → ℕ → Entry
+end_entry who number child = record { who = who; number = number; call = calls.Await; what = child; act = act.Ended; reply = answer.Done }

@@ -1,4 +1,4 @@
-//! The acts by which a living process refuses a call, changes its descriptors, and is used as a source.
+//! The acts by which a living process refuses a call, changes its descriptors, lets a child go, and is used as a source.
 ghost use Rattle.std.specs.Prelude.{◌≡◌, ◌+◌, ◌-◌, ◌<◌, ◌≤◌, ◌^◌, [], true, false, None, Some, length, slice_get};
 ghost use mathlib.Core.List.{IsPrefix};
 ghost use Rattle.std.specs.FinMap as finite_map;
@@ -59,7 +59,7 @@ impl<J: Whose> ProcessDesk<J> {
         caller.enter(shelf, &mut self.desk, Slip::new(alloc), entry, 0);
     }
 
-    /// Makes an entry that changes at most the descriptors.
+    /// Makes an entry that changes at most the descriptors or lets a child go.
     fn enter_quiet(
         &mut self,
         alloc: Global,
@@ -223,6 +223,35 @@ impl<J: Whose> ProcessDesk<J> {
             call: CallName::Seek,
             what: self.who,
             act: Act::Seek { fd, at },
+            reply: Reply::Done,
+        };
+        self.enter_quiet(alloc, shelf, caller, entry, 0);
+    }
+
+    /// Lets a child go that has ended, and takes nothing from it.
+    pub fn release(
+        &mut self,
+        alloc: Global,
+        shelf: &mut Shelf<J>,
+        caller: &mut Caller<J>,
+        number: u64,
+        child: Pnode,
+    )
+        requires place { 0 < caller.old.held }
+        requires keep { 0 ≡ keeps caller.old.seen (own_entry self.old.who number calls.Await (act.Release child) answer.Done) }
+        requires who { caller.old.who ≡ self.old.who }
+        requires allows { CallerAllows caller.old.seen (own_entry self.old.who number calls.Await (act.Release child) answer.Done) }
+        ensures entered { IsEntered J.book.session caller.old.seen self.old.seen caller.new.seen (own_entry self.old.who number calls.Await (act.Release child) answer.Done) }
+        ensures state { self.new ≡ record self.old { seen = caller.new.seen; state = record self.old.state { children = finite_set.remove self.old.state.children child } } }
+        ensures caller { caller.new ≡ moved_on caller.old caller.new.seen caller.new.syncs 0 }
+        ensures few { length caller.new.seen ≤ 2 ^ 32 }
+    {
+        let entry = Entry {
+            who: self.who,
+            number,
+            call: CallName::Await,
+            what: self.who,
+            act: Act::Release { child },
             reply: Reply::Done,
         };
         self.enter_quiet(alloc, shelf, caller, entry, 0);

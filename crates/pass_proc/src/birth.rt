@@ -10,15 +10,14 @@ ghost use Rattle.pass_version.specs.declared.versions.Taken.TheVariants as taken
 ghost use Rattle.pass_book.specs.Openings.{fresh_desk, fresh_last, fresh_line, new_desk};
 ghost use Rattle.pass_hold.specs.Callers.{moved_on};
 ghost use Rattle.pass_hold.specs.Callings.{IsEntered};
-ghost use Rattle.pass_proc.specs.Acts.{taken_records};
+ghost use Rattle.pass_hold.specs.Slips.{taken_records};
 ghost use Rattle.pass_proc.specs.Births.{birth_entry, first_lineage};
 
 use crate::ended::Living;
 use crate::proc::Proc;
-use crate::taking::slip_of;
 use pass_book::{Desk, Last, Line, Slip};
 use pass_entry::{Act, CallName, Descriptors, Entry, Inherited, Node, Pnode, Reply};
-use pass_hold::{Caller, Shelf, Whose};
+use pass_hold::{Caller, Shelf, Whose, slip_of};
 use pass_version::{Taken, Versions};
 use std::alloc::{AllocError, Global};
 use std::marker::Model;

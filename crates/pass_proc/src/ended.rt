@@ -12,7 +12,7 @@ ghost use Rattle.pass_hold.specs.Callers.{moved_on};
 ghost use Rattle.pass_hold.specs.Callings.{IsEntered};
 ghost use Rattle.pass_hold.specs.Places.{HasRoom};
 ghost use Rattle.pass_proc.specs.Acts.{own_entry};
-ghost use Rattle.pass_proc.specs.Ends.{reap_entry};
+ghost use Rattle.pass_proc.specs.Ends.{end_entry, reap_entry};
 
 use crate::desk::ProcessDesk;
 use crate::trail::Trail;
@@ -109,6 +109,15 @@ impl<J: Whose> Ended<J> {
         self.who
     }
 
+    /// Its holder sees the whole history, in which the process has ended.
+    pub fn look(&mut self, shelf: &mut Shelf<J>)
+        ensures state { self.new ≡ record self.old { seen = shelf.old.history } }
+        ensures ended { has_ended shelf.old.history self.old.who ≡ true }
+        ensures shelf { shelf.new ≡ record shelf.old { syncs = shelf.new.syncs } }
+    {
+        shelf.show(&mut self.desk);
+    }
+
     /// Is used as the source of its parent, which waits for it, and answers the place and its node.
     pub fn reap(
         &mut self,
@@ -140,6 +149,35 @@ impl<J: Whose> Ended<J> {
         let place = caller.enter(shelf, &mut self.desk, Slip::new(alloc), entry, 2);
         let node = self.versions.mark();
         (place, node)
+    }
+
+    /// Shows its end to its parent, which waits for it and takes nothing from it: its version stays as it is.
+    pub fn show_end(
+        &mut self,
+        alloc: Global,
+        shelf: &mut Shelf<J>,
+        caller: &mut Caller<J>,
+        who: Pnode,
+        number: u64,
+    )
+        requires place { HasRoom shelf.old caller.old.held 3 }
+        requires keep { 2 ≡ keeps caller.old.seen (end_entry who number self.old.who) }
+        requires who { caller.old.who ≡ who }
+        requires allows { CallerAllows caller.old.seen (end_entry who number self.old.who) }
+        ensures entered { IsEntered J.book.session caller.old.seen self.old.seen caller.new.seen (end_entry who number self.old.who) }
+        ensures state { self.new ≡ record self.old { seen = caller.new.seen } }
+        ensures caller { caller.new ≡ moved_on caller.old caller.new.seen caller.new.syncs 2 }
+        ensures few { length caller.new.seen ≤ 2 ^ 32 }
+    {
+        let entry = Entry {
+            who,
+            number,
+            call: CallName::Await,
+            what: self.who,
+            act: Act::Ended,
+            reply: Reply::Done,
+        };
+        caller.enter(shelf, &mut self.desk, Slip::new(alloc), entry, 2);
     }
 }
 

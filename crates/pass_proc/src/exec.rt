@@ -17,9 +17,8 @@ ghost use Rattle.pass_proc.specs.Acts.{own_entry};
 ghost use Rattle.pass_proc.specs.Execs.{exec_view, program_records};
 
 use crate::desk::ProcessDesk;
-use crate::taking::slip_of;
 use pass_entry::{Act, CallName, Entry, Node, Record, Reply, Text};
-use pass_hold::{Caller, Shelf, Whose};
+use pass_hold::{Caller, Shelf, Whose, slip_of};
 use pass_version::{Taken, Versions};
 use std::alloc::{AllocError, Global};
 use std::marker::Model;

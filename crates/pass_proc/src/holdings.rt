@@ -203,6 +203,7 @@ impl Holdings {
             }
             Act::Exec { .. } => self.last = None,
             Act::Gather { child, .. } => self.children.remove(*child),
+            Act::Release { child } => self.children.remove(*child),
             _ => {}
         }
     }

@@ -15,49 +15,13 @@ ghost use Rattle.pass_version.specs.declared.versions.Taken.TheVariants as taken
 ghost use Rattle.pass_hold.specs.Callers.{moved_on};
 ghost use Rattle.pass_hold.specs.Callings.{IsEntered};
 ghost use Rattle.pass_hold.specs.Places.{HasRoom};
-ghost use Rattle.pass_proc.specs.Acts.{bytes_in, is_taking, own_entry, taken_records};
+ghost use Rattle.pass_proc.specs.Acts.{bytes_in, is_taking, own_entry};
 
 use crate::desk::ProcessDesk;
-use pass_book::Slip;
-use pass_entry::{Act, Bytes, CallName, Entry, Node, Pnode, Record, Reply};
-use pass_hold::{Caller, Shelf, Whose};
+use pass_entry::{Act, Bytes, CallName, Entry, Node, Pnode, Reply};
+use pass_hold::{Caller, Shelf, Whose, slip_of};
 use pass_version::Taken;
 use std::alloc::Global;
-
-fn some_node(node: &Node) -> Option<Node>
-    ensures { result ≡ Some node.now }
-{
-    Some(*node)
-}
-
-fn some_input(node: &Node, source: &Node) -> Option<(Node, Node)>
-    ensures { result ≡ Some (node.now, source.now) }
-{
-    Some((*node, *source))
-}
-
-/// The records of a version that has taken from a source, before others.
-pub(crate) fn slip_of(taken: Taken, node: &Node, source: &Node, rest: Vec<Record>) -> Slip
-    ensures { result ≡ taken_records taken node.now source.now rest.items }
-{
-    match taken {
-        Taken::Dropped => Slip {
-            version: None,
-            input: None,
-            rest,
-        },
-        Taken::Linked => Slip {
-            version: None,
-            input: some_input(node, source),
-            rest,
-        },
-        Taken::FrozenAndLinked => Slip {
-            version: some_node(node),
-            input: some_input(node, source),
-            rest,
-        },
-    }
-}
 
 impl<J: Whose> ProcessDesk<J> {
     /// Makes the last entry of a call, by which the process takes from a source. `gained` are the bytes that a `Gain` gains.

@@ -46,6 +46,9 @@ disclose_asks fd source low = record { request = requests.Disclose fd source; na
 pub child_asks : (child : ℕ) → Asks calls.WaitChild (ask.Child child)
 child_asks child = record { request = requests.WaitChild child; named = refl; asked = refl; within = refl }
 
+pub await_asks : (child : ℕ) → Asks calls.Await (ask.Child child)
+await_asks child = record { request = requests.Await child; named = refl; asked = refl; within = refl }
+
 -- and what the process holds where it does not refuse
 pub second_held : (p : Process) (fd source : ℕ) → refusal p (ask.HeldTwo fd source) ≡ None → is_held p source ≡ true
 second_held p fd source fine = (two_held p fd source fine).1

@@ -4,10 +4,11 @@
 //! fork and an exit hold one object at a time.
 //!
 //! Each call is made for a process that one thread drives. Its clause `call` is one relation for all calls, `Answers` of `pass_answer`;
-//! beyond the ranges of its arguments it asks for nothing. `close_fd`, `seek`, `pass_freeze` and `wait_child` never answer for want of
-//! memory (`memory`). A read tells of too few places only where it wouldn't wait (`ready`). A fork answers with the child (`child`). `exit` and `retire` end the process, and give its last entry's place, or
-//! what it had seen (`HasExited`). After `meet` and `meet_ended` both processes have seen one history, which begins with what each had
-//! seen and adds no entry of theirs (`one`, `HasMet`). No program here calls `exit` or `meet`.
+//! beyond the ranges of its arguments it asks for nothing. `close_fd`, `seek`, `pass_freeze`, `wait_child` and `await_child` never answer
+//! for want of memory (`memory`). A read or a wait for a child tells of too few places only where it wouldn't wait (`ready`). A fork
+//! answers with the child (`child`). `exit` and `retire` end the process, and give its last entry's place, or what it had seen
+//! (`HasExited`). After `meet` and `meet_ended` both processes have seen one history, which begins with what each had seen and adds
+//! no entry of theirs (`one`, `HasMet`). No program here calls `exit` or `meet`.
 #![tactic(auto)]
 
 mod disclosing;
@@ -29,4 +30,4 @@ pub use meeting::{meet, meet_ended};
 pub use naming::{creat, open_name, pass_mkobj, pass_reviveobj, pipe, rename, unlink};
 pub use running::exec;
 pub use transfers::{close_fd, pass_read, pass_write, seek, truncate};
-pub use waiting::wait_child;
+pub use waiting::{await_child, wait_child};

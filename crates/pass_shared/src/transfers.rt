@@ -9,7 +9,7 @@ ghost use Rattle.pass_plain.specs.Processes.{is_file, is_pipe, refusal};
 ghost use Rattle.pass_proc.specs.Procs.{is_way};
 ghost use Rattle.pass_answer.specs.Answers.{Answers};
 ghost use Rattle.pass_answer.specs.declared.answer.CallEnd.TheVariants as ends;
-ghost use Rattle.pass_calls.specs.Ready.{IsReadyIfFull};
+ghost use Rattle.pass_answer.specs.Ready.{IsReadyIfFull};
 
 use crate::refusing::refuse;
 use pass_answer::{CallEnd, Moved};

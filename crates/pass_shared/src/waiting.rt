@@ -1,14 +1,15 @@
-//! The call `wait_child`.
+//! The calls `wait_child` and `await_child`.
 ghost use Rattle.std.specs.Prelude.{IsErrOf};
 ghost use Rattle.pass_plain.specs.declared.request.Request.TheVariants as requests;
 ghost use Rattle.pass_answer.specs.Answers.{Answers};
+ghost use Rattle.pass_answer.specs.Ready.{IsReadyIfFull};
 ghost use Rattle.pass_answer.specs.declared.answer.CallEnd.TheVariants as ends;
 
 use crate::refusing::refuse;
 use pass_answer::{CallEnd, Moved};
 use pass_entry::{Ask, CallName, Pnode};
 use pass_hold::Whose;
-use pass_lives::{wait_ended, wait_living};
+use pass_lives::{await_ended, wait_ended, wait_living};
 use pass_outside::Gate;
 use pass_proc::Proc;
 use pass_slots::{Locks, Slot, Sought};
@@ -24,6 +25,7 @@ pub fn wait_child<R: Wait, J: Whose, G: Gate>(
     child: Pnode,
 ) -> Result<Moved, CallEnd>
     ensures call { Answers J.book.session J.places proc.old proc.new (requests.WaitChild child) result }
+    ensures ready { IsReadyIfFull J.book.session proc.old proc.new (requests.WaitChild child) result }
     ensures memory { ¬ IsErrOf result ends.NoMemory }
 {
     let ask = Ask::Child { pnode: child };
@@ -35,6 +37,32 @@ pub fn wait_child<R: Wait, J: Whose, G: Gate>(
     let mut shelf = locks.book.lock(rt);
     match &mut *slot {
         Slot::Ended(ended) => wait_ended(alloc, ended, &mut shelf, proc, child),
+        Slot::Living(living) => Err(wait_living(living, &mut shelf, proc, child)),
+        _ => unreachable!(),
+    }
+}
+
+/// Lets a child go that has ended, and takes nothing from it. It takes no memory.
+pub fn await_child<R: Wait, J: Whose, G: Gate>(
+    locks: &Locks<'_, J, G>,
+    rt: &R,
+    alloc: Global,
+    proc: &mut Proc<J>,
+    child: Pnode,
+) -> Result<Moved, CallEnd>
+    ensures call { Answers J.book.session J.places proc.old proc.new (requests.Await child) result }
+    ensures ready { IsReadyIfFull J.book.session proc.old proc.new (requests.Await child) result }
+    ensures memory { ¬ IsErrOf result ends.NoMemory }
+{
+    let ask = Ask::Child { pnode: child };
+    if let Err(fault) = proc.deny(&ask) {
+        return Err(refuse(locks, rt, alloc, proc, CallName::Await, ask, fault));
+    }
+    let mut slot = locks.hold(rt, alloc, child, Sought::Process);
+    locks.gate.inside(child);
+    let mut shelf = locks.book.lock(rt);
+    match &mut *slot {
+        Slot::Ended(ended) => await_ended(alloc, ended, &mut shelf, proc, child),
         Slot::Living(living) => Err(wait_living(living, &mut shelf, proc, child)),
         _ => unreachable!(),
     }

@@ -20,7 +20,8 @@ use Rattle.pass_answer.specs.Answers.{Answers}
 use Rattle.pass_answer.specs.declared.answer.CallEnd.{CallEnd}
 use Rattle.pass_answer.specs.declared.answer.CallEnd.TheVariants as ends
 use Rattle.pass_calls.proofs.PipeReads.{read_ready, read_waits}
-use Rattle.pass_calls.proofs.Readiness.{is_there, still_full}
+use Rattle.pass_answer.proofs.Ready.{is_there}
+use Rattle.pass_calls.proofs.Readiness.{still_full}
 use Rattle.pass_answer.proofs.Between.{full_ends, looked_on}
 use Rattle.pass_answer.proofs.Waiting.{reserved}
 use Rattle.pass_calls.proofs.pipe_reading.read_pipe.Goals as goal

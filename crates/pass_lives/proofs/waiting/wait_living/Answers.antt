@@ -11,6 +11,7 @@ use Rattle.pass_answer.specs.Answers.{Answers}
 use Rattle.pass_answer.specs.declared.answer.CallEnd.{CallEnd}
 use Rattle.pass_answer.specs.declared.answer.CallEnd.TheVariants as ends
 use Rattle.pass_answer.proofs.Between.{looked_on}
+use Rattle.pass_lives.proofs.Awaits.{end_waits}
 use Rattle.pass_lives.proofs.Waits.{child_waits}
 use Rattle.pass_lives.proofs.waiting.wait_living.Goals as goal
 
@@ -33,6 +34,33 @@ returns-clause-call g c =
     ∙ ap (λ w. has_ended c.note.result.seen w) (sym c.requires.child) ∙ c.meet.ensures.lives in
     subst (λ (old : ProcView). Answers S g.J.Whose.places old (proc_with i.process i.number d i.way) (requests.WaitChild a.child) (Err again)) c.proc.view_is
     (child_waits S (proc_with i.process i.number i.caller i.way) (proc_with i.process i.number d i.way) a.child c.proc.invariant.0.idle
+    (subst (λ (v : ProcView). refusal v.state (ask.Child a.child) ≡ None) (sym c.proc.view_is) c.requires.free)
+    (subst (λ w. HasLooked S w i.caller.seen d.seen) c.proc.invariant.0.of_who e.looked)
+    lives
+    (λ k. record {
+      who = i.process.who;
+      number = i.number;
+      seen = d.seen;
+      syncs = d.syncs;
+      looks = (ap (λ (v : CallerState). v.looks) e.caller) k;
+      looked = (ap (λ (v : CallerState). v.looked) e.caller) k;
+      state = i.process.state;
+      way = i.way;
+    }))
+
+pub returns-clause-quiet : goal.returns-clause-quiet
+returns-clause-quiet g c =
+    let S = g.J.Whose.book.session in
+    let a = c.args in
+    let i = c.proc.inside in
+    let e = c.look.ensures in
+    let d = c.look.new.self in
+    let again : CallEnd = ends.Again in
+    let lives : has_ended d.seen a.child ≡ false =
+    ap (λ h. has_ended h a.child) (e.whole ∙ sym (ap (λ (b : BookState). b.history) e.shelf) ∙ sym (ap (λ (n : NoteState). n.seen) c.note.ensures.note))
+    ∙ ap (λ w. has_ended c.note.result.seen w) (sym c.requires.child) ∙ c.meet.ensures.lives in
+    subst (λ (old : ProcView). Answers S g.J.Whose.places old (proc_with i.process i.number d i.way) (requests.Await a.child) (Err again)) c.proc.view_is
+    (end_waits S (proc_with i.process i.number i.caller i.way) (proc_with i.process i.number d i.way) a.child c.proc.invariant.0.idle
     (subst (λ (v : ProcView). refusal v.state (ask.Child a.child) ≡ None) (sym c.proc.view_is) c.requires.free)
     (subst (λ w. HasLooked S w i.caller.seen d.seen) c.proc.invariant.0.of_who e.looked)
     lives

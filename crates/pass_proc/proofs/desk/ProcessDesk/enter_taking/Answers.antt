@@ -8,7 +8,8 @@ use Rattle.pass_plain.specs.Processes.{Process, process_act}
 use Rattle.pass_plain.specs.Sound.{IsSound}
 use Rattle.pass_version.specs.States.{VersionState}
 use Rattle.pass_book.specs.Tokens.{BookId, DeskState}
-use Rattle.pass_proc.specs.Acts.{room_needed, taken_records}
+use Rattle.pass_hold.specs.Slips.{taken_records}
+use Rattle.pass_proc.specs.Acts.{room_needed}
 use Rattle.pass_proc.specs.Views.{ProcessView, IsProcess, process_of}
 use Rattle.pass_proc.proofs.Own.{fitting, version_low}
 use Rattle.pass_proc.proofs.Takings.{take_of, slip_is, taken_now}

@@ -8,7 +8,7 @@ use Rattle.pass_plain.specs.Sound.{IsSound}
 use Rattle.pass_version.specs.States.{VersionState}
 use Rattle.pass_version.specs.declared.versions.Taken.TheVariants as taken
 use Rattle.pass_book.specs.Tokens.{BookId, DeskState}
-use Rattle.pass_proc.specs.Acts.{taken_records}
+use Rattle.pass_hold.specs.Slips.{taken_records}
 use Rattle.pass_proc.specs.Execs.{ExecView, program_records}
 use Rattle.pass_proc.specs.Views.{ProcessView, IsProcess, process_of}
 use Rattle.pass_proc.proofs.Own.{fitting, version_short}

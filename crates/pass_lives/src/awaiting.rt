@@ -1,0 +1,79 @@
+//! The call `await_child`.
+ghost use Rattle.std.specs.Prelude.{◌≡◌, ◌+◌, ◌-◌, ◌<◌, ◌≤◌, ◌^◌, None, Ok, Err, IsErrOf, length};
+ghost use Rattle.pass_entry.specs.declared.entry.Ask.TheVariants as ask;
+ghost use Rattle.pass_plain.specs.declared.request.Request.TheVariants as requests;
+ghost use Rattle.pass_plain.specs.Processes.{refusal};
+ghost use Rattle.pass_hold.specs.Callings.{IsIdle};
+ghost use Rattle.pass_hold.specs.Places.{HasRoom};
+ghost use Rattle.pass_answer.specs.Answers.{Answers, Stepped};
+ghost use Rattle.pass_answer.specs.Ready.{IsReadyIfFull};
+ghost use Rattle.pass_answer.specs.declared.answer.CallEnd.TheVariants as ends;
+ghost use Rattle.pass_answer.specs.declared.answer.Moved.TheVariants as moved;
+
+use pass_answer::{CallEnd, Moved};
+use pass_entry::Pnode;
+use pass_hold::{Caller, Shelf, Whose};
+use pass_proc::{Ended, Proc, ProcessDesk};
+use std::alloc::Global;
+
+/// Both steps of a wait for a child that has ended, by which no data flows.
+fn await_steps<J: Whose>(
+    alloc: Global,
+    ended: &mut Ended<J>,
+    shelf: &mut Shelf<J>,
+    caller: &mut Caller<J>,
+    process: &mut ProcessDesk<J>,
+    number: u64,
+    child: Pnode,
+)
+    requires child { ended.old.who ≡ child }
+    requires places { HasRoom shelf.old caller.old.held 3 }
+    requires who { caller.old.who ≡ process.old.who }
+    requires free { refusal process.old.state (ask.Child child) ≡ None }
+    requires idle { IsIdle J.book.session caller.old.seen process.old.who (number - 1) process.old.state }
+    requires number { 0 < number }
+    ensures call { Stepped J.book.session process.old.who caller.old.seen caller.new.seen process.new.state (requests.Await child) (Ok moved.Done) }
+    ensures idle { IsIdle J.book.session caller.new.seen process.new.who number process.new.state }
+    ensures who { (process.new.who ≡ process.old.who) × (caller.new.who ≡ caller.old.who) × (ended.new.who ≡ ended.old.who) }
+    ensures own { caller.new.own ≡ caller.old.own }
+    ensures few { length caller.new.seen ≤ 2 ^ 32 }
+{
+    let who = process.pnode();
+    ended.show_end(alloc, shelf, caller, who, number);
+    process.release(alloc, shelf, caller, number, child);
+}
+
+/// Lets a child go that has ended, and takes nothing from it. It takes no memory.
+pub fn await_ended<J: Whose>(
+    alloc: Global,
+    ended: &mut Ended<J>,
+    shelf: &mut Shelf<J>,
+    proc: &mut Proc<J>,
+    child: Pnode,
+) -> Result<Moved, CallEnd>
+    requires child { ended.old.who ≡ child }
+    requires free { refusal proc.old.state (ask.Child child) ≡ None }
+    ensures call { Answers J.book.session J.places proc.old proc.new (requests.Await child) result }
+    ensures ready { IsReadyIfFull J.book.session proc.old proc.new (requests.Await child) result }
+    ensures memory { ¬ IsErrOf result ends.NoMemory }
+    ensures who { ended.new.who ≡ ended.old.who }
+{
+    if let Err(full) = proc.caller.room(shelf, 3) {
+        // The child has ended in all that the process sees.
+        ended.look(shelf);
+        return Err(CallEnd::from(full));
+    }
+    let number = proc.number + 1;
+    await_steps(
+        alloc,
+        ended,
+        shelf,
+        &mut proc.caller,
+        &mut proc.process,
+        number,
+        child,
+    );
+    proc.number = number;
+    proc.way = None;
+    Ok(Moved::Done)
+}

@@ -66,6 +66,7 @@ steps_texts who p made requests.Fork within =
     (tt, (tt, pipe_steps HasStep (λ d. act_on d.pnode (act.Join (end_of d.mode))) (λ k d. tt) 2 (pipe_descriptors p) (act_on (pnode_at made 0) (act.Born (place_at made 1) p.descriptors)) (λ k. tt)))
 steps_texts who p made (requests.Exec name args) within = (tt, (tt, ((true_left (is_name name) (is_line args) within, true_right (is_name name) (is_line args) within), tt)))
 steps_texts who p made (requests.WaitChild child) within = (tt, (tt, tt))
+steps_texts who p made (requests.Await child) within = (tt, (tt, tt))
 steps_texts who p made requests.Exit within = pipe_steps HasStep (λ d. act_on d.pnode (act.Leave (end_of d.mode))) (λ k d. tt) 0 (pipe_descriptors p) (act_on who act.Finish) (λ k. tt)
 steps_texts who p made (requests.Rename from to) within = (true_right (is_name from) (is_name to) within, tt)
 steps_texts who p made (requests.Unlink name) within = (tt, tt)

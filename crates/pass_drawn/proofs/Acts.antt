@@ -11,7 +11,7 @@ use Rattle.pass_entry.specs.declared.objects.Mode.TheVariants as mode
 use Rattle.pass_plain.specs.declared.request.Request.TheVariants as requests
 use Rattle.pass_plain.specs.Processes.{Process, is_file}
 use Rattle.pass_plain.specs.Calls.{Step, Made, act_on, call_steps, steps_of, refused_ask, descriptor_at, pipe_descriptors, end_of, pnode_at, place_at}
-use Rattle.pass_plain.specs.Traces.{LineCall, given, write_last, fork_as, wait_for, request_of}
+use Rattle.pass_plain.specs.Traces.{LineCall, given, write_last, fork_as, wait_for, await_for, request_of}
 use Rattle.pass_plain.proofs.Lists.{AllFrom, all_at, all-append, all-map}
 use Rattle.pass_drawn.proofs.Tracing.{IsFirsts, IsChilds, IsDrawn}
 
@@ -64,6 +64,7 @@ firsts_tame who p made pnode last (given _) is = absurd is
 firsts_tame who p made pnode last (write_last fd) is = absurd is
 firsts_tame who p made pnode last (fork_as child) is = fork_tame who p made
 firsts_tame who p made pnode last (wait_for child) is = (tt, (tt, tt))
+firsts_tame who p made pnode last (await_for child) is = absurd is
 
 childs_tame : (who : ℕ) (p : Process) (made : Made) (pnode : ℕ → ℕ) (last : List ℕ) (call : LineCall) → IsChilds call → AreTame (steps_of who p made (request_of pnode last call))
 childs_tame who p made pnode last (given (requests.Seek fd at)) is = (tt, tt)
@@ -73,6 +74,7 @@ childs_tame who p made pnode last (given _) is = absurd is
 childs_tame who p made pnode last (write_last fd) is = absurd is
 childs_tame who p made pnode last (fork_as child) is = absurd is
 childs_tame who p made pnode last (wait_for child) is = absurd is
+childs_tame who p made pnode last (await_for child) is = absurd is
 
 own_tame : (who : ℕ) (p : Process) (made : Made) (pnode : ℕ → ℕ) (last : List ℕ) (process : ℕ) (call : LineCall) → IsDrawn process call ⊎ (call ≡ given requests.Exit)
     → AreTame (steps_of who p made (request_of pnode last call))

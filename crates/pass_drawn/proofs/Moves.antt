@@ -20,8 +20,9 @@ use Rattle.pass_plain.specs.Sessions.{Session}
 use Rattle.pass_plain.specs.Replies.{reply_to}
 use Rattle.pass_plain.specs.Processes.{Process, process_act, process_after, has_ended, is_file}
 use Rattle.pass_plain.specs.Calls.{Step, Made, act_on, call_steps, steps_of, descriptor_at, is_last, is_last_act}
+use Rattle.pass_plain.specs.Lawful.{sees_end}
 use Rattle.pass_plain.specs.Legal.{IsLegal, before_call, last_number, is_over, step_of}
-use Rattle.pass_plain.specs.Traces.{Line, LineCall, given, write_last, fork_as, wait_for, lines_of, calls_of, request_of}
+use Rattle.pass_plain.specs.Traces.{Line, LineCall, given, write_last, fork_as, wait_for, await_for, waited_for, lines_of, calls_of, request_of}
 use Rattle.pass_plain.specs.Runs.{IsRun, first, forked_by, is_open, next_number, pnode_of_process, request_at, steps_at}
 use Rattle.pass_plain.proofs.Lists.{some_is, is_place, in_filtered, alike}
 use Rattle.pass_plain.proofs.Appends.{place_of, slice_get-append}
@@ -57,7 +58,7 @@ next_within last count over less most some = next_if last count (last == 0) over
 abbrev Waits : List Entry → Process → ℕ → ℕ → Act → Type 0
 Waits history p k what a =
     ((fd : ℕ) × Holds p fd × (is_file (descriptor_at p fd) ≡ false))
-    ⊎ ((a ≡ act.Reap) × (k ≡ 0) × (has_ended history what ≡ false))
+    ⊎ ((sees_end a ≡ true) × (k ≡ 0) × (has_ended history what ≡ false))
 
 alive_if : (b : Bool) → (if b then Some answer.Done else None) ≡ None → b ≡ false
 alive_if true h = absurd (cc)
@@ -68,41 +69,44 @@ waits : (session : Session) (history : List Entry) (who : ℕ) (p : Process) (ma
 waits session history who p made steps k what (act.Take len) r none = inl (r.2, r.3, r.5)
 waits session history who p made steps k what (act.Push out bytes) r none = inl (r.2, r.3, r.5)
 waits session history who p made steps k what act.Reap r none = inr (refl, r.0, alive_if (has_ended history what) none)
+waits session history who p made steps k what act.Ended r none = inr (refl, r.0, alive_if (has_ended history what) none)
 waits session history who p made steps k what _ r none = absurd (cc)
 
--- only a wait reaps
+-- only a wait looks for an end
 
-reading_no_reap : (b : Bool) (at len : ℕ) → (if b then act.Give at len else act.Take len) ≡ act.Reap → ⊥
-reading_no_reap true at len is = cc
-reading_no_reap false at len is = cc
+reading_sees_none : (b : Bool) (at len : ℕ) → sees_end (if b then act.Give at len else act.Take len) ≡ true → ⊥
+reading_sees_none true at len is = cc
+reading_sees_none false at len is = cc
 
-childs_no_reap : (who : ℕ) (p : Process) (made : Made) (pnode : ℕ → ℕ) (last : List ℕ) (call : LineCall) (s : Step) → IsChilds call
-    → slice_get (steps_of who p made (request_of pnode last call)) 0 ≡ Some s → s.1 ≡ act.Reap → ⊥
-childs_no_reap who p made pnode last (given (requests.Seek fd at)) s is step reaps = let z : act.Seek fd at ≡ act.Reap = ap (λ (s : Step). s.1) (some_is (act_on who (act.Seek fd at)) s step) ∙ reaps in cc
-childs_no_reap who p made pnode last (given (requests.Read fd len)) s is step reaps =
-    reading_no_reap (is_file (descriptor_at p fd)) (descriptor_at p fd).offset len
-    (ap (λ (s : Step). s.1) (some_is (act_on (descriptor_at p fd).pnode (if is_file (descriptor_at p fd) then act.Give (descriptor_at p fd).offset len else act.Take len)) s step) ∙ reaps)
-childs_no_reap who p made pnode last (given (requests.Write fd bytes)) s is step reaps =
-    let z : act.Show fd (length bytes) ≡ act.Reap = ap (λ (s : Step). s.1) (some_is (act_on who (act.Show fd (length bytes))) s step) ∙ reaps in cc
-childs_no_reap who p made pnode last (given _) s is step reaps = is
-childs_no_reap who p made pnode last (write_last fd) s is step reaps = is
-childs_no_reap who p made pnode last (fork_as child) s is step reaps = is
-childs_no_reap who p made pnode last (wait_for child) s is step reaps = is
+childs_see_none : (who : ℕ) (p : Process) (made : Made) (pnode : ℕ → ℕ) (last : List ℕ) (call : LineCall) (s : Step) → IsChilds call
+    → slice_get (steps_of who p made (request_of pnode last call)) 0 ≡ Some s → sees_end s.1 ≡ true → ⊥
+childs_see_none who p made pnode last (given (requests.Seek fd at)) s is step sees = let z : false ≡ true = ap (λ (s : Step). sees_end s.1) (some_is (act_on who (act.Seek fd at)) s step) ∙ sees in cc
+childs_see_none who p made pnode last (given (requests.Read fd len)) s is step sees =
+    reading_sees_none (is_file (descriptor_at p fd)) (descriptor_at p fd).offset len
+    (ap (λ (s : Step). sees_end s.1) (some_is (act_on (descriptor_at p fd).pnode (if is_file (descriptor_at p fd) then act.Give (descriptor_at p fd).offset len else act.Take len)) s step) ∙ sees)
+childs_see_none who p made pnode last (given (requests.Write fd bytes)) s is step sees =
+    let z : false ≡ true = ap (λ (s : Step). sees_end s.1) (some_is (act_on who (act.Show fd (length bytes))) s step) ∙ sees in cc
+childs_see_none who p made pnode last (given _) s is step sees = is
+childs_see_none who p made pnode last (write_last fd) s is step sees = is
+childs_see_none who p made pnode last (fork_as child) s is step sees = is
+childs_see_none who p made pnode last (wait_for child) s is step sees = is
+childs_see_none who p made pnode last (await_for child) s is step sees = is
 
 -- the first process waits for one that it has forked
-firsts_reap : (who : ℕ) (p : Process) (made : Made) (pnode : ℕ → ℕ) (last : List ℕ) (call : LineCall) (s : Step) → IsFirsts call
-    → slice_get (steps_of who p made (request_of pnode last call)) 0 ≡ Some s → s.1 ≡ act.Reap
+firsts_see : (who : ℕ) (p : Process) (made : Made) (pnode : ℕ → ℕ) (last : List ℕ) (call : LineCall) (s : Step) → IsFirsts call
+    → slice_get (steps_of who p made (request_of pnode last call)) 0 ≡ Some s → sees_end s.1 ≡ true
     → (q : ℕ) × (call ≡ wait_for q) × (s.0 ≡ pnode q)
-firsts_reap who p made pnode last (given (requests.Creat fd name)) s is step reaps = absurd (let z : act.Bind name ≡ act.Reap = ap (λ (s : Step). s.1) (some_is (act_on 0 (act.Bind name)) s step) ∙ reaps in cc)
-firsts_reap who p made pnode last (given _) s is step reaps = absurd is
-firsts_reap who p made pnode last (write_last fd) s is step reaps = absurd is
-firsts_reap who p made pnode last (fork_as child) s is step reaps = absurd (let z : act.Mint kind.Process ≡ act.Reap = ap (λ (s : Step). s.1) (some_is (act_on 0 (act.Mint kind.Process)) s step) ∙ reaps in cc)
-firsts_reap who p made pnode last (wait_for q) s is step reaps = (q, refl, ap (λ (s : Step). s.0) (sym (some_is (act_on (pnode q) act.Reap) s step)))
+firsts_see who p made pnode last (given (requests.Creat fd name)) s is step sees = absurd (let z : false ≡ true = ap (λ (s : Step). sees_end s.1) (some_is (act_on 0 (act.Bind name)) s step) ∙ sees in cc)
+firsts_see who p made pnode last (given _) s is step sees = absurd is
+firsts_see who p made pnode last (write_last fd) s is step sees = absurd is
+firsts_see who p made pnode last (fork_as child) s is step sees = absurd (let z : false ≡ true = ap (λ (s : Step). sees_end s.1) (some_is (act_on 0 (act.Mint kind.Process)) s step) ∙ sees in cc)
+firsts_see who p made pnode last (wait_for q) s is step sees = (q, refl, ap (λ (s : Step). s.0) (sym (some_is (act_on (pnode q) act.Reap) s step)))
+firsts_see who p made pnode last (await_for q) s is step sees = absurd is
 
-exit_no_reap : (who : ℕ) (p : Process) (made : Made) (k : ℕ) (s : Step) → slice_get (call_steps who p made requests.Exit) k ≡ Some s → s.1 ≡ act.Reap → ⊥
-exit_no_reap who p made k s step reaps = elim (exit_step who p made k s step) [
-  | inl leave ↦ (let z : act.Leave leave.1 ≡ act.Reap = ap (λ (s : Step). s.1) leave.2 ∙ reaps in cc)
-  | inr finish ↦ (let z : act.Finish ≡ act.Reap = ap (λ (s : Step). s.1) finish ∙ reaps in cc)
+exit_sees_none : (who : ℕ) (p : Process) (made : Made) (k : ℕ) (s : Step) → slice_get (call_steps who p made requests.Exit) k ≡ Some s → sees_end s.1 ≡ true → ⊥
+exit_sees_none who p made k s step sees = elim (exit_step who p made k s step) [
+  | inl leave ↦ (let z : false ≡ true = ap (λ (s : Step). sees_end s.1) leave.2 ∙ sees in cc)
+  | inr finish ↦ (let z : false ≡ true = ap (λ (s : Step). sees_end s.1) finish ∙ sees in cc)
 ]
 
 -- who has finished has ended
@@ -217,22 +221,22 @@ module _ (session : Session) (number lines : ℕ) (history : List Entry) (run : 
       unready process who begun done call stands next step at still = at_reply process who begun done call stands next step at still (reply_to session history step.0 step.1) refl
 
   -- it waits for a process that lives
-  held_reaps : (process who : ℕ) (h : IsHeld process who) → (h.step.1 ≡ act.Reap) × (length (call_entries history who (h.done + 1)) ≡ 0) × (has_ended history h.step.0 ≡ false)
-  held_reaps process who h = elim h.waits_so [
+  held_sees : (process who : ℕ) (h : IsHeld process who) → (sees_end h.step.1 ≡ true) × (length (call_entries history who (h.done + 1)) ≡ 0) × (has_ended history h.step.0 ≡ false)
+  held_sees process who h = elim h.waits_so [
     | inl pipe ↦ absurd (holds_none session number lines history run who (h.done + 1) pipe.0 pipe.1 pipe.2)
-    | inr reap ↦ reap
+    | inr seen ↦ seen
   ]
 
   -- by the first step of its call
-  first_reaps : (process who : ℕ) (h : IsHeld process who)
+  first_sees : (process who : ℕ) (h : IsHeld process who)
       → slice_get (steps_of who (before_call history who (h.done + 1)) (call_entries history who (h.done + 1)) (request_at session trace history who (h.done + 1) h.call)) 0 ≡ Some h.step
-  first_reaps process who h =
-      let (reaps, none, alive) = held_reaps process who h in
+  first_sees process who h =
+      let (sees, none, alive) = held_sees process who h in
       let p = before_call history who (h.done + 1) in
       let made = call_entries history who (h.done + 1) in
       let request = request_at session trace history who (h.done + 1) h.call in
       elim (first_step who p made request h.step (ap (λ k. slice_get (call_steps who p made request) k) (sym none) ∙ h.at)) [
-        | inl deny ↦ absurd (let z : act.Deny deny.0 ≡ act.Reap = ap (λ (s : Step). s.1) deny.1 ∙ reaps in cc)
+        | inl deny ↦ absurd (let z : false ≡ true = ap (λ (s : Step). sees_end s.1) deny.1 ∙ sees in cc)
         | inr own ↦ own
       ]
 
@@ -240,8 +244,8 @@ module _ (session : Session) (number lines : ℕ) (history : List Entry) (run : 
   exit_moves process who h exit =
       let p = before_call history who (h.done + 1) in
       let made = call_entries history who (h.done + 1) in
-      exit_no_reap who p made (length made) h.step
-      (ap (λ c. slice_get (steps_at session trace history who (h.done + 1) c) (length made)) (sym exit) ∙ h.at) (held_reaps process who h).0
+      exit_sees_none who p made (length made) h.step
+      (ap (λ c. slice_get (steps_at session trace history who (h.done + 1) c) (length made)) (sym exit) ∙ h.at) (held_sees process who h).0
 
   -- so it is the first process
   child_moves : (process who : ℕ) → 2 ≤ process → IsHeld process who → ⊥
@@ -250,8 +254,8 @@ module _ (session : Session) (number lines : ℕ) (history : List Entry) (run : 
     | inl drawn ↦ elim drawn [
       | inl one ↦ absurd (let z = one.0 in omega (arith, z, least))
       | inr other ↦
-          childs_no_reap who (before_call history who (h.done + 1)) (call_entries history who (h.done + 1)) _ (before_call history who (h.done + 1)).last_read h.call h.step other.2
-          (first_reaps process who h) (held_reaps process who h).0
+          childs_see_none who (before_call history who (h.done + 1)) (call_entries history who (h.done + 1)) _ (before_call history who (h.done + 1)).last_read h.call h.step other.2
+          (first_sees process who h) (held_sees process who h).0
     ]
   ]
 
@@ -276,7 +280,7 @@ module _ (session : Session) (number lines : ℕ) (history : List Entry) (run : 
     | inr exit ↦ absurd (let z : wait_for q ≡ given requests.Exit = exit.0 in cc)
     | inl l ↦
         let (s, rules) = line_behind trace 1 done l.0 (behind session number lines history run) l.1 in
-        let (k, m, stands_there, forks) = rules.waits q l.2 in
+        let (k, m, stands_there, forks) = rules.waits q (ap waited_for l.2) in
         let m_at : slice_get (lines_of s.before 1) k ≡ Some m = ap (λ p. slice_get (lines_of s.before p) k) (sym s.own) ∙ stands_there in
         let short = slice_get_within (lines_of s.before 1) k m m_at in
         let count = s.count in
@@ -328,9 +332,9 @@ module _ (session : Session) (number lines : ℕ) (history : List Entry) (run : 
     | inl drawn ↦ elim drawn [
       | inr other ↦ (let z = other.0 in omega (arith, z))
       | inl one ↦
-          let (reaps, none, alive) = held_reaps 1 first_who h in
-          let (q, is_wait, child) = firsts_reap first_who (before_call history first_who (h.done + 1)) (call_entries history first_who (h.done + 1)) _ (before_call history first_who (h.done + 1)).last_read
-          h.call h.step one.1 (first_reaps 1 first_who h) reaps in
+          let (sees, none, alive) = held_sees 1 first_who h in
+          let (q, is_wait, child) = firsts_see first_who (before_call history first_who (h.done + 1)) (call_entries history first_who (h.done + 1)) _ (before_call history first_who (h.done + 1)).last_read
+          h.call h.step one.1 (first_sees 1 first_who h) sees in
           let (c, begun) = waited_begun h.done q (h.stands ∙ ap (λ c. Some c) is_wait) h.next in
           let range : (2 ≤ q) × (q ≤ 8) = subst IsFirsts is_wait one.1 in
           let is_child : h.step.0 ≡ c = child ∙ ap (λ o. option_map_or (λ pnode. pnode) o 0) begun in

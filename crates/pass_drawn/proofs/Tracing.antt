@@ -8,7 +8,7 @@ use Rattle.pass_entry.specs.declared.entry.CallName.{CallName}
 use Rattle.pass_entry.specs.declared.entry.CallName.TheVariants as call_name
 use Rattle.pass_plain.specs.declared.request.Request.TheVariants as requests
 use Rattle.pass_plain.specs.Calls.{is_fd}
-use Rattle.pass_plain.specs.Traces.{Line, LineCall, given, write_last, fork_as, wait_for, name_of_call, lines_of, calls_of}
+use Rattle.pass_plain.specs.Traces.{Line, LineCall, given, write_last, fork_as, wait_for, await_for, waited_for, name_of_call, lines_of, calls_of}
 use Rattle.pass_plain.proofs.Lists.{AllFrom, all_at, all-append, all-map, both_true, filtered, same_numbers, of_both}
 use Rattle.pass_plain.proofs.Appends.{slice_get-append}
 use Rattle.pass_trace.specs.declared.trace.Command.TheVariants as command
@@ -105,6 +105,7 @@ firsts_named (given _) is = absurd is
 firsts_named (write_last fd) is = absurd is
 firsts_named (fork_as child) is = refl
 firsts_named (wait_for child) is = refl
+firsts_named (await_for child) is = absurd is
 
 childs_named : (call : LineCall) → IsChilds call → is_drawn_name (name_of_call call) ≡ true
 childs_named (given (requests.Seek fd at)) is = refl
@@ -114,6 +115,7 @@ childs_named (given _) is = absurd is
 childs_named (write_last fd) is = absurd is
 childs_named (fork_as child) is = absurd is
 childs_named (wait_for child) is = absurd is
+childs_named (await_for child) is = absurd is
 
 named_if : (process : ℕ) (call : LineCall) → IsDrawn process call ⊎ (call ≡ given requests.Exit) → is_drawn_name (name_of_call call) ≡ true
 named_if process call (inl (inl one)) = firsts_named call one.1
@@ -150,12 +152,17 @@ childs_within (given _) is = absurd is
 childs_within (write_last fd) is = absurd is
 childs_within (fork_as child) is = absurd is
 childs_within (wait_for child) is = absurd is
+childs_within (await_for child) is = absurd is
 
 childs_fork_none : (call : LineCall) (q : ℕ) → IsChilds call → call ≡ fork_as q → ⊥
 childs_fork_none call q is same = let z : IsChilds (fork_as q) = subst IsChilds same is in z
 
-childs_wait_none : (call : LineCall) (q : ℕ) → IsChilds call → call ≡ wait_for q → ⊥
-childs_wait_none call q is same = let z : IsChilds (wait_for q) = subst IsChilds same is in z
+childs_wait_none : (call : LineCall) (q : ℕ) → IsChilds call → waited_for call ≡ Some q → ⊥
+childs_wait_none (given r) q is same = absurd (cc)
+childs_wait_none (write_last fd) q is same = is
+childs_wait_none (fork_as child) q is same = is
+childs_wait_none (wait_for child) q is same = is
+childs_wait_none (await_for child) q is same = is
 
 child_behind : (before : List Line) (l : Line) → IsChilds l.call → is_there before l.process ≡ true → IsLineBehind before l
 child_behind before l is there = record {

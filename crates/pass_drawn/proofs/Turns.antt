@@ -3,7 +3,7 @@ use Rattle.std.proofs.Common.{◌≡◌, ℕ, zero, suc, ◌+◌, ◌-◌, ◌%�
 use Rattle.std.specs.Prelude.{Some, codes, slice_get}
 use Rattle.std.specs.List.{range_with_len}
 use Rattle.pass_plain.specs.declared.request.Request.TheVariants as requests
-use Rattle.pass_plain.specs.Traces.{Line, LineCall, given, write_last, fork_as, wait_for, lines_of, calls_of}
+use Rattle.pass_plain.specs.Traces.{Line, LineCall, given, write_last, fork_as, wait_for, await_for, lines_of, calls_of}
 use Rattle.pass_plain.proofs.Lists.{AllFrom, all-map, some_is, alike, different}
 use Rattle.pass_trace.specs.declared.trace.Command.{Command}
 use Rattle.pass_trace.specs.declared.trace.Command.TheVariants as command
@@ -26,6 +26,7 @@ seek_is (given _) is = absurd is
 seek_is (write_last fd) is = absurd is
 seek_is (fork_as child) is = absurd is
 seek_is (wait_for child) is = absurd is
+seek_is (await_for child) is = absurd is
 
 -- each second line is a seek, the first one too
 abbrev Alternates : List Line → Type 0

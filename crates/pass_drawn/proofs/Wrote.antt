@@ -8,7 +8,7 @@ use Rattle.pass_entry.specs.declared.entry.Act.TheVariants as act
 use Rattle.pass_plain.specs.declared.request.Request.TheVariants as requests
 use Rattle.pass_plain.specs.Histories.{call_entries, is_fault}
 use Rattle.pass_plain.specs.Sessions.{Session}
-use Rattle.pass_plain.specs.Traces.{Line, LineCall, given, write_last, fork_as, wait_for, name_of_call, calls_of}
+use Rattle.pass_plain.specs.Traces.{Line, LineCall, given, write_last, fork_as, wait_for, await_for, name_of_call, calls_of}
 use Rattle.pass_plain.specs.Runs.{IsRun}
 use Rattle.pass_plain.specs.Outlines.{outline}
 use Rattle.pass_report.specs.Reports.{is_answered}
@@ -85,6 +85,7 @@ module _ (session : Session) (number lines : ℕ) (history : List Entry) (run : 
   first_call process who k (write_last fd) begun stands is = absurd is
   first_call process who k (fork_as child) begun stands is = other_call process who k (fork_as child) begun stands refl
   first_call process who k (wait_for child) begun stands is = other_call process who k (wait_for child) begun stands refl
+  first_call process who k (await_for child) begun stands is = absurd is
 
   child_call : (process who k : ℕ) (call : LineCall) → pnode session number lines history run some_object closed process ≡ Some who → slice_get (calls_of (drawn_trace number lines) process) k ≡ Some call
       → 2 ≤ process → IsChilds call → sum_of_call who k ≡ counts of_bytes of_last call
@@ -95,6 +96,7 @@ module _ (session : Session) (number lines : ℕ) (history : List Entry) (run : 
   child_call process who k (write_last fd) begun stands least is = absurd is
   child_call process who k (fork_as child) begun stands least is = absurd is
   child_call process who k (wait_for child) begun stands least is = absurd is
+  child_call process who k (await_for child) begun stands least is = absurd is
 
   each_call : (process who k : ℕ) (call : LineCall) → pnode session number lines history run some_object closed process ≡ Some who → slice_get (calls_of (drawn_trace number lines) process) k ≡ Some call
       → sum_of_call who k ≡ counts of_bytes of_last call

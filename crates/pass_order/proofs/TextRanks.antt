@@ -4,7 +4,7 @@ use Rattle.std.specs.Prelude.{Some, slice_get}
 use Rattle.std.proofs.lemmas.Bool.{cases_lt, or_right}
 use Rattle.std.proofs.lemmas.List.{take-append-drop, take-append-le, take-take, take_all}
 use Rattle.pass_entry.proofs.Places.{Contains-at, later_get, parted, take_one_more}
-use Rattle.pass_plain.specs.Traces.{Line, LineCall, given, write_last, fork_as, wait_for, lines_of}
+use Rattle.pass_plain.specs.Traces.{Line, LineCall, given, write_last, fork_as, wait_for, await_for, lines_of}
 use Rattle.pass_plain.proofs.Lists.{any_of, below_or, same_itself, same_numbers, slice_get-front, some_is}
 use Rattle.pass_replay.specs.Lines.{AreLinesBehind, is_fork_of, is_there}
 use Rattle.pass_replay.specs.Orders.{Place, child_exit, exit_in, places_from, places_in_order}
@@ -97,12 +97,14 @@ child_among rest (fork_as child) d h = let (is, none) = exit_among [] rest child
 child_among rest (given r) d h = absurd h
 child_among rest (write_last fd) d h = absurd h
 child_among rest (wait_for q) d h = absurd h
+child_among rest (await_for q) d h = absurd h
 
 child_alone : (rest : List Line) (call : LineCall) (c d : Place) → Before c d (child_exit rest call) → ⊥
 child_alone rest (fork_as child) c d h = exit_alone [] rest child c d h
 child_alone rest (given r) c d h = h
 child_alone rest (write_last fd) c d h = h
 child_alone rest (wait_for q) c d h = h
+child_alone rest (await_for q) c d h = h
 
 -- The ranks
 

@@ -10,7 +10,7 @@ use Rattle.pass_entry.specs.declared.entry.Entry.{Entry}
 use Rattle.pass_entry.proofs.Places.{Contains-place}
 use Rattle.pass_plain.specs.Sessions.{Session}
 use Rattle.pass_plain.specs.Legal.{is_over}
-use Rattle.pass_plain.specs.Traces.{Line, LineCall, given, write_last, fork_as, wait_for, lines_of, calls_of}
+use Rattle.pass_plain.specs.Traces.{Line, LineCall, given, write_last, fork_as, wait_for, await_for, lines_of, calls_of}
 use Rattle.pass_plain.specs.Runs.{pnode_of_process, is_open, first, forked_by}
 use Rattle.pass_plain.proofs.Lists.{same_numbers, any_of, same_itself}
 use Rattle.pass_replay.specs.Ends.{NoneOpen}
@@ -25,6 +25,7 @@ fork_is q (fork_as child) is = ap (λ q. fork_as q) (same_numbers child q is)
 fork_is q (given r) is = absurd (cc)
 fork_is q (write_last fd) is = absurd (cc)
 fork_is q (wait_for child) is = absurd (cc)
+fork_is q (await_for child) is = absurd (cc)
 
 three : (a b c : Bool) → a || (b || (c || false)) ≡ true → (a || b ≡ true) ⊎ (c ≡ true)
 three true b c h = inl refl

@@ -15,7 +15,7 @@ use Rattle.pass_plain.specs.Sessions.{Session}
 use Rattle.pass_plain.specs.Processes.{Process, has_begun, has_ended}
 use Rattle.pass_plain.specs.Calls.{Made, Step, name_of, is_within, is_fd, call_steps, is_last, is_last_act}
 use Rattle.pass_plain.specs.Legal.{IsLegal, before_call, is_over, ends_call, last_number, is_start, step_of}
-use Rattle.pass_plain.specs.Traces.{Line, LineCall, given, write_last, fork_as, wait_for, name_of_call, lines_of, calls_of, request_of}
+use Rattle.pass_plain.specs.Traces.{Line, LineCall, given, write_last, fork_as, wait_for, await_for, name_of_call, lines_of, calls_of, request_of}
 use Rattle.pass_plain.specs.Runs.{pnode_of_process, next_number, request_at}
 use Rattle.pass_plain.proofs.Lists.{some_is, same_numbers, both_true, is_place, alike}
 use Rattle.pass_plain.specs.CallLaws.{IsBegun}
@@ -117,12 +117,14 @@ ordinary_call pnode last (given r) (inr exit) = let z : r ≡ requests.Exit = cc
 ordinary_call pnode last (write_last fd) any = refl
 ordinary_call pnode last (fork_as child) any = refl
 ordinary_call pnode last (wait_for child) any = refl
+ordinary_call pnode last (await_for child) any = refl
 
 pub named_call : (pnode : ℕ → ℕ) (last : List ℕ) (call : LineCall) → name_of (request_of pnode last call) ≡ name_of_call call
 named_call pnode last (given r) = refl
 named_call pnode last (write_last fd) = refl
 named_call pnode last (fork_as child) = refl
 named_call pnode last (wait_for child) = refl
+named_call pnode last (await_for child) = refl
 
 pub within_call : (pnode : ℕ → ℕ) (last : List ℕ) (call : LineCall) → IsAnyCall call → length last ≤ 4096 → is_within (request_of pnode last call) ≡ true
 within_call pnode last (given r) (inl line) short = line.1
@@ -131,6 +133,7 @@ within_call pnode last (write_last fd) (inl line) short = both_true (is_fd fd) (
 within_call pnode last (write_last fd) (inr exit) short = absurd (cc)
 within_call pnode last (fork_as child) any short = refl
 within_call pnode last (wait_for child) any short = refl
+within_call pnode last (await_for child) any short = refl
 
 -- what a process read last is short, also before a call
 pub last_read_short : (session : Session) (history : List Entry) (who number : ℕ) → IsLegal session history → length (before_call history who number).last_read ≤ 4096

@@ -1,6 +1,6 @@
 -- A run of a trace with one more entry.
 use Rattle.std.proofs.Common.{◌≡◌, ◌≢◌, ◌<◌, ◌≤◌, ◌+◌, ℕ, suc, List, [], ◌∷◌, ◌++◌, length, map, take, refl, ap, sym, ◌∙◌, subst, arith, ◌⊎◌, inl, inr, Bool, true, false, ◌||◌, ◌==◌, cond}
-use Rattle.std.specs.Prelude.{Some, slice_get}
+use Rattle.std.specs.Prelude.{Some, None, slice_get}
 use Rattle.std.specs.Option.{option_map_or}
 use Rattle.std.proofs.lemmas.Option.{slice_get_within}
 use Rattle.std.proofs.lemmas.Bool.{or_right}
@@ -14,7 +14,7 @@ use Rattle.pass_plain.specs.Sessions.{Session}
 use Rattle.pass_plain.specs.Processes.{Process, has_begun, begins}
 use Rattle.pass_plain.specs.Calls.{Made, name_of, call_steps, is_last, is_last_act}
 use Rattle.pass_plain.specs.Legal.{MayFollow, before_call, is_over, last_number, step_of, is_start}
-use Rattle.pass_plain.specs.Traces.{Line, LineCall, given, write_last, fork_as, wait_for, name_of_call, lines_of, calls_of}
+use Rattle.pass_plain.specs.Traces.{Line, LineCall, given, write_last, fork_as, wait_for, await_for, waited_for, name_of_call, lines_of, calls_of}
 use Rattle.pass_plain.specs.Runs.{pnode_of_process, next_number, request_at, steps_at, IsRun}
 use Rattle.pass_plain.proofs.Lists.{some_is, same_numbers, alike, different}
 use Rattle.pass_plain.proofs.Appends.{place_of, slice_get-append}
@@ -81,13 +81,13 @@ module _ (session : Session) (trace : List Line) (behind : AreLinesBehind [] tra
   last_other w apart = last_number-append history e w ∙ ap (λ b. cond b e.number (last_number history w)) (different e.who w (λ same. apart (sym same ∙ is.by)))
 
   -- a child that is waited for keeps its pnode
-  waited : (p w n q : ℕ) → pnode_of_process session trace history p ≡ Some w → slice_get (calls_of trace p) n ≡ Some (wait_for q) → ((k : ℕ) → 1 ≤ k → k ≤ n → is_over history w k ≡ true)
+  waited : (p w n q : ℕ) (c : LineCall) → waited_for c ≡ Some q → pnode_of_process session trace history p ≡ Some w → slice_get (calls_of trace p) n ≡ Some c → ((k : ℕ) → 1 ≤ k → k ≤ n → is_over history w k ≡ true)
       → option_map_or (λ pnode. pnode) (pnode_of_process session trace longer q) 0 ≡ option_map_or (λ pnode. pnode) (pnode_of_process session trace history q) 0
-  waited p w n q at st over = elim (call_cases trace p n (wait_for q) st) [
-    | inr exit ↦ absurd (let z : wait_for q ≡ given requests.Exit = exit.0 in cc)
+  waited p w n q c waits at st over = elim (call_cases trace p n c st) [
+    | inr exit ↦ absurd (let z : None ≡ Some q = sym (ap waited_for exit.0) ∙ waits in cc)
     | inl l ↦
         let (s, rules) = line_behind trace p n l.0 behind l.1 in
-        let (k, m, stands_there, forks) = rules.waits q l.2 in
+        let (k, m, stands_there, forks) = rules.waits q (ap waited_for l.2 ∙ waits) in
         let m_at : slice_get (lines_of s.before p) k ≡ Some m = ap (λ p. slice_get (lines_of s.before p) k) (sym s.own) ∙ stands_there in
         let short = slice_get_within (lines_of s.before p) k m m_at in
         let count = s.count in
@@ -104,7 +104,8 @@ module _ (session : Session) (trace : List Line) (behind : AreLinesBehind [] tra
   request_same p w n (given r) at st over same = refl
   request_same p w n (write_last fd) at st over same = ap (λ (p : Process). requests.Write fd p.last_read) same
   request_same p w n (fork_as child) at st over same = refl
-  request_same p w n (wait_for q) at st over same = ap (λ m. requests.WaitChild m) (waited p w n q at st over)
+  request_same p w n (wait_for q) at st over same = ap (λ m. requests.WaitChild m) (waited p w n q (wait_for q) refl at st over)
+  request_same p w n (await_for q) at st over same = ap (λ m. requests.Await m) (waited p w n q (await_for q) refl at st over)
 
   pub request_stays : request_at session trace longer who (done + 1) call ≡ request
   request_stays = request_same process who done call begun stands earlier (own_state history e who (done + 1) own_call)

@@ -12,7 +12,7 @@ use Rattle.pass_plain.specs.Sessions.{Session}
 use Rattle.pass_plain.specs.Processes.{has_begun}
 use Rattle.pass_plain.specs.Places.{left_places}
 use Rattle.pass_plain.specs.Legal.{IsLegal, MayFollow, before_call, is_over, ends_call}
-use Rattle.pass_plain.specs.Traces.{Line, LineCall, given, write_last, fork_as, wait_for, name_of_call, calls_of}
+use Rattle.pass_plain.specs.Traces.{Line, LineCall, given, write_last, fork_as, wait_for, await_for, name_of_call, calls_of}
 use Rattle.pass_plain.specs.Runs.{next_number, pnode_of_process, request_at}
 use Rattle.pass_plain.proofs.Lists.{some_is, same_itself, is_place}
 use Rattle.pass_plain.proofs.Appends.{place_of}
@@ -41,6 +41,7 @@ named_fork (given _) is any = absurd (cc)
 named_fork (write_last fd) is any = absurd (cc)
 named_fork (fork_as q) is any = (q, refl)
 named_fork (wait_for q) is any = absurd (cc)
+named_fork (await_for q) is any = absurd (cc)
 
 module _ (session : Session) (trace : List Line) (members : List Member) (history : List Entry) (ran : HasRun session trace members history) where
   behind : AreLinesBehind [] trace

@@ -21,7 +21,7 @@ use Rattle.pass_plain.specs.Places.{begun_by, begun_in, is_exit, need_of, exit_p
 use Rattle.pass_plain.specs.Calls.{Made, name_of, is_last, is_last_act}
 use Rattle.pass_plain.specs.Lawful.{most_steps}
 use Rattle.pass_plain.specs.Legal.{MayFollow, before_call, is_over, is_start}
-use Rattle.pass_plain.specs.Traces.{Line, LineCall, given, write_last, fork_as, wait_for, name_of_call, lines_of, calls_of}
+use Rattle.pass_plain.specs.Traces.{Line, LineCall, given, write_last, fork_as, wait_for, await_for, name_of_call, lines_of, calls_of}
 use Rattle.pass_plain.specs.Runs.{pnode_of_process, next_number, request_at}
 use Rattle.pass_plain.proofs.Lists.{some_is, same_numbers, is_place, true_left, alike, different}
 use Rattle.pass_plain.proofs.Counts.{step_count_law}
@@ -69,6 +69,7 @@ line_no_exit (given r) line = given_not_exit r line.0
 line_no_exit (write_last fd) line = refl
 line_no_exit (fork_as child) line = refl
 line_no_exit (wait_for child) line = refl
+line_no_exit (await_for child) line = refl
 
 most_need : (c : CallName) → is_exit c ≡ false → most_steps c ≤ need_of c
 most_need call_name.Exit h = absurd (cc)

@@ -1,6 +1,6 @@
 -- A run, seen at one of its entries: it is the next step of the next call of its process.
 use Rattle.std.proofs.Common.{◌≡◌, ◌<◌, ◌≤◌, ◌+◌, ◌-◌, ℕ, zero, suc, List, [], ◌∷◌, ◌++◌, length, take, refl, ap, sym, ◌∙◌, subst, arith, ◌⊎◌, inl, inr, Bool, true, false, ◌||◌, ◌&&◌, ◌==◌, cond, append_assoc, length-append}
-use Rattle.std.specs.Prelude.{Some, slice_get, drop, option_map}
+use Rattle.std.specs.Prelude.{Some, None, slice_get, drop, option_map}
 use Rattle.std.specs.Option.{option_map_or}
 use Rattle.std.proofs.lemmas.List.{append-nil, length-take}
 use Rattle.std.proofs.lemmas.Option.{slice_get-map, slice_get_within}
@@ -13,7 +13,7 @@ use Rattle.pass_plain.specs.Sessions.{Session}
 use Rattle.pass_plain.specs.Processes.{Process, process_after, begins, has_begun}
 use Rattle.pass_plain.specs.Calls.{Made, Step, call_steps}
 use Rattle.pass_plain.specs.Legal.{IsLegal, MayFollow, before_call, is_over, last_number, may_be_left, step_of}
-use Rattle.pass_plain.specs.Traces.{Line, LineCall, given, write_last, fork_as, wait_for, lines_of, calls_of}
+use Rattle.pass_plain.specs.Traces.{Line, LineCall, given, write_last, fork_as, wait_for, await_for, waited_for, lines_of, calls_of}
 use Rattle.pass_plain.specs.Runs.{IsRun, pnode_of_process, next_number, request_at, steps_at}
 use Rattle.pass_plain.proofs.Lists.{alike, and_none, any_of, different, in_take, is_place, same_numbers}
 use Rattle.pass_plain.proofs.Appends.{legal-last, slice_get-append}
@@ -214,12 +214,12 @@ module _ (session : Session) (trace : List Line) (behind : AreLinesBehind [] tra
         ∙ own_state past e who (done + 1) own
 
     -- a child that the call waits for has begun before
-    child_is : (q : ℕ) → call ≡ wait_for q → option_map_or (λ pnode. pnode) (pnode_of_process session trace history q) 0 ≡ option_map_or (λ pnode. pnode) (pnode_of_process session trace past q) 0
+    child_is : (q : ℕ) → waited_for call ≡ Some q → option_map_or (λ pnode. pnode) (pnode_of_process session trace history q) 0 ≡ option_map_or (λ pnode. pnode) (pnode_of_process session trace past q) 0
     child_is q waits = elim (call_cases trace process done call line) [
-      | inr exit ↦ absurd (let z : wait_for q ≡ given requests.Exit = sym waits ∙ exit.0 in cc)
+      | inr exit ↦ absurd (let z : Some q ≡ None = sym waits ∙ ap waited_for exit.0 in cc)
       | inl l ↦
           let (s, rules) = line_behind trace process done l.0 behind l.1 in
-          let (k, m, there, forks) = rules.waits q (l.2 ∙ waits) in
+          let (k, m, there, forks) = rules.waits q (ap waited_for l.2 ∙ waits) in
           let m_at : slice_get (lines_of s.before process) k ≡ Some m = ap (λ p. slice_get (lines_of s.before p) k) (sym s.own) ∙ there in
           let short = slice_get_within (lines_of s.before process) k m m_at in
           let count = s.count in
@@ -236,7 +236,8 @@ module _ (session : Session) (trace : List Line) (behind : AreLinesBehind [] tra
     request_if (given r) is = refl
     request_if (write_last fd) is = ap (λ (p : Process). requests.Write fd p.last_read) state_is
     request_if (fork_as child) is = refl
-    request_if (wait_for q) is = ap (λ m. requests.WaitChild m) (child_is q is)
+    request_if (wait_for q) is = ap (λ m. requests.WaitChild m) (child_is q (ap waited_for is))
+    request_if (await_for q) is = ap (λ m. requests.Await m) (child_is q (ap waited_for is))
 
     abbrev pub request : Request
     request = request_at session trace past who (done + 1) call

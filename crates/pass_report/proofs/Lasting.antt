@@ -36,6 +36,7 @@ same_last p q _ (act.Known pnode) same = refl
 same_last p q _ (act.Show fd len) same = refl
 same_last p q _ (act.Spawn child) same = refl
 same_last p q _ act.Reap same = refl
+same_last p q _ act.Ended same = refl
 same_last p q _ (act.Give at len) same = refl
 same_last p q _ act.Load same = refl
 same_last p q _ (act.Take len) same = refl

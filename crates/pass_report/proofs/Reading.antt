@@ -22,7 +22,7 @@ use Rattle.pass_plain.specs.Histories.{call_entries, pnode_of}
 use Rattle.pass_plain.specs.Sessions.{Session}
 use Rattle.pass_plain.specs.Calls.{Made, Step, pnode_at}
 use Rattle.pass_plain.specs.Legal.{before_call, is_over, ends_call, step_of}
-use Rattle.pass_plain.specs.Traces.{Line, LineCall, given, write_last, fork_as, wait_for, lines_of, calls_of}
+use Rattle.pass_plain.specs.Traces.{Line, LineCall, given, write_last, fork_as, wait_for, await_for, lines_of, calls_of}
 use Rattle.pass_plain.specs.Runs.{Begun, pnode_in, first_begun, begun_by_call, begun_at, begun_after, pnode_of_process, steps_at, IsRun}
 use Rattle.pass_plain.proofs.Lists.{some_is, same_numbers, same_itself}
 use Rattle.pass_plain.proofs.Appends.{slice_get-append}
@@ -158,6 +158,7 @@ module _ (session : Session) (trace : List Line) (history : List Entry) (c : Cal
   same_begun (Some parent) is (given request) forks = refl
   same_begun (Some parent) is (write_last fd) forks = refl
   same_begun (Some parent) is (wait_for child) forks = refl
+  same_begun (Some parent) is (await_for child) forks = refl
   same_begun None is (fork_as child) forks = refl
   same_begun None is _ forks = refl
 

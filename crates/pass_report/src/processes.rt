@@ -1,6 +1,5 @@
 //! The state of each process, by which it is known where its calls end.
 ghost use Rattle.std.specs.Prelude.{ℕ, List, [], ◌∷◌, ◌++◌, ◌≡◌, ◌==◌, ◌≤◌, true, false, OnOk, is_some, length};
-ghost use Rattle.std.specs.Bool.{OnFalse};
 ghost use Rattle.std.specs.Ordering.{nat_cmp};
 ghost use Rattle.std.specs.BTreeMap.{get};
 ghost use Rattle.pass_entry.specs.Limits.{transfer_limit};
@@ -15,6 +14,7 @@ ghost use Rattle.pass_report.specs.Callers.{state_in, AreProcesses};
 
 use pass_entry::{Act, Entry, Pnode, Reply};
 use pass_plain::ProcessState;
+use pass_plain::process::changes_process;
 use pass_plain::steps::is_last;
 use std::alloc::{AllocError, Global};
 use std::collections::BTreeMap;
@@ -59,26 +59,6 @@ fn is_fault(reply: &Reply) -> bool
     matches!(reply, Reply::Fault(_))
 }
 
-// The act is one on a process that changes its state.
-fn changes(act: &Act) -> bool
-    ensures { OnFalse result ((past : List AnyEntry) (p : Process) → process_act past p act.now ≡ p) }
-{
-    matches!(
-        act,
-        Act::Attach { .. }
-            | Act::AttachPipe { .. }
-            | Act::Detach { .. }
-            | Act::Seek { .. }
-            | Act::Show { .. }
-            | Act::Spawn { .. }
-            | Act::Born { .. }
-            | Act::Gain { .. }
-            | Act::Exec { .. }
-            | Act::Gather { .. }
-            | Act::Finish
-    )
-}
-
 impl Processes {
     /// Before the first entry.
     pub fn new(alloc: Global) -> Processes
@@ -113,7 +93,7 @@ impl Processes {
         if is_fault(&entry.reply) {
             return Ok(());
         }
-        if !changes(&entry.act) {
+        if !changes_process(&entry.act) {
             return Ok(());
         }
         self.meet(entry.what)?;

@@ -10,8 +10,8 @@ use Rattle.pass_entry.specs.declared.objects.Mode.{Mode}
 use Rattle.pass_entry.specs.declared.objects.Mode.TheVariants as mode
 use Rattle.pass_plain.specs.Processes.{same_mode}
 use Rattle.pass_plain.specs.Calls.{is_fd}
-use Rattle.pass_plain.specs.Traces.{Line, fork_as, wait_for}
-use Rattle.pass_plain.proofs.Lists.{true_left, true_right, both_true, not_true, any_at, in_filtered, same_numbers}
+use Rattle.pass_plain.specs.Traces.{Line, fork_as, waited_for}
+use Rattle.pass_plain.proofs.Lists.{true_left, true_right, both_true, not_true, any_at, in_filtered, same_numbers, some_is}
 use Rattle.pass_trace.specs.TraceLines.{call_of, plain_line, plain_trace}
 use Rattle.pass_trace.specs.declared.trace.Command.{Command}
 use Rattle.pass_trace.specs.declared.trace.Command.TheVariants as command
@@ -55,6 +55,7 @@ line_call (command.Pipe reader writer) good = (refl, both_true (is_fd reader) (i
 line_call (command.Fork child) good = good.1
 line_call (command.Exec name args) good = (refl, both_true (is_name name) (is_line args) good.0 good.1.line)
 line_call (command.Wait child) good = tt
+line_call (command.Await child) good = tt
 line_call (command.Rename from to) good = (refl, both_true (is_name from) (is_name to) good.0 good.1)
 line_call (command.Unlink name) good = (refl, good)
 line_call (command.MkObj fd) good = (refl, below_64 fd good)
@@ -88,11 +89,13 @@ fork_call q (command.Write fd (payload.Given bytes)) is = absurd (cc)
 fork_call q (command.Write fd payload.Last) is = absurd (cc)
 fork_call q _ is = absurd (cc)
 
-wait_call : (q : ℕ) (c : Command) → call_of c ≡ wait_for q → c ≡ command.Wait q
-wait_call q (command.Wait child) is = let z : child ≡ q = cc in ap (λ q. command.Wait q) z
-wait_call q (command.Write fd (payload.Given bytes)) is = absurd (cc)
-wait_call q (command.Write fd payload.Last) is = absurd (cc)
-wait_call q _ is = absurd (cc)
+-- a process that a call waits for is one that the rules look for
+waits_may : (lines : List TraceLine) (process q : ℕ) (c : Command) → waited_for (call_of c) ≡ Some q → rules.may_call lines process c ≡ true → list_any (rules.forks_as process q) lines ≡ true
+waits_may lines process q (command.Wait child) is may = subst (λ q. list_any (rules.forks_as process q) lines ≡ true) (some_is child q is) may
+waits_may lines process q (command.Await child) is may = subst (λ q. list_any (rules.forks_as process q) lines ≡ true) (some_is child q is) may
+waits_may lines process q (command.Write fd (payload.Given bytes)) is may = absurd (cc)
+waits_may lines process q (command.Write fd payload.Last) is may = absurd (cc)
+waits_may lines process q _ is may = absurd (cc)
 
 fork_named : (q : ℕ) (c : Command) → rules.is_fork_of q c ≡ true → call_of c ≡ fork_as q
 fork_named q (command.Fork child) is = ap (λ q. fork_as q) (same_numbers child q is)
@@ -120,7 +123,7 @@ ruled_line earlier l good none =
       within = line_call l.command good;
       there = same_there earlier l.process ∙ true_left (rules.is_there earlier l.process) (rules.may_call earlier l.process l.command) fine;
       forks = λ child is. same_there earlier child ∙ not_true (rules.is_there earlier child) (sym (ap (λ c. rules.may_call earlier l.process c) (fork_call child l.command is)) ∙ may);
-      waits = λ child is. forks_before earlier l.process child (sym (ap (λ c. rules.may_call earlier l.process c) (wait_call child l.command is)) ∙ may);
+      waits = λ child is. forks_before earlier l.process child (waits_may earlier l.process child l.command is may);
     }
 
 -- the texts of the lines, one by one

@@ -5,7 +5,7 @@ use Rattle.std.proofs.Math.Seq.{take-append_seam, get_or-append_seam}
 use Rattle.std.proofs.lemmas.Bool.{and_parts, cases_eq, ne_eqb, leb-true, ltb-false}
 use Rattle.pass_entry.specs.Texts.{is_line_byte}
 use Rattle.pass_trace.specs.declared.trace.Command.{Command}
-use Rattle.pass_trace.specs.declared.trace.Command.TheVariants.{Fork, Wait}
+use Rattle.pass_trace.specs.declared.trace.Command.TheVariants.{Fork, Wait, Await}
 use Rattle.pass_trace.specs.declared.trace.TraceLine.{TraceLine}
 use Rattle.pass_trace.specs.declared.trace.TraceReason.{TraceReason}
 use Rattle.pass_trace.specs.declared.trace.TraceReason.TheVariants as reason
@@ -135,6 +135,7 @@ is_there-Same xs ys p s = ap (λ r. eqb p 1 || r) (list_any-Same (λ q c. is_for
 may_call-Same : (xs ys : List TraceLine) (p : ℕ) (c : Command) → Same xs ys → may_call xs p c ≡ may_call ys p c
 may_call-Same xs ys p (Fork child) s = ap not (is_there-Same xs ys child s)
 may_call-Same xs ys p (Wait child) s = list_any-Same (λ q c. eqb q p && is_fork_of child c) xs ys s
+may_call-Same xs ys p (Await child) s = list_any-Same (λ q c. eqb q p && is_fork_of child c) xs ys s
 may_call-Same xs ys p _ s = refl
 
 rule_of-Same : (xs ys : List TraceLine) (line : TraceLine) (number : ℕ) → Same xs ys → rule_of xs line ≡ rule_of ys (renumbered number line)

@@ -25,13 +25,14 @@ use Rattle.pass_trace.specs.Lines.{words_of}
 pub use Rattle.pass_trace.specs.Ranges.{IsPayload, IsMode, IsArgs, IsGood, IsGoodLine}
 use Rattle.pass_trace.specs.Rules.{child_of}
 use Rattle.pass_trace.specs.Words.{is_text, is_word, is_number, is_payload, have_forms, have_these, value_of}
-use Rattle.pass_trace.specs.Commands.{◌>>=◌, word_at, number_in, process_of, fd_of, name_of, mode_of, given, decoded, repeated_of, hex_of, payload_of, args_of, command_of, creat_of, open_of, close_of, read_of, write_of, seek_of, truncate_of, pipe_of, fork_of, exec_of, wait_of, rename_of, unlink_of, mkobj_of, revive_of, freeze_of, disclose_of, tag_of, sync_of}
+use Rattle.pass_trace.specs.Commands.{◌>>=◌, word_at, number_in, process_of, fd_of, name_of, mode_of, given, decoded, repeated_of, hex_of, payload_of, args_of, command_of, creat_of, open_of, close_of, read_of, write_of, seek_of, truncate_of, pipe_of, fork_of, exec_of, wait_of, await_of, rename_of, unlink_of, mkobj_of, revive_of, freeze_of, disclose_of, tag_of, sync_of}
 use Rattle.pass_trace.specs.Traces.{has_row, row_of, call_line_of, line_of, text_line_of}
 
 -- the process that a command names is one of a trace
 pub child_of-le : (c : Command) → IsGood c → child_of c ≤ 8192
 child_of-le (command.Fork child) h = h.1
 child_of-le (command.Wait child) h = h.1
+child_of-le (command.Await child) h = h.1
 child_of-le _ h = omega arith
 
 pub number_in_range : (low high : ℕ) (word : List ℕ) (n : ℕ) → number_in low high word ≡ Ok n → (low ≤ n) × (n ≤ high)
@@ -157,7 +158,7 @@ args_is words args form h =
     record { line = subst IsLine parts.1 parts.0; words = (words, form, sym parts.1) }
 
 pub command_is : (call : CallName) (words : List (List ℕ)) (c : Command) → have_these (forms_of call) words ≡ true → command_of call words ≡ Ok c → IsGood c
-unfolding creat_of open_of close_of read_of write_of seek_of truncate_of pipe_of fork_of exec_of wait_of rename_of unlink_of mkobj_of revive_of freeze_of disclose_of tag_of sync_of
+unfolding creat_of open_of close_of read_of write_of seek_of truncate_of pipe_of fork_of exec_of wait_of await_of rename_of unlink_of mkobj_of revive_of freeze_of disclose_of tag_of sync_of
 command_is call.Start words c form h = absurd (cc)
 command_is call.Creat words c form h = two_ok (fd_of (word_at words 0)) (name_of (word_at words 1)) command.Creat IsGood c h (λ a b ea eb. (fd_range (word_at words 0) a ea, name_is (word_at words 1) b eb))
 command_is call.OpenName words c form h = two_ok (fd_of (word_at words 0)) (name_of (word_at words 1)) (λ a b. command.Open a b (mode_of (word_at words 2))) IsGood c h (λ a b ea eb. (fd_range (word_at words 0) a ea, name_is (word_at words 1) b eb, mode_is (word_at words 2)))
@@ -170,6 +171,7 @@ command_is call.MakePipe words c form h = two_ok (fd_of (word_at words 0)) (fd_o
 command_is call.Fork words c form h = one_ok (process_of (word_at words 0)) command.Fork IsGood c h (λ a ea. ((number_in_range 1 8192 (word_at words 0) a ea).0, (number_in_range 1 8192 (word_at words 0) a ea).1))
 command_is call.Exec words c form h = two_ok (name_of (word_at words 0)) (args_of (drop 1 words)) command.Exec IsGood c h (λ a b ea eb. (name_is (word_at words 0) a ea, args_is (drop 1 words) b (args_form words form) eb))
 command_is call.WaitChild words c form h = one_ok (process_of (word_at words 0)) command.Wait IsGood c h (λ a ea. ((number_in_range 1 8192 (word_at words 0) a ea).0, (number_in_range 1 8192 (word_at words 0) a ea).1))
+command_is call.Await words c form h = one_ok (process_of (word_at words 0)) command.Await IsGood c h (λ a ea. ((number_in_range 1 8192 (word_at words 0) a ea).0, (number_in_range 1 8192 (word_at words 0) a ea).1))
 command_is call.Exit words c form h = absurd (cc)
 command_is call.Rename words c form h = two_ok (name_of (word_at words 0)) (name_of (word_at words 1)) command.Rename IsGood c h (λ a b ea eb. (name_is (word_at words 0) a ea, name_is (word_at words 1) b eb))
 command_is call.Unlink words c form h = one_ok (name_of (word_at words 0)) command.Unlink IsGood c h (λ a ea. name_is (word_at words 0) a ea)

@@ -24,7 +24,7 @@ use Rattle.pass_entry.specs.declared.entry.CallName.TheVariants as call
 use Rattle.pass_trace.specs.Calls.{forms_of}
 use Rattle.pass_trace.specs.Lines.{is_skipped, words_of}
 use Rattle.pass_trace.specs.Words.{is_word, is_mode, is_hex, is_payload, have_these}
-use Rattle.pass_trace.specs.Commands.{◌>>=◌, number_in, process_of, fd_of, name_of, mode_of, given, decoded, hex_of, payload_of, args_of, command_of, creat_of, open_of, close_of, read_of, write_of, seek_of, truncate_of, pipe_of, fork_of, exec_of, wait_of, rename_of, unlink_of, mkobj_of, revive_of, freeze_of, disclose_of, tag_of, sync_of}
+use Rattle.pass_trace.specs.Commands.{◌>>=◌, number_in, process_of, fd_of, name_of, mode_of, given, decoded, hex_of, payload_of, args_of, command_of, creat_of, open_of, close_of, read_of, write_of, seek_of, truncate_of, pipe_of, fork_of, exec_of, wait_of, await_of, rename_of, unlink_of, mkobj_of, revive_of, freeze_of, disclose_of, tag_of, sync_of}
 use Rattle.pass_trace.specs.Traces.{row_of, call_line_of, line_of, text_line_of}
 use Rattle.pass_trace.specs.Texts.{spaced, payload_word, mode_word, command_words, line_text}
 use Rattle.pass_trace.specs.Ranges.{IsGood, IsGoodLine, IsPayload, IsMode, IsArgs}
@@ -42,6 +42,7 @@ call_named (command.Pipe a b) = call.MakePipe
 call_named (command.Fork a) = call.Fork
 call_named (command.Exec a b) = call.Exec
 call_named (command.Wait a) = call.WaitChild
+call_named (command.Await a) = call.Await
 call_named (command.Rename a b) = call.Rename
 call_named (command.Unlink a) = call.Unlink
 call_named (command.MkObj a) = call.MakeObj
@@ -65,6 +66,7 @@ words_named (command.Fork a) = decimal a ∷ []
 words_named (command.Exec a []) = a ∷ []
 words_named (command.Exec a (b ∷ bs)) = a ∷ words_of (b ∷ bs)
 words_named (command.Wait a) = decimal a ∷ []
+words_named (command.Await a) = decimal a ∷ []
 words_named (command.Rename a b) = a ∷ b ∷ []
 words_named (command.Unlink a) = a ∷ []
 words_named (command.MkObj a) = decimal a ∷ []
@@ -87,6 +89,7 @@ graphic-call_word call.MakePipe = refl
 graphic-call_word call.Fork = refl
 graphic-call_word call.Exec = refl
 graphic-call_word call.WaitChild = refl
+graphic-call_word call.Await = refl
 graphic-call_word call.Exit = refl
 graphic-call_word call.Rename = refl
 graphic-call_word call.Unlink = refl
@@ -271,6 +274,7 @@ words_of-line process (command.Exec a (b ∷ bs)) p h =
     ∙ ap (λ ws. codes "exec" ∷ ws) (words_of-behind a ((b ∷ bs) ++ []) (graphic_name a h.0) ∙ ap (λ t. a ∷ words_of t) (append-nil (b ∷ bs)))
     )
 words_of-line process (command.Wait a) p h = words_of-spaced process (command_words (command.Wait a)) p (and_from _ _ (are_graphic-decimal a (omega (arith, h.1))) refl)
+words_of-line process (command.Await a) p h = words_of-spaced process (command_words (command.Await a)) p (and_from _ _ (are_graphic-decimal a (omega (arith, h.1))) refl)
 words_of-line process (command.Rename a b) p h = words_of-spaced process (command_words (command.Rename a b)) p (and_from _ _ (graphic_name a h.0) (and_from _ _ (graphic_name b h.1) refl))
 words_of-line process (command.Unlink a) p h = words_of-spaced process (command_words (command.Unlink a)) p (and_from _ _ (graphic_name a h) refl)
 words_of-line process (command.MkObj a) p h = words_of-spaced process (command_words (command.MkObj a)) p (and_from _ _ (are_graphic-decimal a (omega (arith, h))) refl)
@@ -293,6 +297,7 @@ have_forms-named (command.Fork a) h = (and_from _ _ (is_number-decimal a (omega 
 have_forms-named (command.Exec a []) h = and_from _ _ (is_word-name a h.0) refl
 have_forms-named (command.Exec a (b ∷ bs)) h = and_from _ _ (is_word-name a h.0) (words_of-args b bs h.1)
 have_forms-named (command.Wait a) h = (and_from _ _ (is_number-decimal a (omega (arith, h.1))) refl)
+have_forms-named (command.Await a) h = (and_from _ _ (is_number-decimal a (omega (arith, h.1))) refl)
 have_forms-named (command.Rename a b) h = (and_from _ _ (is_word-name a h.0) (and_from _ _ (is_word-name b h.1) refl))
 have_forms-named (command.Unlink a) h = (and_from _ _ (is_word-name a h) refl)
 have_forms-named (command.MkObj a) h = (and_from _ _ (is_number-decimal a (omega (arith, h))) refl)
@@ -303,7 +308,7 @@ have_forms-named (command.Tag a b d) h = (and_from _ _ (is_number-decimal a (ome
 have_forms-named (command.Sync a) h = (and_from _ _ (is_number-decimal a (omega (arith, h))) refl)
 
 pub command_of-named : (c : Command) → IsGood c → command_of (call_named c) (words_named c) ≡ Ok c
-unfolding creat_of open_of close_of read_of write_of seek_of truncate_of pipe_of fork_of exec_of wait_of rename_of unlink_of mkobj_of revive_of freeze_of disclose_of tag_of sync_of
+unfolding creat_of open_of close_of read_of write_of seek_of truncate_of pipe_of fork_of exec_of wait_of await_of rename_of unlink_of mkobj_of revive_of freeze_of disclose_of tag_of sync_of
 command_of-named (command.Creat a b) h = two_reads (fd_of (decimal a)) (name_of b) command.Creat a b (fd_of-decimal a h.0) (name_of-name b h.1)
 command_of-named (command.Open a b d) h =
     two_reads (fd_of (decimal a)) (name_of b) (λ x y. command.Open x y (mode_of (mode_word d))) a b (fd_of-decimal a h.0) (name_of-name b h.1) ∙ ap (λ m. Ok (command.Open a b m)) (mode_of-word d h.2)
@@ -317,6 +322,7 @@ command_of-named (command.Fork a) h = one_reads (process_of (decimal a)) command
 command_of-named (command.Exec a []) h = two_reads (name_of a) (args_of []) command.Exec a [] (name_of-name a h.0) args_of-none
 command_of-named (command.Exec a (b ∷ bs)) h = two_reads (name_of a) (args_of (words_of (b ∷ bs))) command.Exec a (b ∷ bs) (name_of-name a h.0) (args_of-words (b ∷ bs) h.1.line)
 command_of-named (command.Wait a) h = one_reads (process_of (decimal a)) command.Wait a (number_in-decimal 1 8192 a (omega (arith, h.1)) h.0 h.1)
+command_of-named (command.Await a) h = one_reads (process_of (decimal a)) command.Await a (number_in-decimal 1 8192 a (omega (arith, h.1)) h.0 h.1)
 command_of-named (command.Rename a b) h = two_reads (name_of a) (name_of b) command.Rename a b (name_of-name a h.0) (name_of-name b h.1)
 command_of-named (command.Unlink a) h = one_reads (name_of a) command.Unlink a (name_of-name a h)
 command_of-named (command.MkObj a) h = one_reads (fd_of (decimal a)) command.MkObj a (fd_of-decimal a h)
@@ -342,6 +348,7 @@ length-command (command.Exec a []) h = omega (arith, length-spaced (codes "exec"
 length-command (command.Exec a (b ∷ bs)) h =
     omega (arith, length-spaced (codes "exec" ∷ a ∷ (b ∷ bs) ∷ []) (and_from _ _ (short_name a h.0) (and_from _ _ (short_args (b ∷ bs) h.1.line) refl)))
 length-command (command.Wait a) h = omega (arith, length-spaced (command_words (command.Wait a)) (and_from _ _ (short_decimal a (omega (arith, h.1))) refl))
+length-command (command.Await a) h = omega (arith, length-spaced (command_words (command.Await a)) (and_from _ _ (short_decimal a (omega (arith, h.1))) refl))
 length-command (command.Rename a b) h = omega (arith, length-spaced (command_words (command.Rename a b)) (and_from _ _ (short_name a h.0) (and_from _ _ (short_name b h.1) refl)))
 length-command (command.Unlink a) h = omega (arith, length-spaced (command_words (command.Unlink a)) (and_from _ _ (short_name a h) refl))
 length-command (command.MkObj a) h = omega (arith, length-spaced (command_words (command.MkObj a)) (and_from _ _ (short_decimal a (omega (arith, h))) refl))
@@ -412,6 +419,7 @@ graphic_named (command.Fork a) h = (and_from _ _ (are_graphic-decimal a (omega (
 graphic_named (command.Exec a []) h = and_from _ _ (graphic_name a h.0) refl
 graphic_named (command.Exec a (b ∷ bs)) h = and_from _ _ (graphic_name a h.0) (graphic_words (words_of (b ∷ bs)) (words_of-args b bs h.1))
 graphic_named (command.Wait a) h = (and_from _ _ (are_graphic-decimal a (omega (arith, h.1))) refl)
+graphic_named (command.Await a) h = (and_from _ _ (are_graphic-decimal a (omega (arith, h.1))) refl)
 graphic_named (command.Rename a b) h = (and_from _ _ (graphic_name a h.0) (and_from _ _ (graphic_name b h.1) refl))
 graphic_named (command.Unlink a) h = (and_from _ _ (graphic_name a h) refl)
 graphic_named (command.MkObj a) h = (and_from _ _ (are_graphic-decimal a (omega (arith, h))) refl)

@@ -20,6 +20,7 @@ forms_of call.MakePipe = Some (Number ∷ Number ∷ [])
 forms_of call.Fork = Some (Number ∷ [])
 forms_of call.Exec = Some (Name ∷ Rest ∷ [])
 forms_of call.WaitChild = Some (Number ∷ [])
+forms_of call.Await = Some (Number ∷ [])
 forms_of call.Exit = None
 forms_of call.Rename = Some (Name ∷ Name ∷ [])
 forms_of call.Unlink = Some (Name ∷ [])

@@ -157,6 +157,12 @@ wait_of words = do
   child ← process_of (word_at words 0)
   Ok (command.Wait child)
 
+-- await Q, a process of the trace
+unfoldable pub await_of : List (List ℕ) → Result Command TraceReason
+await_of words = do
+  child ← process_of (word_at words 0)
+  Ok (command.Await child)
+
 -- rename NAME NAME
 unfoldable pub rename_of : List (List ℕ) → Result Command TraceReason
 rename_of words = do
@@ -225,6 +231,7 @@ command_of call.MakePipe words = pipe_of words
 command_of call.Fork words = fork_of words
 command_of call.Exec words = exec_of words
 command_of call.WaitChild words = wait_of words
+command_of call.Await words = await_of words
 command_of call.Exit words = Err reason.Form
 command_of call.Rename words = rename_of words
 command_of call.Unlink words = unlink_of words

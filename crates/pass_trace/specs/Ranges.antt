@@ -42,6 +42,7 @@ IsGood (command.Pipe reader writer) = (reader ≤ 63) × (writer ≤ 63)
 IsGood (command.Fork child) = (1 ≤ child) × (child ≤ last_process)
 IsGood (command.Exec name args) = IsName name × IsArgs args
 IsGood (command.Wait child) = (1 ≤ child) × (child ≤ last_process)
+IsGood (command.Await child) = (1 ≤ child) × (child ≤ last_process)
 IsGood (command.Rename from to) = IsName from × IsName to
 IsGood (command.Unlink name) = IsName name
 IsGood (command.MkObj fd) = fd ≤ 63

@@ -4,7 +4,7 @@ use Rattle.std.specs.List.{list_any}
 use Rattle.pass_trace.specs.Limits.{most_created}
 use Rattle.pass_trace.specs.Ranges.{IsGoodLine}
 use Rattle.pass_trace.specs.declared.trace.Command.{Command}
-use Rattle.pass_trace.specs.declared.trace.Command.TheVariants.{Creat, Pipe, Fork, Wait, MkObj}
+use Rattle.pass_trace.specs.declared.trace.Command.TheVariants.{Creat, Pipe, Fork, Wait, Await, MkObj}
 use Rattle.pass_trace.specs.declared.trace.TraceLine.{TraceLine}
 use Rattle.pass_trace.specs.declared.trace.TraceReason.{TraceReason}
 use Rattle.pass_trace.specs.declared.trace.TraceReason.TheVariants as reason
@@ -26,10 +26,11 @@ forks_as parent child line = (line.process == parent) && forks child line
 abbrev pub is_there : List TraceLine → ℕ → Bool
 is_there earlier process = (process == 1) || list_any (forks process) earlier
 
--- a fork names a process that isn't there, a wait one that an earlier line of the same process forks
+-- a fork names a process that isn't there, a wait or an await one that an earlier line of the same process forks
 abbrev pub may_call : List TraceLine → ℕ → Command → Bool
 may_call earlier process (Fork child) = not (is_there earlier child)
 may_call earlier process (Wait child) = list_any (forks_as process child) earlier
+may_call earlier process (Await child) = list_any (forks_as process child) earlier
 may_call earlier process _ = true
 
 -- the calls that make an object
@@ -56,6 +57,7 @@ rule_of earlier line =
 abbrev pub child_of : Command → ℕ
 child_of (Fork child) = child
 child_of (Wait child) = child
+child_of (Await child) = child
 child_of _ = 0
 
 -- the lines may stand behind the earlier ones, each with its fields in their ranges and no reason against its place

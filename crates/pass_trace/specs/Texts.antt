@@ -7,7 +7,7 @@ use Rattle.pass_entry.specs.declared.entry.CallName.TheVariants as call
 use Rattle.pass_entry.specs.declared.objects.Mode as entry
 use Rattle.pass_entry.specs.declared.objects.Mode.TheVariants as mode
 use Rattle.pass_trace.specs.declared.trace.Command.{Command}
-use Rattle.pass_trace.specs.declared.trace.Command.TheVariants.{Creat, Open, Close, Read, Write, Seek, Truncate, Pipe, Fork, Exec, Wait, Rename, Unlink, MkObj, Revive, Freeze, Disclose, Tag, Sync}
+use Rattle.pass_trace.specs.declared.trace.Command.TheVariants.{Creat, Open, Close, Read, Write, Seek, Truncate, Pipe, Fork, Exec, Wait, Await, Rename, Unlink, MkObj, Revive, Freeze, Disclose, Tag, Sync}
 use Rattle.pass_trace.specs.declared.trace.Payload.{Payload}
 use Rattle.pass_trace.specs.declared.trace.Payload.TheVariants.{Given, Last}
 use Rattle.pass_trace.specs.declared.trace.TraceLine.{TraceLine}
@@ -46,6 +46,7 @@ command_words (Pipe reader writer) = call_word call.MakePipe ∷ decimal reader 
 command_words (Fork child) = call_word call.Fork ∷ decimal child ∷ []
 command_words (Exec name args) = call_word call.Exec ∷ name ∷ args_words args
 command_words (Wait child) = call_word call.WaitChild ∷ decimal child ∷ []
+command_words (Await child) = call_word call.Await ∷ decimal child ∷ []
 command_words (Rename from to) = call_word call.Rename ∷ from ∷ to ∷ []
 command_words (Unlink name) = call_word call.Unlink ∷ name ∷ []
 command_words (MkObj fd) = call_word call.MakeObj ∷ decimal fd ∷ []

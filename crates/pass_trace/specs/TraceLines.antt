@@ -4,7 +4,7 @@ use Rattle.pass_plain.specs.declared.request.Request.TheVariants as requests
 use Rattle.pass_plain.specs.declared.start.Start.{Start}
 use Rattle.pass_plain.specs.Legal.{session_of}
 use Rattle.pass_plain.specs.Sessions.{Session}
-use Rattle.pass_plain.specs.Traces.{Line, LineCall, given, write_last, fork_as, wait_for}
+use Rattle.pass_plain.specs.Traces.{Line, LineCall, given, write_last, fork_as, wait_for, await_for}
 use Rattle.pass_trace.specs.declared.trace.Command.{Command}
 use Rattle.pass_trace.specs.declared.trace.Command.TheVariants as command
 use Rattle.pass_trace.specs.declared.trace.Payload.{Payload}
@@ -29,6 +29,7 @@ call_of (command.Pipe reader writer) = given (requests.MakePipe reader writer)
 call_of (command.Fork child) = fork_as child
 call_of (command.Exec name args) = given (requests.Exec name args)
 call_of (command.Wait child) = wait_for child
+call_of (command.Await child) = await_for child
 call_of (command.Rename from to) = given (requests.Rename from to)
 call_of (command.Unlink name) = given (requests.Unlink name)
 call_of (command.MkObj fd) = given (requests.MakeObj fd)

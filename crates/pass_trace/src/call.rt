@@ -33,6 +33,7 @@ pub(crate) fn forms_of(call: CallName) -> Option<&'static [Form]>
         CallName::CloseFd
         | CallName::Fork
         | CallName::WaitChild
+        | CallName::Await
         | CallName::MakeObj
         | CallName::FreezeObj
         | CallName::Sync => &[Form::Number],

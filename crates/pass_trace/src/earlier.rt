@@ -63,6 +63,7 @@ impl Earlier {
         match command {
             Command::Fork { child } => !self.is_there(*child),
             Command::Wait { child } => self.parents[*child as usize] == process,
+            Command::Await { child } => self.parents[*child as usize] == process,
             _ => true,
         }
     }

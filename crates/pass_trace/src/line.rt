@@ -1,7 +1,7 @@
 //! The command of a line.
 ghost use Rattle.std.specs.Prelude.{◌≡◌, ◌∷◌, ◌++◌, map, drop, IfOk, OnOk};
 ghost use Rattle.std.specs.List.{flat_map, join_with_byte};
-ghost use Rattle.pass_trace.specs.Commands.{args_of, command_of, word_at, creat_of, open_of, close_of, read_of, write_of, seek_of, truncate_of, pipe_of, fork_of, exec_of, wait_of, rename_of, unlink_of, mkobj_of, revive_of, freeze_of, disclose_of, tag_of, sync_of};
+ghost use Rattle.pass_trace.specs.Commands.{args_of, command_of, word_at, creat_of, open_of, close_of, read_of, write_of, seek_of, truncate_of, pipe_of, fork_of, exec_of, wait_of, await_of, rename_of, unlink_of, mkobj_of, revive_of, freeze_of, disclose_of, tag_of, sync_of};
 ghost use Rattle.pass_trace.specs.Gives.{Gives};
 ghost use Rattle.pass_trace.specs.Traces.{line_of};
 
@@ -168,6 +168,14 @@ fn wait_of(words: &[&[u8]]) -> Result<Command, LineFault>
     Ok(Command::Wait { child })
 }
 
+#[tactic(auto, unfolding(crate::specs::Commands::await_of))]
+fn await_of(words: &[&[u8]]) -> Result<Command, LineFault>
+    ensures { Gives (λ c. c) result (await_of (map (λ w. w.now) words.now)) }
+{
+    let child = process_of(word_at(words, 0))?;
+    Ok(Command::Await { child })
+}
+
 #[tactic(auto, unfolding(crate::specs::Commands::rename_of))]
 fn rename_of(alloc: Global, words: &[&[u8]]) -> Result<Command, LineFault>
     ensures { Gives (λ c. c) result (rename_of (map (λ w. w.now) words.now)) }
@@ -254,6 +262,7 @@ fn command_of(alloc: Global, call: CallName, words: &[&[u8]]) -> Result<Command,
         CallName::Fork => fork_of(words),
         CallName::Exec => exec_of(alloc, words),
         CallName::WaitChild => wait_of(words),
+        CallName::Await => await_of(words),
         CallName::Rename => rename_of(alloc, words),
         CallName::Unlink => unlink_of(alloc, words),
         CallName::MakeObj => mkobj_of(words),

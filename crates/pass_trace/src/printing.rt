@@ -120,6 +120,7 @@ fn push_command(alloc: Global, out: &mut Vec<u8>, command: &Command) -> Result<(
             push_args(out, args.as_bytes())
         }
         Command::Wait { child } => push_numbers(out, CallName::WaitChild, &[u64::from(*child)]),
+        Command::Await { child } => push_numbers(out, CallName::Await, &[u64::from(*child)]),
         Command::Rename { from, to } => push_names(out, CallName::Rename, &[from, to]),
         Command::Unlink { name } => push_names(out, CallName::Unlink, &[name]),
         Command::MkObj { fd } => push_numbers(out, CallName::MakeObj, &[u64::from(*fd)]),

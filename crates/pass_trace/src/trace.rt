@@ -36,6 +36,8 @@ pub enum Command {
     Exec { name: Text, args: Text },
     /// The child is a process of the trace, by its number there.
     Wait { child: u32 },
+    /// A wait by which no data flows. The child is a process of the trace, by its number there.
+    Await { child: u32 },
     Rename { from: Text, to: Text },
     Unlink { name: Text },
     MkObj { fd: u8 },

@@ -11,7 +11,7 @@ use Rattle.pass_plain.specs.Places.{left_places, need_of}
 use Rattle.pass_plain.specs.Processes.{has_ended}
 use Rattle.pass_plain.specs.Runs.{next_number}
 use Rattle.pass_plain.specs.Sessions.{Session}
-use Rattle.pass_plain.specs.Traces.{Line, LineCall, given, write_last, fork_as, wait_for, request_of, lines_of, calls_of}
+use Rattle.pass_plain.specs.Traces.{Line, LineCall, given, write_last, fork_as, wait_for, await_for, waited_for, request_of, lines_of, calls_of}
 use Rattle.pass_plain.proofs.Lists.{some_is}
 use Rattle.pass_answer.specs.declared.answer.CallEnd.{CallEnd}
 use Rattle.pass_answer.specs.declared.answer.CallEnd.TheVariants as ends
@@ -38,17 +38,19 @@ use Rattle.pass_walk.proofs.LeftLemmas.{left_line}
 use Rattle.pass_walk.proofs.Placed.{line_there, next_line}
 use Rattle.pass_walk.proofs.Walks.{goes_counts, known_after, left_went, line_in, makes_now, may_go_on, no_fork, no_kid, right_now, stayed, waits, went_on}
 
-pub waited_same : (pnode : ℕ → ℕ) (waited : ℕ) (last : List ℕ) (call : LineCall) → ((q : ℕ) → call ≡ wait_for q → waited ≡ pnode q) → request_of (λ p. waited) last call ≡ request_of pnode last call
+pub waited_same : (pnode : ℕ → ℕ) (waited : ℕ) (last : List ℕ) (call : LineCall) → ((q : ℕ) → waited_for call ≡ Some q → waited ≡ pnode q) → request_of (λ p. waited) last call ≡ request_of pnode last call
 waited_same pnode waited last (given r) known = refl
 waited_same pnode waited last (write_last fd) known = refl
 waited_same pnode waited last (fork_as child) known = refl
 waited_same pnode waited last (wait_for q) known = ap (λ n. requests.WaitChild n) (known q refl)
+waited_same pnode waited last (await_for q) known = ap (λ n. requests.Await n) (known q refl)
 
 no_child : (left : ℕ → ℕ) (call : LineCall) → ((child : ℕ) → call ≢ fork_as child) → of_child left call ≡ 0
 no_child left (given r) other = refl
 no_child left (write_last fd) other = refl
 no_child left (fork_as child) other = absurd (other child refl)
 no_child left (wait_for q) other = refl
+no_child left (await_for q) other = refl
 
 module _ {J : Type 0} (session : Session) (trace : List Line) (behind : AreLinesBehind [] trace) (l : Living J) (is : IsLivingOf session trace l) (place : ℕ) (line : l.line ≡ Some place) (m : Line)
     (there : slice_get trace place ≡ Some m) where
@@ -83,7 +85,7 @@ module _ {J : Type 0} (session : Session) (trace : List Line) (behind : AreLines
   its_request = request_by (pnode_among l.children) l.proc.seen l.proc.who (is.done + 1) m.call
 
   -- the request that was made
-  pub request_is : LastReadLaw → IsBetween session l.proc → (waited : ℕ) → ((q : ℕ) → m.call ≡ wait_for q → waited ≡ pnode_among l.children q) → request_with waited l.proc m.call ≡ its_request
+  pub request_is : LastReadLaw → IsBetween session l.proc → (waited : ℕ) → ((q : ℕ) → waited_for m.call ≡ Some q → waited ≡ pnode_among l.children q) → request_with waited l.proc m.call ≡ its_request
   request_is last_law between waited known =
       waited_same (pnode_among l.children) waited l.proc.state.last_read m.call known
       ∙ ap (λ last. request_of (pnode_among l.children) last m.call)

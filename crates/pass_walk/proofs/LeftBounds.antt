@@ -2,7 +2,7 @@
 use Rattle.std.proofs.Common.{◌≡◌, ◌≢◌, ◌≤◌, ◌+◌, ℕ, suc, List, [], ◌∷◌, ◌++◌, length, take, drop, refl, ap, sym, ◌∙◌, subst, arith, Bool, true, false, ◌==◌, cond, append_assoc, length-append}
 use Rattle.std.specs.Prelude.{Some, slice_get}
 use Rattle.std.proofs.lemmas.List.{append-nil}
-use Rattle.pass_plain.specs.Traces.{Line, LineCall, given, write_last, fork_as, wait_for}
+use Rattle.pass_plain.specs.Traces.{Line, LineCall, given, write_last, fork_as, wait_for, await_for}
 use Rattle.pass_plain.proofs.Lists.{same_numbers, different}
 use Rattle.pass_replay.specs.Lines.{AreLinesBehind, is_there}
 use Rattle.pass_replay.proofs.Begun.{there_now, there_stays}
@@ -71,6 +71,7 @@ bound_by l ls ps step rest with_child (fork_as child) forks =
 bound_by l ls ps step rest with_child (given r) is = (let y : of_child (λ p. left_in ls p) l.call ≡ 0 = ap (λ c. of_child (λ p. left_in ls p) c) is in omega (arith, y, step, rest))
 bound_by l ls ps step rest with_child (write_last fd) is = (let y : of_child (λ p. left_in ls p) l.call ≡ 0 = ap (λ c. of_child (λ p. left_in ls p) c) is in omega (arith, y, step, rest))
 bound_by l ls ps step rest with_child (wait_for q) is = (let y : of_child (λ p. left_in ls p) l.call ≡ 0 = ap (λ c. of_child (λ p. left_in ls p) c) is in omega (arith, y, step, rest))
+bound_by l ls ps step rest with_child (await_for q) is = (let y : of_child (λ p. left_in ls p) l.call ≡ 0 = ap (λ c. of_child (λ p. left_in ls p) c) is in omega (arith, y, step, rest))
 
 bound : (ls before : List Line) (ps : List ℕ) → AreLinesBehind before ls → Unique ps → AllThere before ps → total ls ps ≤ length ps + (length ls + length ls)
 bound [] before ps behind unique all = (let z = total_none ps in omega (arith, z))

@@ -1,6 +1,6 @@
 -- A living process of a run goes on by one call.
 use Rattle.std.proofs.Common.{◌≡◌, ◌<◌, ◌≤◌, ◌+◌, ◌-◌, ℕ, List, [], ◌∷◌, length, take, refl, ap, sym, ◌∙◌, subst, arith, inl, inr, false}
-use Rattle.std.specs.Prelude.{Some, slice_get}
+use Rattle.std.specs.Prelude.{Some, None, slice_get}
 use Rattle.std.proofs.lemmas.Bool.{cases_lt}
 use Rattle.std.proofs.lemmas.Option.{slice_get_within}
 use Rattle.std.proofs.lemmas.List.{take_all, take-append-le}
@@ -13,7 +13,7 @@ use Rattle.pass_plain.specs.Sessions.{Session}
 use Rattle.pass_plain.specs.Processes.{Process}
 use Rattle.pass_plain.specs.Calls.{Made, call_steps, pnode_at}
 use Rattle.pass_plain.specs.Legal.{before_call}
-use Rattle.pass_plain.specs.Traces.{Line, LineCall, given, write_last, fork_as, wait_for, request_of, lines_of, calls_of}
+use Rattle.pass_plain.specs.Traces.{Line, LineCall, given, write_last, fork_as, wait_for, await_for, waited_for, request_of, lines_of, calls_of}
 use Rattle.pass_plain.specs.Runs.{next_number}
 use Rattle.pass_plain.proofs.Lists.{some_is, slice_get-front}
 use Rattle.pass_plain.proofs.Appends.{slice_get-append}
@@ -26,18 +26,14 @@ use Rattle.pass_replay.proofs.Positions.{lines-append}
 use Rattle.pass_replay.proofs.NextCalls.{call_cases, line_behind}
 use Rattle.pass_walk.specs.Local.{IsLocal}
 
--- whoever knows the children makes the same request of a call
-pub same_request : (trace : List Line) (behind : AreLinesBehind [] trace) (history : List Entry) (process who done : ℕ) (call : LineCall) (a b : ℕ → ℕ) (last : List ℕ)
-    → slice_get (calls_of trace process) done ≡ Some call → KnowsChildren trace history process who done a → KnowsChildren trace history process who done b
-    → request_of a last call ≡ request_of b last call
-same_request trace behind history process who done (given r) a b last at ka kb = refl
-same_request trace behind history process who done (write_last fd) a b last at ka kb = refl
-same_request trace behind history process who done (fork_as child) a b last at ka kb = refl
-same_request trace behind history process who done (wait_for q) a b last at ka kb = elim (call_cases trace process done (wait_for q) at) [
-  | inr exit ↦ absurd (let z : wait_for q ≡ given requests.Exit = exit.0 in cc)
+-- whoever knows the children knows the same pnode of one that a call waits for
+known_alike : (trace : List Line) (behind : AreLinesBehind [] trace) (history : List Entry) (process who done : ℕ) (call : LineCall) (a b : ℕ → ℕ) (q : ℕ) → waited_for call ≡ Some q
+    → slice_get (calls_of trace process) done ≡ Some call → KnowsChildren trace history process who done a → KnowsChildren trace history process who done b → a q ≡ b q
+known_alike trace behind history process who done call a b q waits at ka kb = elim (call_cases trace process done call at) [
+  | inr exit ↦ absurd (let z : None ≡ Some q = sym (ap waited_for exit.0) ∙ waits in cc)
   | inl l ↦
       let (s, rules) = line_behind trace process done l.0 behind l.1 in
-      let (k, m, stands_there, forks) = rules.waits q l.2 in
+      let (k, m, stands_there, forks) = rules.waits q (ap waited_for l.2 ∙ waits) in
       let m_at : slice_get (lines_of s.before process) k ≡ Some m = ap (λ p. slice_get (lines_of s.before p) k) (sym s.own) ∙ stands_there in
       let short = slice_get_within (lines_of s.before process) k m m_at in
       let count = s.count in
@@ -45,8 +41,20 @@ same_request trace behind history process who done (wait_for q) a b last at ka k
       ap (λ (t : List Line). slice_get (lines_of t process) k) s.parts ∙ ap (λ (ls : List Line). slice_get ls k) (lines-append s.before (l.0 ∷ s.after) process)
       ∙ slice_get-append (lines_of s.before process) (lines_of (l.0 ∷ s.after) process) k m m_at in
       let less : k < done = omega (arith, short, count) in
-      ap (λ n. requests.WaitChild n) (ka k q m less in_trace forks ∙ sym (kb k q m less in_trace forks))
+      ka k q m less in_trace forks ∙ sym (kb k q m less in_trace forks)
 ]
+
+-- .. and makes the same request of a call
+pub same_request : (trace : List Line) (behind : AreLinesBehind [] trace) (history : List Entry) (process who done : ℕ) (call : LineCall) (a b : ℕ → ℕ) (last : List ℕ)
+    → slice_get (calls_of trace process) done ≡ Some call → KnowsChildren trace history process who done a → KnowsChildren trace history process who done b
+    → request_of a last call ≡ request_of b last call
+same_request trace behind history process who done (given r) a b last at ka kb = refl
+same_request trace behind history process who done (write_last fd) a b last at ka kb = refl
+same_request trace behind history process who done (fork_as child) a b last at ka kb = refl
+same_request trace behind history process who done (wait_for q) a b last at ka kb =
+    ap (λ n. requests.WaitChild n) (known_alike trace behind history process who done (wait_for q) a b q refl at ka kb)
+same_request trace behind history process who done (await_for q) a b last at ka kb =
+    ap (λ n. requests.Await n) (known_alike trace behind history process who done (await_for q) a b q refl at ka kb)
 
 -- an entry of the whole that stands within a beginning
 front : {X : Type 0} (xs ys : List X) (n : ℕ) (x : X) → (p : IsPrefix xs ys) → n < length xs → slice_get ys n ≡ Some x → slice_get xs n ≡ Some x

@@ -42,6 +42,7 @@ module _ (progress_law : ProgressLaw) (sync_law : SyncLaw) (session : Session) (
   progress_any requests.Fork end may is = progress_law session places old new requests.Fork end before after may is
   progress_any (requests.Exec name args) end may is = progress_law session places old new (requests.Exec name args) end before after may is
   progress_any (requests.WaitChild child) end may is = progress_law session places old new (requests.WaitChild child) end before after may is
+  progress_any (requests.Await child) end may is = progress_law session places old new (requests.Await child) end before after may is
   progress_any requests.Exit end may is = progress_law session places old new requests.Exit end before after may is
   progress_any (requests.Rename from to) end may is = progress_law session places old new (requests.Rename from to) end before after may is
   progress_any (requests.Unlink name) end may is = progress_law session places old new (requests.Unlink name) end before after may is

@@ -2,7 +2,7 @@
 use Rattle.std.proofs.Common.{◌≡◌, ◌≢◌, ℕ, refl}
 use Rattle.pass_plain.specs.declared.request.Request.{Request}
 use Rattle.pass_plain.specs.declared.request.Request.TheVariants as requests
-use Rattle.pass_plain.specs.Traces.{given, write_last, fork_as, wait_for}
+use Rattle.pass_plain.specs.Traces.{given, write_last, fork_as, wait_for, await_for}
 use Rattle.pass_trace.specs.TraceLines.{call_of}
 use Rattle.pass_trace.specs.declared.trace.Command.{Command}
 use Rattle.pass_trace.specs.declared.trace.Command.TheVariants as command
@@ -17,6 +17,9 @@ apart_write fd child is = let z : write_last fd ≡ fork_as child = is in cc
 apart_wait : (q child : ℕ) → wait_for q ≢ fork_as child
 apart_wait q child is = let z : wait_for q ≡ fork_as child = is in cc
 
+apart_await : (q child : ℕ) → await_for q ≢ fork_as child
+apart_await q child is = let z : await_for q ≡ fork_as child = is in cc
+
 pub other_than_fork : (c : Command) → ((child : ℕ) → c ≢ command.Fork child) → (child : ℕ) → call_of c ≢ fork_as child
 other_than_fork (command.Creat fd name) apart child is = apart_given (requests.Creat fd name) child is
 other_than_fork (command.Open fd name mode) apart child is = apart_given (requests.OpenName fd name mode) child is
@@ -30,6 +33,7 @@ other_than_fork (command.Pipe reader writer) apart child is = apart_given (reque
 other_than_fork (command.Fork q) apart child is = apart q refl
 other_than_fork (command.Exec name args) apart child is = apart_given (requests.Exec name args) child is
 other_than_fork (command.Wait q) apart child is = apart_wait q child is
+other_than_fork (command.Await q) apart child is = apart_await q child is
 other_than_fork (command.Rename from to) apart child is = apart_given (requests.Rename from to) child is
 other_than_fork (command.Unlink name) apart child is = apart_given (requests.Unlink name) child is
 other_than_fork (command.MkObj fd) apart child is = apart_given (requests.MakeObj fd) child is

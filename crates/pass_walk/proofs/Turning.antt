@@ -3,7 +3,7 @@ use Rattle.std.proofs.Common.{◌≡◌, ◌≢◌, ◌+◌, ◌==◌, ℕ, List
 use Rattle.std.specs.Prelude.{Option, Some, Result, slice_get}
 use Rattle.pass_plain.specs.declared.request.Request.TheVariants as requests
 use Rattle.pass_plain.specs.Sessions.{Session}
-use Rattle.pass_plain.specs.Traces.{Line, fork_as, wait_for}
+use Rattle.pass_plain.specs.Traces.{Line, fork_as, waited_for}
 use Rattle.pass_plain.proofs.Lists.{some_is}
 use Rattle.pass_answer.specs.declared.answer.CallEnd.{CallEnd}
 use Rattle.pass_answer.specs.declared.answer.Moved.{Moved}
@@ -43,7 +43,7 @@ module _ {J : Type 0} (session : Session) (lines : List TraceLine) (behind : Are
     pub may_call : IsLineCall (call_of m.command)
     may_call = line_call session (plain_trace lines) behind l is place line (plain_line m) at
 
-    module _ (last_law : LastReadLaw) (between : IsBetween session l.proc) (waited : ℕ) (known : (q : ℕ) → call_of m.command ≡ wait_for q → waited ≡ pnode_among l.children q) where
+    module _ (last_law : LastReadLaw) (between : IsBetween session l.proc) (waited : ℕ) (known : (q : ℕ) → waited_for (call_of m.command) ≡ Some q → waited ≡ pnode_among l.children q) where
       pub may_make_it : MayGoOn l.proc (request_with waited l.proc (call_of m.command))
       may_make_it =
           subst (λ r. MayGoOn l.proc r) (sym (request_is session (plain_trace lines) behind l is place line (plain_line m) at last_law between waited known))

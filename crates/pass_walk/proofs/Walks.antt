@@ -9,7 +9,7 @@ use Rattle.pass_plain.specs.declared.request.Request.TheVariants as requests
 use Rattle.pass_plain.specs.Sessions.{Session}
 use Rattle.pass_plain.specs.Legal.{IsLegal}
 use Rattle.pass_plain.specs.Processes.{has_begun, has_ended}
-use Rattle.pass_plain.specs.Traces.{Line, LineCall, given, write_last, fork_as, wait_for, request_of, calls_of}
+use Rattle.pass_plain.specs.Traces.{Line, LineCall, given, write_last, fork_as, wait_for, await_for, request_of, calls_of}
 use Rattle.pass_plain.specs.Runs.{next_number, pnode_of_process}
 use Rattle.pass_plain.proofs.Lists.{some_is}
 use Rattle.pass_hold.specs.Goings.{Goes, HasNotAnswered}
@@ -39,6 +39,7 @@ no_fork pnode last (given r) line other is = let z : false ≡ true = ap is_give
 no_fork pnode last (write_last fd) line other is = let z : requests.Write fd last ≡ requests.Fork = is in cc
 no_fork pnode last (fork_as child) line other is = other child refl
 no_fork pnode last (wait_for q) line other is = let z : requests.WaitChild (pnode q) ≡ requests.Fork = is in cc
+no_fork pnode last (await_for q) line other is = let z : requests.Await (pnode q) ≡ requests.Fork = is in cc
 
 pub some_seen : (seen : List Entry) (who : ℕ) → has_begun seen who ≡ true → 0 < length seen
 some_seen [] who has = absurd (cc)

@@ -1,7 +1,7 @@
 -- How many turns are left from a line on: one for each line of its process, one for the exit, and those of the children that its lines fork. This project's own rule.
 use Rattle.std.specs.Prelude.{ℕ, ◌+◌, ◌==◌, ◌≡◌, ◌≤◌, List, [], ◌∷◌, Option, Some, None, drop, slice_get, vec_capacity, if◌then◌else◌}
 use Rattle.std.specs.Global.{Vec}
-use Rattle.pass_plain.specs.Traces.{Line, LineCall, given, write_last, fork_as, wait_for}
+use Rattle.pass_plain.specs.Traces.{Line, LineCall, given, write_last, fork_as, wait_for, await_for}
 
 -- those of the child that a call forks
 abbrev pub of_child : (ℕ → ℕ) → LineCall → ℕ
@@ -9,6 +9,7 @@ of_child left (fork_as child) = left child
 of_child left (given r) = 0
 of_child left (write_last fd) = 0
 of_child left (wait_for child) = 0
+of_child left (await_for child) = 0
 
 abbrev pub left_in : List Line → ℕ → ℕ
 left_in [] process = 1

@@ -1,7 +1,7 @@
 //! A process of a trace over a store, and its turns.
 ghost use Rattle.std.specs.HashMap.{spare};
 ghost use Rattle.std.specs.Prelude.{◌≡◌, ◌≢◌, ◌<◌, ◌≤◌, ℕ, None, Some, IfSome, IsSome, slice_get, true};
-ghost use Rattle.pass_plain.specs.Traces.{Line as AnyLine, fork_as, wait_for};
+ghost use Rattle.pass_plain.specs.Traces.{Line as AnyLine, fork_as, waited_for};
 ghost use Rattle.pass_trace.specs.TraceLines.{call_of, plain_trace};
 ghost use Rattle.pass_walk.specs.Outcomes.{HasBorne, IsAfter, left_as, outcome_of, unfinished_of};
 ghost use Rattle.pass_walk.specs.Walkers.{HasWent, IsLivingOf, pnode_among};
@@ -114,10 +114,11 @@ impl<J: Whose> Ended<J> {
 impl<J: Whose> Living<J> {
     /// The pnode of the child that a command waits for.
     fn waited(&self, command: &Command) -> Pnode
-        ensures { (child : ℕ) → call_of command.now ≡ wait_for child → result ≡ pnode_among self.now.children child }
+        ensures { (child : ℕ) → waited_for (call_of command.now) ≡ Some child → result ≡ pnode_among self.now.children child }
     {
         match command {
             Command::Wait { child } => self.children.pnode(*child),
+            Command::Await { child } => self.children.pnode(*child),
             _ => Pnode(0),
         }
     }

@@ -10,9 +10,9 @@ use Rattle.pass_report.proofs.processes.Processes.note.Goals as goal
 pub returns-then-is_fault : goal.returns-then-is_fault
 returns-then-is_fault c = faulted_processes c.args.past.now c.args.entry.now c.args.self.now (sym c.is_fault.ensures ∙ c.if-is_fault.true) c.requires.states
 
-pub returns-then-not-changes : goal.returns-then-not-changes
-returns-then-not-changes c = idle_processes c.args.past.now c.args.entry.now c.args.self.now (sym c.is_fault.ensures ∙ c.if-is_fault.false) c.requires.states
-    (let Q : Bool → Type 0 = λ b. OnFalse b ((past : List Entry) (p : Process) → process_act past p c.args.entry.now.act ≡ p) in subst Q c.if-not-changes.true c.changes.ensures)
+pub returns-then-not-changes_process : goal.returns-then-not-changes_process
+returns-then-not-changes_process c = idle_processes c.args.past.now c.args.entry.now c.args.self.now (sym c.is_fault.ensures ∙ c.if-is_fault.false) c.requires.states
+    (let Q : Bool → Type 0 = λ b. OnFalse b ((past : List Entry) (p : Process) → process_act past p c.args.entry.now.act ≡ p) in subst Q c.if-not-changes_process.true c.changes_process.ensures.kept)
 
 pub apply-requires-clause-offsets : goal.apply-requires-clause-offsets
 apply-requires-clause-offsets c =

@@ -1,6 +1,6 @@
 -- Words that are too few or too many for a question about names.
 use Rattle.std.proofs.Common.{ℕ, ◌≡◌, ◌<◌, ◌≤◌, ◌+◌, ◌==◌, ◌∙◌, zero, suc, List, [], ◌∷◌, length, drop, get_or, refl, ap, arith}
-use Rattle.std.specs.Prelude.{Option, Some, None, map}
+use Rattle.std.specs.Prelude.{Some, None, map}
 use Rattle.std.specs.Borrow.{Bor}
 use Rattle.pass_entry.proofs.Lists.{alike}
 use Rattle.pass_ask.specs.Telling.{inputs_in, last_at, named_in, or_here, outputs_in}

@@ -1,6 +1,7 @@
 -- The words that the command line takes.
 use Rattle.std.proofs.Common.{◌≡◌, ◌∙◌, true, false, refl, sym, ap, subst, List, [], ◌∷◌, ◌⊎◌, inl, inr}
-use Rattle.std.specs.Prelude.{Option, Some, None, Result, Ok, Err, option_and_then, unwrap_or, codes, if◌then◌else◌}
+use Rattle.std.specs.Prelude.{Option, Some, None, Result, Ok, Err, option_and_then, option_map, unwrap_or, codes, map, if◌then◌else◌}
+use Rattle.std.specs.Borrow.{Bor}
 use Rattle.clap.specs.Faults.{fault_of, is_simple_and_free}
 use Rattle.clap.specs.Kinds.{FailsBy, HasKind, IsAmong, Kinds}
 use Rattle.clap.specs.Matches.{found_of}
@@ -19,6 +20,12 @@ use Rattle.pass_ask.specs.Words.{Reads, Text, command_by, command_found, command
 use Rattle.pass_ask.specs.Telling.{tells}
 use Rattle.pass_ask.specs.declared.telling.Flags.{Flags}
 use Rattle.pass_ask.specs.declared.words.Command.{Command}
+
+abbrev pub text_in : Option (Bor Text) → Option Text
+text_in o = option_map (λ s. s.now) o
+
+abbrev pub texts_in : Option (Bor (List (Bor Text))) → Option (List Text)
+texts_in o = option_map (λ s. map (λ v. v.now) s.now) o
 
 line_is_free : is_simple_and_free command_line ≡ true
 unfolding clap_on_literals command_line

@@ -1,20 +1,14 @@
 -- The tokens of what is told of nodes, of one part behind the other.
-use Rattle.std.proofs.Common.{◌≡◌, refl, sym, ap, ◌∙◌, List, [], ◌∷◌, ◌++◌, append_assoc}
+use Rattle.std.proofs.Common.{◌≡◌, sym, ap, ◌∙◌, List, [], ◌∷◌, ◌++◌, append_assoc}
 use Rattle.std.specs.Prelude.{codes}
-use Rattle.std.specs.List.{flat_map}
 use Rattle.std.proofs.lemmas.List.Concat.{flat_map-append}
-use Rattle.json.specs.Token.{Token, begin_object, end_object, end_array}
-use Rattle.json.specs.Tree.{json_tokens, items_tokens}
+use Rattle.json.specs.Token.{Token, begin_object, end_object}
+use Rattle.json.specs.Tree.{json_tokens}
 use Rattle.pass_entry.specs.Words.{node_text}
 use Rattle.pass_view.specs.Provs.{member_tokens, text_at, tokens_of}
 use Rattle.pass_view.proofs.Members.{members_are}
-use Rattle.pass_files.specs.Texts.{kind_members, members_in, title_members, told_items, told_object}
+use Rattle.pass_files.specs.Texts.{kind_members, members_in, title_members, told_object}
 use Rattle.pass_files.specs.declared.told.Told.{Told}
-
-pub items_are : (ts : List Told) → items_tokens (told_items ts) ≡ flat_map (λ t. json_tokens (told_object t)) ts ++ end_array ∷ []
-items_are [] = refl
-items_are (t ∷ ts) =
-    ap (λ xs. json_tokens (told_object t) ++ xs) (items_are ts) ∙ sym (append_assoc (json_tokens (told_object t)) (flat_map (λ u. json_tokens (told_object u)) ts) (end_array ∷ []))
 
 -- the tokens of what is told of a node, part by part
 pub told_tokens : (told : Told) → begin_object ∷ (member_tokens (text_at (codes "node") (node_text told.node)) ++ (tokens_of (kind_members told.kind) ++ (tokens_of (title_members told.title) ++ end_object ∷ []))) ≡ json_tokens (told_object told)

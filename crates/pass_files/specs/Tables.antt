@@ -10,6 +10,7 @@ use Rattle.pass_entry.specs.declared.objects.Node.{Node}
 use Rattle.pass_entry.specs.declared.record.Record.{Record}
 use Rattle.pass_plain.specs.Versions.{same_node}
 use Rattle.pass_plain.specs.WellLogged.{kind_of}
+use Rattle.pass_view.specs.Facts.{AreTags}
 use Rattle.pass_files.specs.Data.{Flowing, first_source, gives_program, is_data}
 use Rattle.pass_files.specs.Inquiries.{is_shown}
 use Rattle.pass_files.specs.Told.{naming_of, ran_of}
@@ -22,6 +23,7 @@ pub record AreFacts (list : List Record) (facts : Facts) : Type 0 where
   pub kinds : (object : ℕ) → get nat_eq facts.kinds object ≡ kind_of list object
   pub names : (object : ℕ) → get nat_eq facts.names object ≡ naming_of list object
   pub runs : (node : Node) → get same_node facts.runs node ≡ ran_of list node
+  pub tags : AreTags list facts.tags
 
 pub record AreFlows (list : List Record) (flows : Flows) : Type 0 where
   pub kinds : (object : ℕ) → get nat_eq flows.kinds object ≡ kind_of list object

@@ -1,4 +1,5 @@
--- What the records tell of a node: its kind, the name of a file, and what a process ran. This project's own rule.
+-- What the records tell of a node: its kind, the name of a file, what a process ran, the attributes of an app object. This project's
+-- own rule.
 use Rattle.std.specs.Prelude.{ℕ, ◌==◌, true, false, List, [], ◌∷◌, Option, Some, None, fold, bytes_eq, codes, option_map, if◌then◌else◌}
 use Rattle.pass_entry.specs.declared.objects.Node.{Node}
 use Rattle.pass_entry.specs.declared.objects.Kind.{Kind}
@@ -7,11 +8,12 @@ use Rattle.pass_entry.specs.declared.record.Record.{Record}
 use Rattle.pass_entry.specs.declared.record.Record.TheVariants as log
 use Rattle.pass_plain.specs.Versions.{same_node}
 use Rattle.pass_plain.specs.WellLogged.{kind_of}
+use Rattle.pass_view.specs.Facts.{tags_in}
 use Rattle.pass_files.specs.Data.{version_before}
 use Rattle.pass_files.specs.declared.facts.Naming.{Naming}
 use Rattle.pass_files.specs.declared.facts.Ran.{Ran}
 use Rattle.pass_files.specs.declared.told.Title.{Title}
-use Rattle.pass_files.specs.declared.told.Title.TheVariants.{Nothing, Named, Ran as Running}
+use Rattle.pass_files.specs.declared.told.Title.TheVariants.{Nothing, Named, Ran as Running, Tagged}
 use Rattle.pass_files.specs.declared.told.Told.{Told}
 
 abbrev pub unnamed : Naming → Naming
@@ -50,16 +52,24 @@ ran_look ran _ node = ran node
 abbrev pub ran_of : List Record → Node → Option Ran
 ran_of list = fold ran_look (λ _. None) list
 
-abbrev pub title_by : Option Kind → Option Naming → Option Ran → Title
-title_by (Some kind.Process) naming (Some ran) = Running ran
-title_by (Some kind.Process) naming None = Nothing
-title_by (Some _) (Some naming) ran = Named naming
-title_by (Some _) None ran = Nothing
-title_by None naming ran = Nothing
+abbrev pub named_title : Option Naming → Title
+named_title None = Nothing
+named_title (Some naming) = Named naming
+
+abbrev pub running_title : Option Ran → Title
+running_title None = Nothing
+running_title (Some ran) = Running ran
+
+abbrev pub title_by : Option Kind → Option Naming → Option Ran → List (List ℕ × List ℕ) → Title
+title_by (Some kind.Process) naming ran tags = running_title ran
+title_by (Some kind.File) naming ran tags = named_title naming
+title_by (Some kind.Pipe) naming ran tags = named_title naming
+title_by (Some kind.App) naming ran tags = Tagged tags
+title_by None naming ran tags = Nothing
 
 abbrev pub told_of : List Record → Node → Told
 told_of list node = record {
   node = node;
   kind = kind_of list node.pnode;
-  title = title_by (kind_of list node.pnode) (naming_of list node.pnode) (ran_of list node);
+  title = title_by (kind_of list node.pnode) (naming_of list node.pnode) (ran_of list node) (tags_in list node);
 }

@@ -5,13 +5,13 @@ ghost use Rattle.json.specs.Json.{array};
 ghost use Rattle.json.specs.Tree.{json_tokens};
 ghost use Rattle.pass_entry.specs.declared.record.Record.{Record};
 ghost use Rattle.pass_files.specs.Tables.{AreFacts};
-ghost use Rattle.pass_view.specs.Provs.{Adds, member_tokens, text_at, tokens_of};
-ghost use Rattle.pass_files.specs.Texts.{inquiry_text, json_text, kind_members, kind_text, line_text, naming_member, naming_text, spaced, title_members, title_text, told_all, told_items, told_object};
+ghost use Rattle.pass_view.specs.Provs.{Adds, items_of, member_tokens, text_at, tokens_of};
+ghost use Rattle.pass_files.specs.Texts.{inquiry_text, json_text, kind_members, kind_text, line_text, naming_member, naming_text, spaced, tag_json, tag_text, tags_member, title_members, title_text, told_all, told_object};
 
 use crate::facts::{Naming, Ran};
 use crate::told::{Facts, Title, Told};
 use json::Writer;
-use pass_entry::{Kind, Node};
+use pass_entry::{Kind, Node, Text};
 use pass_query::{Form, no_path};
 use pass_view::str_of;
 use pass_waldo::Index;
@@ -106,6 +106,7 @@ fn push_title(out: &mut Vec<u8>, title: &Title) -> Result<(), AllocError>
         Title::Nothing => Ok(()),
         Title::Named(naming) => push_naming(out, naming),
         Title::Ran(ran) => push_ran(out, ran),
+        Title::Tagged(tags) => push_tags(out, tags.pairs()),
     }
 }
 
@@ -128,6 +129,23 @@ fn push_ran(out: &mut Vec<u8>, ran: &Ran) -> Result<(), AllocError>
     }
 }
 
+// Each attribute and its value behind a space.
+fn push_tags(out: &mut Vec<u8>, tags: &[(Text, Text)]) -> Result<(), AllocError>
+    ensures { OnOk result (out.new.items ≡ out.old.items ++ flat_map tag_text tags.now) }
+{
+    for (attr, value) in tags {
+        push_tag(out, attr, value)?;
+    }
+    Ok(())
+}
+
+fn push_tag(out: &mut Vec<u8>, attr: &Text, value: &Text) -> Result<(), AllocError>
+    ensures { OnOk result (out.new.items ≡ out.old.items ++ tag_text (attr.now, value.now)) }
+{
+    push_word(out, attr.as_bytes())?;
+    push_word(out, value.as_bytes())
+}
+
 // JSON
 
 // One object a node, on a line.
@@ -142,7 +160,7 @@ fn json(alloc: Global, all: &[Told]) -> Result<Vec<u8>, AllocError>
 }
 
 fn write_all(alloc: Global, out: &mut Writer, all: &[Told]) -> Result<(), AllocError>
-    ensures { OnOk result (Adds out.old out.new (json_tokens (array (told_items all.now)))) }
+    ensures { OnOk result (Adds out.old out.new (json_tokens (array (items_of told_object all.now)))) }
 {
     out.begin_array()?;
     for told in all {
@@ -186,6 +204,7 @@ fn write_title(out: &mut Writer, title: &Title) -> Result<(), AllocError>
         Title::Nothing => Ok(()),
         Title::Named(naming) => write_naming(out, naming),
         Title::Ran(ran) => write_ran(out, ran),
+        Title::Tagged(tags) => write_tags(out, tags.pairs()),
     }
 }
 
@@ -207,4 +226,25 @@ fn write_ran(out: &mut Writer, ran: &Ran) -> Result<(), AllocError>
         Some(arguments) => write_pair(out, "arguments", str_of(arguments)),
         None => Ok(()),
     }
+}
+
+// The attributes with their values, under a key.
+fn write_tags(out: &mut Writer, tags: &[(Text, Text)]) -> Result<(), AllocError>
+    ensures { OnOk result (Adds out.old out.new (member_tokens (tags_member tags.now))) }
+{
+    out.key("attributes")?;
+    out.begin_array()?;
+    for (attr, value) in tags {
+        write_tag(out, attr, value)?;
+    }
+    out.end_array()
+}
+
+fn write_tag(out: &mut Writer, attr: &Text, value: &Text) -> Result<(), AllocError>
+    ensures { OnOk result (Adds out.old out.new (json_tokens (tag_json (attr.now, value.now)))) }
+{
+    out.begin_array()?;
+    out.string(str_of(attr))?;
+    out.string(str_of(value))?;
+    out.end_array()
 }

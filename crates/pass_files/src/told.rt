@@ -2,12 +2,14 @@
 ghost use Rattle.std.specs.Prelude.{◌≡◌, List, IfOk, Some};
 ghost use Rattle.pass_entry.specs.declared.record.Record.{Record};
 ghost use Rattle.pass_plain.specs.WellLogged.{is_file_of};
-ghost use Rattle.pass_view.specs.Facts.{is_system};
-ghost use Rattle.pass_files.specs.Told.{told_of, title_by, naming_of, ran_of};
+ghost use Rattle.pass_view.specs.Facts.{is_system, tags_in};
+ghost use Rattle.pass_files.specs.Told.{told_of, title_by, named_title, running_title, naming_of, ran_of};
+ghost use Rattle.pass_files.specs.declared.told.Title.TheVariants.{Tagged};
 
+use crate::attributes::Attributes;
 use crate::facts::{Naming, Ran, kinds_of, names_of, ran_at, runs_of};
 use pass_entry::{Kind, Node, Record};
-use pass_view::is_system_name;
+use pass_view::{Tags, is_system_name};
 use std::alloc::{AllocError, Global};
 use std::collections::HashMap;
 
@@ -19,6 +21,8 @@ pub enum Title {
     Named(Naming),
     /// What a process ran.
     Ran(Ran),
+    /// The attributes of an app object.
+    Tagged(Attributes),
 }
 
 /// A node with what the records tell of it.
@@ -36,6 +40,7 @@ pub(crate) struct Facts {
     kinds: HashMap<u64, Kind>,
     names: HashMap<u64, Naming>,
     runs: HashMap<Node, Ran>,
+    tags: Tags,
 }
 
 impl Facts {
@@ -48,6 +53,7 @@ impl Facts {
             kinds: kinds_of(alloc, records)?,
             names: names_of(alloc, records)?,
             runs: runs_of(alloc, records)?,
+            tags: Tags::of(alloc, records)?,
         })
     }
 
@@ -64,17 +70,20 @@ impl Facts {
     }
 
     fn title(&self, kind: Option<Kind>, node: Node) -> Result<Title, AllocError>
-        ensures { (list : List Record) → AreFacts list self.now → IfOk result (λ t. t ≡ title_by kind (naming_of list node.pnode) (ran_of list node)) }
+        ensures { (list : List Record) → AreFacts list self.now → IfOk result (λ t. t ≡ title_by kind (naming_of list node.pnode) (ran_of list node) (tags_in list node)) }
     {
+        let Some(kind) = kind else {
+            return Ok(Title::Nothing);
+        };
         match kind {
-            Some(Kind::Process) => self.running(node),
-            Some(Kind::File | Kind::Pipe | Kind::App) => self.naming(node),
-            None => Ok(Title::Nothing),
+            Kind::Process => self.running(node),
+            Kind::App => self.tagged(node),
+            Kind::File | Kind::Pipe => self.naming(node),
         }
     }
 
     fn running(&self, node: Node) -> Result<Title, AllocError>
-        ensures { (list : List Record) → AreFacts list self.now → IfOk result (λ t. t ≡ title_by (Some Kind.Process) (naming_of list node.pnode) (ran_of list node)) }
+        ensures { (list : List Record) → AreFacts list self.now → IfOk result (λ t. t ≡ running_title (ran_of list node)) }
     {
         match ran_at(&self.runs, &node)? {
             Some(ran) => Ok(Title::Ran(ran)),
@@ -82,8 +91,14 @@ impl Facts {
         }
     }
 
+    fn tagged(&self, node: Node) -> Result<Title, AllocError>
+        ensures { (list : List Record) → AreFacts list self.now → IfOk result (λ t. t ≡ Tagged (tags_in list node)) }
+    {
+        Ok(Title::Tagged(Attributes::new(self.tags.of_node(node)?)))
+    }
+
     fn naming(&self, node: Node) -> Result<Title, AllocError>
-        ensures { (list : List Record) → AreFacts list self.now → IfOk result (λ t. t ≡ title_by (Some Kind.File) (naming_of list node.pnode) (ran_of list node)) }
+        ensures { (list : List Record) → AreFacts list self.now → IfOk result (λ t. t ≡ named_title (naming_of list node.pnode)) }
     {
         match self.names.get(&node.pnode.0) {
             Some(naming) => Ok(Title::Named(Naming {

@@ -1,12 +1,13 @@
 -- The tokens of an object and of an array, of one part behind the other.
 use Rattle.std.proofs.Common.{◌≡◌, refl, sym, ap, ◌∙◌, List, [], ◌∷◌, ◌++◌, append_assoc}
-use Rattle.std.specs.Prelude.{ℕ, map}
+use Rattle.std.specs.Prelude.{map}
 use Rattle.std.specs.List.{flat_map}
 use Rattle.std.proofs.lemmas.List.Concat.{flat_map-append}
-use Rattle.json.specs.Token.{Token, end_object, end_array}
+use Rattle.json.specs.Json.{Json}
+use Rattle.json.specs.Token.{end_object, end_array}
 use Rattle.json.specs.Token as token
 use Rattle.json.specs.Tree.{json_tokens, items_tokens, members_tokens}
-use Rattle.pass_view.specs.Provs.{Member, items_of, member_tokens, members_of, tag_text, tokens_of}
+use Rattle.pass_view.specs.Provs.{Member, items_of, member_tokens, members_of, tokens_of}
 
 pub members_are : (ms : List Member) → members_tokens (members_of ms) ≡ tokens_of ms ++ end_object ∷ []
 members_are [] = refl
@@ -30,6 +31,6 @@ each_one h (x ∷ xs) = ap (λ ts. member_tokens (h x) ++ ts) (each_one h xs)
 pub ones_are : {X : Type 0} (h : X → Member) (xs : List X) → members_tokens (members_of (map h xs)) ≡ flat_map (λ x. member_tokens (h x)) xs ++ end_object ∷ []
 ones_are h xs = members_are (map h xs) ∙ ap (λ ts. ts ++ end_object ∷ []) (each_one h xs)
 
-pub tags_are : (tags : List (List ℕ × List ℕ)) → items_tokens (items_of (map tag_text tags)) ≡ flat_map (λ t. token.string (tag_text t) ∷ []) tags ++ end_array ∷ []
-tags_are [] = refl
-tags_are (t ∷ ts) = ap (λ xs. token.string (tag_text t) ∷ xs) (tags_are ts)
+pub items_are : {X : Type 0} (json : X → Json) (xs : List X) → items_tokens (items_of json xs) ≡ flat_map (λ x. json_tokens (json x)) xs ++ end_array ∷ []
+items_are json [] = refl
+items_are json (x ∷ xs) = ap (λ ts. json_tokens (json x) ++ ts) (items_are json xs) ∙ sym (append_assoc (json_tokens (json x)) (flat_map (λ y. json_tokens (json y)) xs) (end_array ∷ []))

@@ -1,5 +1,5 @@
 -- Nodes in ascending order.
-use Rattle.std.proofs.Common.{ℕ, ◌+◌, inl, inr, sym, subst, List, [], ◌∷◌, ◌++◌, length}
+use Rattle.std.proofs.Common.{◌+◌, inl, inr, sym, subst, List, [], ◌∷◌, ◌++◌}
 use Rattle.std.specs.Prelude.{Some, Contains}
 use Rattle.std.specs.List.{IsDistinct, list_any}
 use Rattle.std.specs.List.Sorted.{IsSorted, IsPermutation}

@@ -5,7 +5,7 @@ use Rattle.pass_entry.specs.Words.{kind_word, node_text}
 use Rattle.pass_entry.specs.declared.objects.Kind.{Kind}
 use Rattle.pass_entry.specs.declared.objects.Kind.TheVariants as kind
 use Rattle.pass_plain.specs.Registries.{same_kind}
-use Rattle.pass_view.specs.Labels.{title_of}
+use Rattle.pass_view.specs.Labels.{attribute_text, title_of}
 use Rattle.pass_view.specs.declared.picture.Link.{Link}
 use Rattle.pass_view.specs.declared.picture.Shown.{Shown}
 use Rattle.pass_view.specs.declared.picture.View.{View}
@@ -43,11 +43,22 @@ style kind.App = codes "shape=component, fillcolor=\"#f5d0e0\""
 
 -- Nodes and edges
 
--- the title, where there is one, has lines of its own
+-- a text, where there is one, has lines of its own
 abbrev pub title_lines : List ℕ → List ℕ
 title_lines text = if length text == 0 then [] else lines_from 60 text ++ codes "<BR/>"
 
--- the line of a node up to its title, and behind it: the node itself, in small letters
+-- the attributes of an app object
+abbrev pub attributes_of : Shown → List (List ℕ × List ℕ)
+attributes_of s = if same_kind s.kind kind.App then s.tags.items else []
+
+abbrev pub attribute_lines : List ℕ × List ℕ → List ℕ
+attribute_lines tag = title_lines (attribute_text tag)
+
+-- the title, and each attribute
+abbrev pub label_lines : Shown → List ℕ
+label_lines s = title_lines (title_of s) ++ flat_map attribute_lines (attributes_of s)
+
+-- the line of a node up to its label's lines, and behind them: the node itself, in small letters
 abbrev pub line_head : Shown → List ℕ
 line_head s = codes "  \"" ++ (node_text s.node ++ (codes "\" [" ++ (style s.kind ++ codes ", label=<")))
 
@@ -55,7 +66,7 @@ abbrev pub line_end : Shown → List ℕ
 line_end s = codes "<FONT POINT-SIZE=\"9\">" ++ (node_text s.node ++ codes "</FONT>>];\n")
 
 abbrev pub node_line : Shown → List ℕ
-node_line s = line_head s ++ title_lines (title_of s) ++ line_end s
+node_line s = line_head s ++ label_lines s ++ line_end s
 
 abbrev pub line_if : Bool → Shown → List ℕ
 line_if b s = if b then node_line s else []
@@ -87,16 +98,24 @@ legend_line nodes k = if has_kind k nodes then kind_line k else []
 abbrev pub legend_lines : List Shown → List ℕ
 legend_lines nodes = legend_line nodes kind.Process ++ legend_line nodes kind.File ++ legend_line nodes kind.Pipe ++ legend_line nodes kind.App
 
+abbrev pub legend : List Shown → List ℕ
+legend nodes = cluster (codes "legend") (legend_lines nodes)
+
+abbrev pub system_lines : List Shown → List ℕ
+system_lines nodes = flat_map (λ s. line_if s.is_system s) nodes
+
+abbrev pub system : List Shown → List ℕ
+system nodes = cluster (codes "system") (system_lines nodes)
+
 -- Pictures
+
+abbrev pub other_lines : List Shown → List ℕ
+other_lines nodes = flat_map (λ s. line_if (not s.is_system) s) nodes
 
 -- the legend, the files of a system in a box, all other nodes, and the edges
 abbrev pub picture : List Shown → List Link → List ℕ
 picture nodes edges =
-    codes "digraph provenance {\n  node [style=filled];\n" ++ cluster (codes "legend") (legend_lines nodes)
-    ++ cluster (codes "system") (flat_map (λ s. line_if s.is_system s) nodes)
-    ++ flat_map (λ s. line_if (not s.is_system) s) nodes
-    ++ flat_map edge_line edges
-    ++ codes "}\n"
+    codes "digraph provenance {\n  node [style=filled];\n" ++ legend nodes ++ system nodes ++ other_lines nodes ++ flat_map edge_line edges ++ codes "}\n"
 
 abbrev pub dot_text : View → List ℕ
 dot_text view = picture view.nodes.items view.edges.items

@@ -16,6 +16,7 @@ use Rattle.pass_view.specs.declared.picture.Link.{Link}
 use Rattle.pass_view.specs.declared.picture.Relation.{Relation}
 use Rattle.pass_view.specs.declared.picture.Relation.TheVariants.{Used, Generated, Informed, Derived}
 use Rattle.pass_view.specs.declared.picture.Shown.{Shown}
+use Rattle.pass_view.specs.declared.tags.Tags.{Tags}
 
 -- an attribute that a record gives the node, with its value
 abbrev pub tag_in : Node → Record → Option (List ℕ × List ℕ)
@@ -76,11 +77,15 @@ pub record IsRelated (list : List Record) (link : Link) : Type 0 where
   pub is_relation : link.relation ≡ relation_between (is_process list link.target.pnode) (is_process list link.source.pnode)
   pub of_system : link.is_system ≡ is_system list link.target.pnode || is_system list link.source.pnode
 
-abbrev pub tags_of : Facts → Node → List (List ℕ × List ℕ)
-tags_of facts node = option_map_or (λ row. row.items) (get same_node facts.tags node) []
+abbrev pub tags_of : Tags → Node → List (List ℕ × List ℕ)
+tags_of tags node = option_map_or (λ row. row.items) (get same_node tags.rows node) []
+
+-- the table has the attributes that the records give
+abbrev pub AreTags : List Record → Tags → Type 0
+AreTags list tags = (node : Node) → tags_of tags node ≡ tags_in list node
 
 -- the tables tell what the records say
 pub record AreFacts (list : List Record) (facts : Facts) : Type 0 where
   pub logged : Summarizes facts.logged list
   pub names : (object : ℕ) → get nat_eq facts.names object ≡ given_name_of list object
-  pub tags : (node : Node) → tags_of facts node ≡ tags_in list node
+  pub tags : AreTags list facts.tags

@@ -1,5 +1,5 @@
 -- What is written of a node. This project's own rule.
-use Rattle.std.specs.Prelude.{ℕ, ◌==◌, ◌&&◌, ◌||◌, Bool, not, nat_le, List, [], ◌∷◌, ◌++◌, length, Option, Some, None, option_map, bytes_eq, codes, if◌then◌else◌}
+use Rattle.std.specs.Prelude.{ℕ, ◌==◌, ◌&&◌, ◌||◌, Bool, not, nat_le, List, [], ◌∷◌, ◌++◌, length, Option, Some, None, option_map, bytes_eq, codes, take, if◌then◌else◌}
 use Rattle.std.specs.List.{find, flat_map, list_all, slice_split}
 use Rattle.percent_encoding.specs.Percent.{percent_decode, percent_encode_byte}
 use Rattle.pass_entry.specs.Texts.{is_line_byte}
@@ -39,9 +39,13 @@ is_plain_byte b = is_in_plain_range b || is_plain_sign b
 abbrev pub is_plain_word : List ℕ → Bool
 is_plain_word bytes = not (length bytes == 0) && list_all is_plain_byte bytes
 
--- a byte between single quotes, which have to end for a quote (39); a byte that isn't printed stays `%HH`
+-- a byte that isn't printed stays `%HH`
+abbrev pub shown_byte : ℕ → List ℕ
+shown_byte b = if is_line_byte b then b ∷ [] else percent_encode_byte b
+
+-- a byte between single quotes, which have to end for a quote (39)
 abbrev pub quoted_byte : ℕ → List ℕ
-quoted_byte b = if b == 39 then codes "'\\''" else if is_line_byte b then b ∷ [] else percent_encode_byte b
+quoted_byte b = if b == 39 then codes "'\\''" else shown_byte b
 
 -- as it stands where all its bytes are plain, and else in single quotes
 abbrev pub shell_word : List ℕ → List ℕ
@@ -74,6 +78,14 @@ is_activity s = same_kind s.kind kind.Process
 -- what a process ran, and what any other object is called
 abbrev pub title_of : Shown → List ℕ
 title_of s = if is_activity s then command_text (program_of s) (arguments_of s) else name_text s.name s.was
+
+-- at most 100 bytes, of more the first 97 and three dots
+abbrev pub shortened : List ℕ → List ℕ
+shortened bytes = if nat_le (length bytes) 100 then flat_map shown_byte bytes else flat_map shown_byte (take 97 bytes) ++ codes "..."
+
+-- an attribute, and the front of its value, whose `%HH` are bytes
+abbrev pub attribute_text : List ℕ × List ℕ → List ℕ
+attribute_text tag = tag.0 ++ codes " " ++ shortened (word_bytes tag.1)
 
 -- a text behind a space, where there is one
 abbrev pub spaced : List ℕ → List ℕ

@@ -31,9 +31,10 @@ members_of (m ∷ ms) = member m.0 m.1 (members_of ms)
 abbrev pub object_of : List Member → Json
 object_of ms = object (members_of ms)
 
-abbrev pub items_of : List (List ℕ) → Items
-items_of [] = no_items
-items_of (text ∷ texts) = item (string text) (items_of texts)
+-- the items of which each of a list has one
+abbrev pub items_of : {X : Type 0} → (X → Json) → List X → Items
+items_of json [] = no_items
+items_of json (x ∷ xs) = item (json x) (items_of json xs)
 
 abbrev pub text_at : List ℕ → List ℕ → Member
 text_at name text = (name, string text)
@@ -51,7 +52,7 @@ abbrev pub tag_text : List ℕ × List ℕ → List ℕ
 tag_text tag = tag.0 ++ codes " " ++ tag.1
 
 abbrev pub tags_json : List (List ℕ × List ℕ) → Json
-tags_json tags = array (items_of (map tag_text tags))
+tags_json tags = array (items_of (λ tag. string (tag_text tag)) tags)
 
 abbrev pub name_members : Option (List ℕ) → List Member
 name_members None = []

@@ -1,12 +1,12 @@
 //! A view as a picture.
-ghost use Rattle.std.specs.Prelude.{◌≡◌, ◌++◌, not, IfOk, OnOk, codes, string_bytes};
+ghost use Rattle.std.specs.Prelude.{◌≡◌, ◌++◌, not, IfOk, OnOk, string_bytes};
 ghost use Rattle.std.specs.List.{filter, flat_map};
 ghost use Rattle.pass_plain.specs.Registries.{same_kind};
-ghost use Rattle.pass_view.specs.Dots.{cluster, cluster_head, dot_text, edge_line, has_kind, is_break, kind_line, label_byte, legend_line, legend_lines, line_byte, line_end, line_head, line_if, lines_from, next_left, node_line, style, title_lines};
+ghost use Rattle.pass_view.specs.Dots.{attribute_lines, attributes_of, cluster, cluster_head, dot_text, edge_line, has_kind, is_break, kind_line, label_byte, label_lines, legend, legend_line, legend_lines, line_byte, line_end, line_head, line_if, lines_from, next_left, node_line, other_lines, style, system, system_lines, title_lines};
 
-use crate::labels::title;
+use crate::labels::{attribute, title};
 use crate::picture::{Link, Shown, View};
-use pass_entry::Kind;
+use pass_entry::{Kind, Text};
 use std::alloc::{AllocError, Global};
 
 /// How many bytes a line of a label has before a space ends it.
@@ -41,9 +41,8 @@ fn push_parts(
     nodes: &[Shown],
     edges: &[Link],
 ) -> Result<(), AllocError>
-    ensures { OnOk result (out.new.items ≡ out.old.items ++ cluster (codes "legend") (legend_lines nodes.now)
-        ++ cluster (codes "system") (flat_map (λ s. line_if s.is_system s) nodes.now)
-        ++ flat_map (λ s. line_if (not s.is_system) s) nodes.now ++ flat_map edge_line edges.now) }
+    ensures { OnOk result (out.new.items ≡ out.old.items ++ legend nodes.now ++ system nodes.now ++ other_lines nodes.now
+        ++ flat_map edge_line edges.now) }
 {
     push_boxes(alloc, out, nodes)?;
     push_others(alloc, out, nodes)?;
@@ -54,8 +53,7 @@ fn push_parts(
 
 // The legend, and the box of the system.
 fn push_boxes(alloc: Global, out: &mut Vec<u8>, nodes: &[Shown]) -> Result<(), AllocError>
-    ensures { OnOk result (out.new.items ≡ out.old.items ++ cluster (codes "legend") (legend_lines nodes.now)
-        ++ cluster (codes "system") (flat_map (λ s. line_if s.is_system s) nodes.now)) }
+    ensures { OnOk result (out.new.items ≡ out.old.items ++ legend nodes.now ++ system nodes.now) }
 {
     let mut legend = Vec::new(alloc);
     push_legend(alloc, &mut legend, nodes)?;
@@ -143,7 +141,7 @@ fn is_kind(one: Kind, other: Kind) -> bool
 
 // The lines of the system's files.
 fn push_system(alloc: Global, out: &mut Vec<u8>, nodes: &[Shown]) -> Result<(), AllocError>
-    ensures { OnOk result (out.new.items ≡ out.old.items ++ flat_map (λ s. line_if s.is_system s) nodes.now) }
+    ensures { OnOk result (out.new.items ≡ out.old.items ++ system_lines nodes.now) }
 {
     for shown in nodes {
         push_node_if(alloc, out, shown, shown.is_system)?;
@@ -153,7 +151,7 @@ fn push_system(alloc: Global, out: &mut Vec<u8>, nodes: &[Shown]) -> Result<(), 
 
 // The lines of all other nodes.
 fn push_others(alloc: Global, out: &mut Vec<u8>, nodes: &[Shown]) -> Result<(), AllocError>
-    ensures { OnOk result (out.new.items ≡ out.old.items ++ flat_map (λ s. line_if (not s.is_system) s) nodes.now) }
+    ensures { OnOk result (out.new.items ≡ out.old.items ++ other_lines nodes.now) }
 {
     for shown in nodes {
         push_node_if(alloc, out, shown, !shown.is_system)?;
@@ -179,15 +177,14 @@ fn push_node_if(
 fn push_node(alloc: Global, out: &mut Vec<u8>, shown: &Shown) -> Result<(), AllocError>
     ensures { OnOk result (out.new.items ≡ out.old.items ++ node_line shown.now) }
 {
-    let title = title(alloc, shown)?;
     let head = line_head(alloc, shown)?;
     let end = line_end(alloc, shown)?;
     out.extend_from_slice(head.as_bytes())?;
-    push_title(out, title.as_bytes())?;
+    push_label(alloc, out, shown)?;
     out.extend_from_slice(end.as_bytes())
 }
 
-// The line of a node up to its title.
+// The line of a node up to its label's lines.
 fn line_head(alloc: Global, shown: &Shown) -> Result<String, AllocError>
     ensures { IfOk result (λ text. string_bytes text ≡ line_head shown.now) }
 {
@@ -195,7 +192,7 @@ fn line_head(alloc: Global, shown: &Shown) -> Result<String, AllocError>
     format!(in alloc; "  \"{}\" [{style}, label=<", shown.node)
 }
 
-// And what comes behind the title.
+// And what comes behind them.
 fn line_end(alloc: Global, shown: &Shown) -> Result<String, AllocError>
     ensures { IfOk result (λ text. string_bytes text ≡ line_end shown.now) }
 {
@@ -214,7 +211,50 @@ fn style(kind: Kind) -> &'static str
     }
 }
 
-// The title in lines, where there is one.
+// The title, and the attributes of an app object.
+fn push_label(alloc: Global, out: &mut Vec<u8>, shown: &Shown) -> Result<(), AllocError>
+    ensures { OnOk result (out.new.items ≡ out.old.items ++ label_lines shown.now) }
+{
+    let title = title(alloc, shown)?;
+    push_title(out, title.as_bytes())?;
+    push_attributes(alloc, out, attributes_of(shown))
+}
+
+fn attributes_of(shown: &Shown) -> &[(Text, Text)]
+    ensures { result.now ≡ attributes_of shown.now }
+{
+    match shown.kind {
+        Kind::App => shown.tags.as_slice(),
+        Kind::Process | Kind::File | Kind::Pipe => &[],
+    }
+}
+
+fn push_attributes(
+    alloc: Global,
+    out: &mut Vec<u8>,
+    tags: &[(Text, Text)],
+) -> Result<(), AllocError>
+    ensures { OnOk result (out.new.items ≡ out.old.items ++ flat_map attribute_lines tags.now) }
+{
+    for (attr, value) in tags {
+        push_attribute(alloc, out, attr, value)?;
+    }
+    Ok(())
+}
+
+fn push_attribute(
+    alloc: Global,
+    out: &mut Vec<u8>,
+    attr: &Text,
+    value: &Text,
+) -> Result<(), AllocError>
+    ensures { OnOk result (out.new.items ≡ out.old.items ++ attribute_lines (attr.now, value.now)) }
+{
+    let text = attribute(alloc, attr, value)?;
+    push_title(out, text.as_bytes())
+}
+
+// A text in lines, where there is one.
 fn push_title(out: &mut Vec<u8>, title: &[u8]) -> Result<(), AllocError>
     ensures { OnOk result (out.new.items ≡ out.old.items ++ title_lines title.now) }
 {

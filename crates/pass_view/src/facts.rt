@@ -1,13 +1,12 @@
 //! What the records say of nodes, in tables.
 ghost use Rattle.std.specs.Prelude.{◌≡◌, ℕ, List, [], ◌∷◌, ◌++◌, ◌||◌, IfOk, IfSome, IsSome, OnOk, None, nat_eq, ◌==◌, true, if◌then◌else◌};
 ghost use Rattle.std.specs.List.{list_any, starts_with};
-ghost use Rattle.pass_entry.specs.declared.objects.Node.{Node};
 ghost use Rattle.pass_entry.specs.declared.record.Record.{Record};
-ghost use Rattle.pass_plain.specs.Versions.{same_node};
 ghost use Rattle.pass_plain.specs.WellLogged.{flaw_of, is_known, IsWellLogged};
 ghost use Rattle.pass_view.specs.Facts.{is_system_name, relation_between};
 
 use crate::picture::{Link, Relation, Shown};
+use crate::tags::Tags;
 use pass_entry::{Kind, Node, Pnode, Record, Text};
 use pass_graph::Logged;
 use std::alloc::{AllocError, Global};
@@ -22,24 +21,22 @@ const SYSTEM_FOLDERS: [&str; 11] = [
 /// What records say of objects, the last name that each was given, and the attributes of each node.
 #[derive(Drop)]
 pub(crate) struct Facts {
-    alloc: Global,
     logged: Logged,
     names: HashMap<u64, Text>,
-    tags: HashMap<Node, Vec<(Text, Text)>>,
+    tags: Tags,
 }
 
 impl Facts {
-    ghost use Rattle.pass_view.specs.Facts.{AreFacts, IsTold, IsRelated, given, given_name_of, is_process, is_system, tags_of};
+    ghost use Rattle.pass_view.specs.Facts.{AreFacts, IsTold, IsRelated, given, given_name_of, is_process, is_system};
     ghost use Rattle.std.specs.HashMap.{get};
 
     fn new(alloc: Global) -> Facts
         ensures { AreFacts [] result }
     {
         Facts {
-            alloc,
             logged: Logged::new(alloc),
             names: HashMap::new(alloc),
-            tags: HashMap::new(alloc),
+            tags: Tags::new(alloc),
         }
     }
 
@@ -60,10 +57,8 @@ impl Facts {
         ensures { OnOk result ((list : List Record) → flaw_of list one.now ≡ None → AreFacts list self.old → AreFacts (list ++ one.now ∷ []) self.new) }
     {
         self.logged.add(one)?;
+        self.tags.note(one)?;
         match one {
-            Record::Attr { node, attr, value } => {
-                self.add_tag(*node, attr.clone()?, value.clone()?)
-            }
             Record::Name { pnode, name } => self.add_name(*pnode, name),
             _ => Ok(()),
         }
@@ -85,36 +80,6 @@ impl Facts {
         Ok(())
     }
 
-    // The node has one more attribute.
-    fn add_tag(&mut self, node: Node, attr: Text, value: Text) -> Result<(), AllocError>
-        ensures logged { self.new.logged ≡ self.old.logged }
-        ensures names { self.new.names ≡ self.old.names }
-        ensures tags { OnOk result ((n : Node) → tags_of self.new n
-            ≡ (if same_node node n then tags_of self.old n ++ (attr, value) ∷ [] else tags_of self.old n)) }
-    {
-        match self.tags.get_mut(&node) {
-            Some(row) => {
-                row.push((attr, value))?;
-            }
-            None => {
-                let mut row = Vec::new(self.alloc);
-                row.push((attr, value))?;
-                self.tags.insert(node, row)?;
-            }
-        }
-        Ok(())
-    }
-
-    // The node's attributes.
-    fn tags(&self, node: Node) -> &[(Text, Text)]
-        ensures { result.now ≡ tags_of self.now node }
-    {
-        match self.tags.get(&node) {
-            Some(row) => row.as_slice(),
-            None => &[],
-        }
-    }
-
     /// What is told of a node; None where the records don't have its object.
     #[tactic(auto, using(crate::proofs::Telling::kind_told, crate::proofs::Telling::not_told))]
     pub(crate) fn shown(&self, node: Node) -> Result<Option<Shown>, AllocError>
@@ -131,7 +96,7 @@ impl Facts {
             name: self.logged.name(node.pnode)?,
             was: self.given_name(node.pnode)?,
             is_system: self.is_system(node.pnode),
-            tags: copied(self.alloc, self.tags(node))?,
+            tags: self.tags.of_node(node)?,
         }))
     }
 
@@ -199,17 +164,6 @@ fn is_below(name: &[u8], folders: &[&str]) -> bool
     folders
         .iter()
         .any(|folder| name.starts_with(folder.as_bytes()))
-}
-
-// Copies of attributes, which share their bytes.
-fn copied(alloc: Global, tags: &[(Text, Text)]) -> Result<Vec<(Text, Text)>, AllocError>
-    ensures { IfOk result (λ v. v.items ≡ tags.now) }
-{
-    let mut copy = Vec::with_capacity(alloc, tags.len())?;
-    for (attr, value) in tags {
-        copy.push((attr.clone()?, value.clone()?))?;
-    }
-    Ok(copy)
 }
 
 // The relation by which of the two ends are processes.

@@ -1,12 +1,17 @@
 //! What is written of a node.
 ghost use Rattle.std.specs.Prelude.{◌≡◌, ◌==◌, ◌++◌, IfOk, OnOk, map, option_map, string_bytes};
 ghost use Rattle.std.specs.List.{flat_map, list_all, slice_split};
-ghost use Rattle.pass_view.specs.Labels.{arguments_text, command_text, is_activity, is_in_plain_range, is_plain_byte, is_plain_sign, is_plain_word, label_text, name_text, next_word, quoted_byte, shell_word, spaced, title_of, value_among, word_bytes};
+ghost use Rattle.pass_view.specs.Labels.{arguments_text, attribute_text, command_text, is_activity, is_in_plain_range, is_plain_byte, is_plain_sign, is_plain_word, label_text, name_text, next_word, quoted_byte, shell_word, shortened, shown_byte, spaced, title_of, value_among, word_bytes};
 
 use crate::picture::Shown;
 use pass_entry::{Kind, Text};
 use percent_encoding::{percent_decode, percent_encode_byte};
 use std::alloc::{AllocError, Global};
+
+/// How many bytes of an attribute's value a label has, and how many of a longer one.
+const VALUE: usize = 100;
+
+const FRONT: usize = 97;
 
 /// The text as a string: its bytes are ASCII.
 #[tactic(auto, using(crate::proofs::Ascii::line_utf8))]
@@ -65,19 +70,25 @@ fn are_plain(bytes: &[u8]) -> bool
     bytes.iter().all(|byte| is_plain_byte(*byte))
 }
 
-// A byte between single quotes.
 #[tactic(auto, using(crate::proofs::Ascii::low))]
+fn push_shown_byte(out: &mut String, byte: u8) -> Result<(), AllocError>
+    ensures { OnOk result (string_bytes out.new ≡ string_bytes out.old ++ shown_byte byte) }
+{
+    if (b' '..=b'~').contains(&byte) {
+        out.push(char::from(byte))
+    } else {
+        out.push_str(percent_encode_byte(byte))
+    }
+}
+
+// A byte between single quotes.
 fn push_byte(out: &mut String, byte: u8) -> Result<(), AllocError>
     ensures { OnOk result (string_bytes out.new ≡ string_bytes out.old ++ quoted_byte byte) }
 {
     if byte == b'\'' {
         return out.push_str("'\\''");
     }
-    if (b' '..=b'~').contains(&byte) {
-        out.push(char::from(byte))
-    } else {
-        out.push_str(percent_encode_byte(byte))
-    }
+    push_shown_byte(out, byte)
 }
 
 fn push_bytes(out: &mut String, bytes: &[u8]) -> Result<(), AllocError>
@@ -213,6 +224,36 @@ pub(crate) fn title(alloc: Global, shown: &Shown) -> Result<String, AllocError>
         push_name(&mut text, shown.name.as_ref(), shown.was.as_ref())?;
     }
     Ok(text)
+}
+
+/// An attribute, and the front of its value.
+pub(crate) fn attribute(alloc: Global, attr: &Text, value: &Text) -> Result<String, AllocError>
+    ensures { IfOk result (λ text. string_bytes text ≡ attribute_text (attr.now, value.now)) }
+{
+    let bytes = word_bytes(alloc, value.as_bytes())?;
+    let mut text = String::from_str(alloc, str_of(attr))?;
+    text.push_str(" ")?;
+    push_shortened(&mut text, &bytes)?;
+    Ok(text)
+}
+
+fn push_shortened(out: &mut String, bytes: &[u8]) -> Result<(), AllocError>
+    ensures { OnOk result (string_bytes out.new ≡ string_bytes out.old ++ shortened bytes.now) }
+{
+    if bytes.len() <= VALUE {
+        return push_shown(out, bytes);
+    }
+    push_shown(out, &bytes[..FRONT])?;
+    out.push_str("...")
+}
+
+fn push_shown(out: &mut String, bytes: &[u8]) -> Result<(), AllocError>
+    ensures { OnOk result (string_bytes out.new ≡ string_bytes out.old ++ flat_map shown_byte bytes.now) }
+{
+    for byte in bytes {
+        push_shown_byte(out, *byte)?;
+    }
+    Ok(())
 }
 
 /// The node's number and kind, and its title.

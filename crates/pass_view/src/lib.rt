@@ -15,6 +15,7 @@ mod labels;
 mod picture;
 mod provs;
 mod selecting;
+mod tags;
 mod texts;
 
 pub use dots::{dot, plain};
@@ -23,4 +24,5 @@ pub use labels::str_of;
 pub use picture::{Link, Relation, Shown, View};
 pub use provs::prov;
 pub use selecting::select;
+pub use tags::Tags;
 pub use texts::{Form, view_text};

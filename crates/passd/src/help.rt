@@ -19,7 +19,8 @@ pub const HELP: &str = "passd DIR COMMAND: a file store that records which data 
   --replay                 with run, without --workers: makes each call where its line stands, or as soon behind it as it is ready
   --workers N              with run and gen: 1 to 64 threads (4 if not given)
   --json                   with ancestors, descendants, inputs, outputs, path, named and match
-  --names                  with ancestors, descendants and path: tells the kind and the name of each node
+  --names                  with ancestors, descendants and path: tells of each node its kind, its name or what it ran, or
+                           the attributes of an app object
   --data                   with inputs and outputs: only flows of data count
   --plain                  with inputs and outputs: leaves out the programs and libraries of the system
 

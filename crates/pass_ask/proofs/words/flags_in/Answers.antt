@@ -1,16 +1,12 @@
-use Rattle.std.proofs.Common.{◌≡◌, ◌∙◌, Bool, sym, ap, List}
-use Rattle.std.specs.Prelude.{Option, codes, option_map}
-use Rattle.std.specs.Borrow.{Bor}
+use Rattle.std.proofs.Common.{◌∙◌, Bool, sym}
+use Rattle.std.specs.Prelude.{codes}
 use Rattle.clap.proofs.WalkLemmas.{first_value-rows}
 use Rattle.clap.specs.Matches.{found_of}
 use Rattle.clap.specs.Walk.{rows_of}
-use Rattle.pass_ask.specs.Words.{Text, is_set}
+use Rattle.pass_ask.specs.Words.{is_set}
 use Rattle.pass_ask.specs.declared.telling.Flags.{Flags}
-use Rattle.pass_ask.proofs.TakenWords.{flags_as}
+use Rattle.pass_ask.proofs.TakenWords.{flags_as, text_in}
 use Rattle.pass_ask.proofs.words.flags_in.Goals as goal
-
-abbrev text_in : Option (Bor Text) → Option Text
-text_in o = option_map (λ s. s.now) o
 
 abbrev flags_of : Bool → Bool → Bool → Flags
 flags_of names flows plain = record { names = names; flows = flows; plain = plain }

@@ -1,17 +1,13 @@
 use Rattle.std.proofs.Common.{◌≡◌, ◌∙◌, true, sym, ap, subst, List}
-use Rattle.std.specs.Prelude.{Option, Some, codes, option_map}
-use Rattle.std.specs.Borrow.{Bor}
+use Rattle.std.specs.Prelude.{Option, Some, codes}
 use Rattle.clap.proofs.WalkLemmas.{first_value-rows}
 use Rattle.clap.specs.Matches.{found_of}
 use Rattle.clap.specs.Walk.{Row, first_of, rows_of}
 use Rattle.pass_ask.specs.Telling.{tells}
 use Rattle.pass_ask.specs.Words.{Reads, Text, flags_in, told_found}
 use Rattle.pass_ask.specs.declared.words.Command.{Command}
-use Rattle.pass_ask.proofs.TakenWords.{taken_none, taken_other, taken_told}
+use Rattle.pass_ask.proofs.TakenWords.{taken_none, taken_other, taken_told, text_in}
 use Rattle.pass_ask.proofs.words.taken.Goals as goal
-
-abbrev text_in : Option (Bor Text) → Option Text
-text_in o = option_map (λ s. s.now) o
 
 pub returns-in_default-clause-command : goal.returns-in_default-clause-command
 returns-in_default-clause-command c =

@@ -1,19 +1,12 @@
 use Rattle.std.proofs.Common.{◌∙◌, Bool, sym, ap, subst, List, []}
-use Rattle.std.specs.Prelude.{Option, codes, map, option_map, unwrap_or}
-use Rattle.std.specs.Borrow.{Bor}
+use Rattle.std.specs.Prelude.{Option, codes, map, unwrap_or}
 use Rattle.clap.proofs.WalkLemmas.{first_value-rows, raw_values-rows}
 use Rattle.clap.specs.Matches.{found_of}
 use Rattle.clap.specs.Walk.{rows_of}
 use Rattle.pass_ask.specs.Words.{Reads, Text, is_set, told_in}
 use Rattle.pass_ask.specs.declared.words.Command.{Command}
-use Rattle.pass_ask.proofs.TakenWords.{told_as}
+use Rattle.pass_ask.proofs.TakenWords.{text_in, texts_in, told_as}
 use Rattle.pass_ask.proofs.words.told_found.Goals as goal
-
-abbrev text_in : Option (Bor Text) → Option Text
-text_in o = option_map (λ s. s.now) o
-
-abbrev texts_in : Option (Bor (List (Bor Text))) → Option (List Text)
-texts_in o = option_map (λ s. map (λ v. v.now) s.now) o
 
 pub returns-in-Some-clause-command : goal.returns-in-Some-clause-command
 returns-in-Some-clause-command c =

@@ -1,6 +1,6 @@
-use Rattle.std.proofs.Common.{◌++◌, arith, ap, ◌∙◌}
+use Rattle.std.proofs.Common.{◌++◌, arith}
 use Rattle.pass_view.specs.Dots.{lines_from}
-use Rattle.pass_view.proofs.Lines.{byte_comes, lines_closed}
+use Rattle.pass_view.proofs.Lines.{lines_closed}
 use Rattle.pass_view.proofs.dots.push_lines.Goals as goal
 
 pub returns : goal.returns

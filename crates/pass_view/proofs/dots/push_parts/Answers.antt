@@ -1,12 +1,11 @@
-use Rattle.std.proofs.Common.{◌∙◌, ◌++◌, ap, not}
+use Rattle.std.proofs.Common.{◌∙◌, ◌++◌, ap}
 use Rattle.std.specs.List.{flat_map}
 use Rattle.std.proofs.lemmas.Result.{on_ok_weaker}
-use Rattle.pass_view.specs.Dots.{edge_line, line_if}
-use Rattle.pass_view.specs.declared.picture.Shown.{Shown}
+use Rattle.pass_view.specs.Dots.{edge_line, other_lines}
 use Rattle.pass_view.proofs.dots.push_parts.Goals as goal
 
 pub returns : goal.returns
 returns c = on_ok_weaker c.push_edges.result (λ wrote.
     wrote ∙ ap (λ xs. xs ++ flat_map edge_line c.args.edges.now)
-    (c.in_ok-push_others.ensures ∙ ap (λ xs. xs ++ flat_map (λ (s : Shown). line_if (not s.is_system) s) c.args.nodes.now) c.in_ok-push_boxes.ensures))
+    (c.in_ok-push_others.ensures ∙ ap (λ xs. xs ++ other_lines c.args.nodes.now) c.in_ok-push_boxes.ensures))
     c.push_edges.ensures

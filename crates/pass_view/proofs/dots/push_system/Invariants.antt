@@ -1,7 +1,6 @@
 use Rattle.std.proofs.Common.{◌≡◌, ◌++◌, take}
-use Rattle.std.specs.List.{flat_map}
-use Rattle.pass_view.specs.Dots.{line_if}
+use Rattle.pass_view.specs.Dots.{system_lines}
 use Rattle.pass_view.proofs.dots.push_system.Given as goal
 
 abbrev pub invariant-loop-shown : goal.invariant-loop-shown
-invariant-loop-shown l = l.out.items ≡ l.initial.out.items ++ flat_map (λ s. line_if s.is_system s) (take l.shown-index l.nodes)
+invariant-loop-shown l = l.out.items ≡ l.initial.out.items ++ system_lines (take l.shown-index l.nodes)

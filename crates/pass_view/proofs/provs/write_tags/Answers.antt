@@ -1,10 +1,11 @@
 use Rattle.std.proofs.Common.{ℕ, ap, arith, refl, sym, ◌∙◌, List, [], ◌∷◌, ◌++◌}
 use Rattle.std.specs.Prelude.{codes}
 use Rattle.std.proofs.lemmas.Result.{on_ok_weaker}
+use Rattle.json.specs.Json as json
 use Rattle.json.specs.Token.{begin_array, end_array, key, string}
 use Rattle.pass_view.specs.Provs.{tag_text}
 use Rattle.pass_view.proofs.Adding.{item_comes, items_closed, same_added}
-use Rattle.pass_view.proofs.Members.{tags_are}
+use Rattle.pass_view.proofs.Members.{items_are}
 use Rattle.pass_view.proofs.provs.write_tags.Goals as goal
 
 pub loop-attr-init : goal.loop-attr-init
@@ -18,7 +19,7 @@ loop-attr-preserved c =
 
 pub returns : goal.returns
 returns c = on_ok_weaker c.end_array.result (λ wrote.
-    same_added c.args.out.now c.end_array.new.self _ _ (ap (λ ts. key (codes "pass:attributes") ∷ begin_array ∷ ts) (sym (tags_are c.args.tags.now)))
+    same_added c.args.out.now c.end_array.new.self _ _ (ap (λ ts. key (codes "pass:attributes") ∷ begin_array ∷ ts) (sym (items_are (λ (t : List ℕ × List ℕ). json.string (tag_text t)) c.args.tags.now)))
     (items_closed (λ (t : List ℕ × List ℕ). string (tag_text t) ∷ []) c.begin_list.new.out c.args.tags.now c.args.out.now c.loop-attr.out c.end_array.new.self
     (key (codes "pass:attributes") ∷ begin_array ∷ []) end_array c.loop-attr.attr-index (omega (arith, c.loop-attr-test.false))
     c.in_ok-begin_list.ensures c.loop-attr.invariant (wrote, c.end_array.ensures.room.0))) c.end_array.ensures.ok

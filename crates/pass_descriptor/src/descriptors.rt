@@ -27,10 +27,11 @@ impl Run<'_> {
         Ok(())
     }
 
-    // The position of an opening that no call of the run made isn't known.
+    // The position of an opening that no call of the run made isn't known, nor whether it appends.
     fn float(&mut self, opening: usize) {
         if let Some(opening) = self.openings.get_mut(opening) {
             opening.floats = true;
+            opening.may_append = true;
         }
     }
 

@@ -397,11 +397,15 @@ impl Run<'_> {
             let path = self.path_of(process, parts, place, below, true)?;
             return self.note_absent(&path);
         }
-        let told = place.saturating_add(1);
-        if parts.has(3, b"AT_EMPTY_PATH") && parts.is_answered() {
+        let (flags, told) = if parts.name == b"statx".as_slice() {
+            (2, 4)
+        } else {
+            (3, place.saturating_add(1))
+        };
+        if parts.has(flags, b"AT_EMPTY_PATH") && parts.is_answered() {
             return self.measure(process, parts, told);
         }
-        let is_own = parts.name == b"lstat".as_slice() || parts.has(3, b"AT_SYMLINK_NOFOLLOW");
+        let is_own = parts.name == b"lstat".as_slice() || parts.has(flags, b"AT_SYMLINK_NOFOLLOW");
         if !parts.is_answered() || !is_own {
             return Ok(());
         }
@@ -418,7 +422,8 @@ impl Run<'_> {
 
     /// The size of the file of a descriptor is told at a place.
     pub fn measure(&mut self, process: &mut Process, parts: &Parts<'_>, told: usize) -> Taken {
-        let size = number_of_field(parts.word(told), b"st_size");
+        let word = parts.word(told);
+        let size = number_of_field(word, b"st_size").or(number_of_field(word, b"stx_size"));
         let (Ok(fd), Some(size), true) = (parts.fd(0), size, parts.has(told, b"S_IFREG")) else {
             return Ok(());
         };

@@ -440,6 +440,7 @@ impl Run<'_> {
         if let Some(held) = self.held(process, fd)? {
             if let Some(opening) = self.openings.get_mut(held.opening) {
                 opening.appends = appends;
+                opening.may_append = false;
             }
         }
         Ok(())

@@ -33,15 +33,18 @@ pub struct Opening {
     /// Its position isn't known, since no call of the run opened it.
     pub floats: bool,
     pub appends: bool,
+    /// Whether it appends isn't known, for the same reason.
+    pub may_append: bool,
     pub mode: Mode,
 }
 
-/// What an earlier reading of a run has shown: the files that are left out, since there are too many, and those of which the run as a
-/// whole shows all bytes that it used.
+/// What an earlier reading of a run has shown: the files that are left out, since there are too many, those of which the run as a whole
+/// shows all bytes that it used, and those that no longer ended where the store's do.
 #[derive(Drop)]
 pub struct Known {
     pub left_out: BTreeSet<usize>,
     pub shown: BTreeSet<usize>,
+    pub changed: BTreeSet<usize>,
 }
 
 impl Known {
@@ -49,11 +52,12 @@ impl Known {
         Known {
             left_out: BTreeSet::new(alloc),
             shown: BTreeSet::new(alloc),
+            changed: BTreeSet::new(alloc),
         }
     }
 
     pub fn is_empty(&self) -> bool {
-        self.left_out.is_empty() && self.shown.is_empty()
+        self.left_out.is_empty() && self.shown.is_empty() && self.changed.is_empty()
     }
 }
 
@@ -324,10 +328,11 @@ impl<'a> Run<'a> {
     pub(crate) fn add_before(&mut self, path: &[u8]) -> Result<usize, LineFault> {
         let shown = self.shown(path)?;
         let stored = self.setting.stored.named(shown.name.as_bytes());
-        let kept = stored.map(|stored| (stored.size, !stored.unseen));
+        let kept = stored.map(|stored| (stored.size, !stored.unseen, stored.ends));
         let place = self.files.add(self.alloc, shown, Origin::Before)?;
-        if let (Some((size, is_seen)), Some(file)) = (kept, self.files.get_mut(place)) {
-            file.keep(size, is_seen);
+        let is_changed = self.setting.known.changed.contains(&place);
+        if let (Some((size, is_seen, ends)), Some(file)) = (kept, self.files.get_mut(place)) {
+            file.keep(size, is_seen && !is_changed, ends);
         }
         Ok(place)
     }
@@ -358,6 +363,7 @@ impl<'a> Run<'a> {
             at: 0,
             floats: false,
             appends: false,
+            may_append: false,
             mode,
         })?;
         Ok(place)

@@ -1,5 +1,6 @@
 //! The files of a run: their names, and what was in them before it.
 
+use crate::endings::Ending;
 use crate::images::Image;
 use crate::overlaps::Touches;
 use pass_entry::{FILE_LIMIT, Text};
@@ -38,6 +39,8 @@ pub struct File {
     pub size: u64,
     /// The size that it has in the store, which has its bytes.
     kept: Option<u64>,
+    /// Where it ends of which the store may have a front.
+    ends: Ending,
     /// How far it was mapped into memory by programs, where no call tells its bytes.
     mapped: u64,
     /// The run wrote to it.
@@ -100,6 +103,7 @@ impl File {
             image: Image::new(alloc),
             size: 0,
             kept: None,
+            ends: Ending::Here,
             mapped: 0,
             written: false,
             unseen: false,
@@ -111,10 +115,14 @@ impl File {
         })
     }
 
-    /// The store has it with this size, and with its bytes or not.
-    pub fn keep(&mut self, size: u64, is_seen: bool) {
-        self.size = size;
+    /// The store has it with this size, and with its bytes or not; it may go on behind that.
+    pub fn keep(&mut self, size: u64, is_seen: bool, ends: Ending) {
+        self.size = match ends {
+            Ending::Behind(size) => size.min(FILE_LIMIT),
+            Ending::Here | Ending::Unknown => size,
+        };
         self.kept = is_seen.then_some(size);
+        self.ends = ends;
     }
 
     /// A call tells its size.
@@ -142,12 +150,20 @@ impl File {
 
     /// Whether it has bytes from before the run that neither the text shows nor the store has.
     pub fn hides(&self) -> bool {
-        let is_kept = match (self.kept, self.image.told()) {
-            (Some(size), Some(told)) => size == told,
-            (Some(_), None) => true,
-            (None, _) => false,
+        let is_kept = match self.kept {
+            Some(size) => self.image.is_kept(size, self.ends),
+            None => false,
         };
         self.origin == Origin::Before && !is_kept && self.image.hides(FILE_LIMIT)
+    }
+
+    /// Whether the run wrote to it by where the store's ends, and shows that it ended elsewhere.
+    pub fn has_moved(&self) -> bool {
+        let ended_there = match self.kept {
+            Some(size) => self.image.is_kept(size, self.ends),
+            None => true,
+        };
+        self.written && !self.unseen && !ended_there
     }
 
     /// So many bytes were read of it, of which the text shows these.
@@ -164,8 +180,28 @@ impl File {
         if self.origin == Origin::Before {
             let bytes = Vec::from_slice(alloc, bytes)?;
             self.image.read(at, count, bytes, short)?;
+            self.settle();
         }
         Ok(())
+    }
+
+    // It ended where a read met its end, as long as the run hasn't changed it.
+    fn settle(&mut self) {
+        if self.writes == 0 {
+            self.size = match self.image.size() {
+                Some(size) => size.min(FILE_LIMIT),
+                None => self.size,
+            };
+        }
+    }
+
+    /// Where it ended before the run, by the end of a store's file of this size; None where the run cut it, or was given it as a
+    /// descriptor.
+    pub fn ending(&self, size: u64) -> Option<Ending> {
+        if self.first.path.as_slice().starts_with(b"\0") {
+            return None;
+        }
+        self.image.ending(size)
     }
 
     // It goes as far as a call moved bytes; one that moved none tells of none.
@@ -186,9 +222,9 @@ impl File {
         self.origin == Origin::Before && self.image.told() == Some(place)
     }
 
-    /// Whether it is known to have no bytes.
-    pub fn is_empty(&self) -> bool {
-        self.size == 0 && self.has_end()
+    /// Whether it is known to end at a place by now.
+    pub fn ends_at(&self, place: u64) -> bool {
+        self.size == place && self.has_end()
     }
 
     pub fn write(&mut self, at: u64, count: u64) -> Result<(), AllocError> {

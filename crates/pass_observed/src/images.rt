@@ -1,5 +1,6 @@
 //! What a run tells of the bytes that were in a file before it.
 
+use crate::endings::Ending;
 use pass_entry::{BLOCK_SIZE, FILE_LIMIT};
 use std::alloc::{AllocError, Global};
 
@@ -19,8 +20,10 @@ pub struct Image {
     known: u64,
     /// The least size that the file was cut to.
     cut: u64,
-    /// How far the run wrote, and where a read met the end of what was there before.
+    /// How far the run wrote, and from where on it wrote all bytes up to there.
     grown: u64,
+    own: u64,
+    /// Where a read met the end of what was there before.
     end: Option<u64>,
     /// Where it ended, as a call tells that moves no bytes.
     told: Option<u64>,
@@ -33,7 +36,6 @@ pub struct Image {
 pub struct Before {
     pub bytes: Vec<u8>,
     seen: Vec<bool>,
-    pub end: Option<u64>,
     /// Where they ended at most.
     pub most: u64,
 }
@@ -46,6 +48,7 @@ impl Image {
             known: 0,
             cut: FILE_LIMIT,
             grown: 0,
+            own: 0,
             end: None,
             told: None,
             most: FILE_LIMIT,
@@ -74,7 +77,10 @@ impl Image {
         if is_end {
             self.end = Some(end);
         }
-        self.reached = self.reached.max(end);
+        let old = self.old_end(end);
+        if at < old {
+            self.reached = self.reached.max(old);
+        }
         let shown = at.saturating_add(bytes.len() as u64);
         if at <= self.known {
             self.known = self.known.max(shown);
@@ -85,13 +91,35 @@ impl Image {
         Ok(())
     }
 
+    // Where those bytes end that were there before, of some that end at a place.
+    fn old_end(&self, place: u64) -> u64 {
+        let old = match self.size() {
+            Some(size) if size < self.grown => place.min(size),
+            _ => place,
+        };
+        if self.own < place && place <= self.grown {
+            old.min(self.own)
+        } else {
+            old
+        }
+    }
+
+    // The run writes a range: the bytes that it wrote last without a gap may begin there.
+    fn grow(&mut self, at: u64, end: u64) {
+        let is_apart = self.grown < at || self.grown == self.own;
+        if is_apart || (at < self.own && self.own <= end) {
+            self.own = at;
+        }
+        self.grown = self.grown.max(end);
+    }
+
     pub fn write(&mut self, at: u64, count: u64) -> Result<(), AllocError> {
         let end = at.saturating_add(count).min(FILE_LIMIT);
         if at < end {
             if at <= self.known {
                 self.known = self.known.max(end);
             }
-            self.grown = self.grown.max(end);
+            self.grow(at, end);
             self.tellings.push(Telling::Written { at, end })?;
         }
         Ok(())
@@ -104,7 +132,7 @@ impl Image {
     /// It had so many bytes, where the run hasn't changed that yet.
     pub fn measure(&mut self, size: u64) {
         if self.grown == 0 && self.cut == FILE_LIMIT {
-            self.told = Some(size.min(FILE_LIMIT));
+            self.told = Some(size);
         }
     }
 
@@ -116,6 +144,45 @@ impl Image {
     /// Where it ended before the run, as far as a call tells that.
     pub(crate) fn told(&self) -> Option<u64> {
         self.told
+    }
+
+    /// How many bytes it had before the run, as far as that is known.
+    pub(crate) fn size(&self) -> Option<u64> {
+        match self.told_size() {
+            Some(size) if self.reached <= size => Some(size),
+            _ => None,
+        }
+    }
+
+    // How many it had when a call told that.
+    fn told_size(&self) -> Option<u64> {
+        match (self.end, self.told) {
+            (Some(end), Some(told)) => Some(end.max(told)),
+            (Some(size), None) | (None, Some(size)) => Some(size),
+            (None, None) => None,
+        }
+    }
+
+    /// Whether a store's file of this size, of which a front of the file before the run may be left, has all bytes that are left of it.
+    pub(crate) fn is_kept(&self, size: u64, ends: Ending) -> bool {
+        match self.size() {
+            Some(known) => known == size,
+            None => {
+                let may_end_there = self.reached <= size && size <= self.most;
+                may_end_there && (ends == Ending::Here || self.cut <= size)
+            }
+        }
+    }
+
+    /// Where it ended before the run, by the end of a store's file of this size; None where the run cut it.
+    pub(crate) fn ending(&self, size: u64) -> Option<Ending> {
+        if self.cut < FILE_LIMIT {
+            return None;
+        }
+        match self.size() {
+            Some(known) => Some(Ending::of(known, size)),
+            None => Some(Ending::Unknown),
+        }
     }
 
     /// Whether it may have bytes up to a place that were neither shown, nor written nor cut off by the run.
@@ -135,11 +202,10 @@ impl Image {
     /// The bytes as they were before the run: those that it read before it wrote over them.
     pub fn before(&self, alloc: Global) -> Result<Before, AllocError> {
         let len = self.reached as usize;
-        let most = self.end.or(self.told).unwrap_or(self.most);
+        let most = self.told_size().unwrap_or(self.most);
         let mut before = Before {
             bytes: vec![in alloc; 0u8; len]?,
             seen: vec![in alloc; false; len]?,
-            end: self.end,
             most: most.max(self.reached),
         };
         let mut over = vec![in alloc; false; len]?;

@@ -4,6 +4,7 @@
 #![tactic(auto)]
 
 mod devices;
+mod endings;
 mod files;
 mod images;
 mod ledger;
@@ -17,6 +18,7 @@ mod stored;
 mod survey;
 
 pub use devices::{outside, own_descriptor};
+pub use endings::Ending;
 pub use files::{File, Files, Named, Origin, Shown};
 pub use images::{Before, Image};
 pub use ledger::{Ledger, Skipped, Told};
@@ -26,7 +28,8 @@ pub use paths::{Links, below, joined, split_last};
 pub use pipes::{Pipe, Pipes, Taking};
 pub use processes::{Held, Mapping, Process, Range, Slot};
 pub use spelling::{
-    ATTRIBUTE, UNKNOWN, given_name, line_of, name_of, spelled, text_of, unspelled, word_spelling,
+    ATTRIBUTE, SIZE, UNKNOWN, given_name, line_of, name_of, spelled, text_of, unspelled,
+    word_spelling,
 };
 pub use stored::{Stored, StoredFile};
 pub use survey::Survey;

@@ -45,6 +45,9 @@ pub fn unspelled(alloc: Global, spelling: &[u8]) -> Result<Option<Vec<u8>>, Allo
 /// The attribute of a version whose bytes the text doesn't show.
 pub const ATTRIBUTE: &str = "BYTES";
 
+/// The attribute of a version where its file doesn't end, with the size that the file had.
+pub const SIZE: &str = "SIZE";
+
 pub const UNKNOWN: &str = "unknown";
 
 /// No byte is spelled `%:`, which no other word is.

@@ -1,7 +1,9 @@
 //! The files that a store has before a run is recorded in it.
 
-use crate::spelling::{ATTRIBUTE, UNKNOWN};
+use crate::endings::Ending;
+use crate::spelling::{ATTRIBUTE, SIZE, UNKNOWN};
 use pass_entry::{BLOCK_SIZE, KIND_LIMIT, Kind, Record};
+use pass_syscall::number_among;
 use std::alloc::{AllocError, Global};
 use std::collections::BTreeMap;
 
@@ -22,6 +24,8 @@ pub struct StoredFile {
     pub size: u64,
     /// It has bytes that no text showed.
     pub unseen: bool,
+    /// Where the file ends of which it may be a front.
+    pub ends: Ending,
     digests: BTreeMap<u32, [u8; 16]>,
 }
 
@@ -31,6 +35,7 @@ impl StoredFile {
             name: Vec::new(alloc),
             size: 0,
             unseen: false,
+            ends: Ending::Here,
             digests: BTreeMap::new(alloc),
         }
     }
@@ -42,7 +47,23 @@ impl StoredFile {
             self.digests.retain(|block, _| u64::from(*block) < blocks);
         }
         self.unseen = self.unseen && size > 0;
+        self.ends = self.ends.resized(self.size, size);
         self.size = size;
+    }
+
+    // An attribute of its current version.
+    fn take(&mut self, attr: &[u8], value: &[u8]) {
+        let is_unknown = value == UNKNOWN.as_bytes();
+        if attr == ATTRIBUTE.as_bytes() && is_unknown {
+            self.unseen = true;
+        }
+        if attr == SIZE.as_bytes() {
+            match number_among(value) {
+                Some(size) => self.ends = Ending::of(size, self.size),
+                None if is_unknown => self.ends = Ending::Unknown,
+                None => {}
+            }
+        }
     }
 
     /// The digest of a block within its size.
@@ -101,10 +122,8 @@ impl Stored {
                 }
             }
             Record::Attr { node, attr, value } => {
-                let is_unseen = attr.as_bytes() == ATTRIBUTE.as_bytes()
-                    && value.as_bytes() == UNKNOWN.as_bytes();
-                if let (Some(file), true) = (self.files.get_mut(&node.pnode.0), is_unseen) {
-                    file.unseen = true;
+                if let Some(file) = self.files.get_mut(&node.pnode.0) {
+                    file.take(attr.as_bytes(), value.as_bytes());
                 }
             }
             Record::Input { .. } | Record::Version { .. } | Record::Ceiling { .. } => {}

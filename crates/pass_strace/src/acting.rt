@@ -14,6 +14,15 @@ use pass_transfer::{
 use std::alloc::Global;
 use std::collections::BTreeMap;
 
+/// What a trace says of a process that waited for a child.
+#[derive(Clone, Copy, PartialEq, Eq)]
+pub enum Waits {
+    /// That no data flowed: `await`.
+    Quiet,
+    /// That the process took from the child: `wait`.
+    Flow,
+}
+
 #[derive(Drop)]
 pub(crate) struct Tracing<'a> {
     processes: Vec<Process>,
@@ -21,16 +30,32 @@ pub(crate) struct Tracing<'a> {
     pids: BTreeMap<u32, usize>,
     pids_ever: BTreeMap<u32, usize>,
     survey: &'a Survey,
+    waits: Waits,
     pub(crate) run: Run<'a>,
 }
 
+impl Waits {
+    fn command(self, child: u32) -> Command {
+        match self {
+            Waits::Quiet => Command::Await { child },
+            Waits::Flow => Command::Wait { child },
+        }
+    }
+}
+
 impl<'a> Tracing<'a> {
-    pub(crate) fn new(alloc: Global, survey: &'a Survey, setting: Setting<'a>) -> Tracing<'a> {
+    pub(crate) fn new(
+        alloc: Global,
+        survey: &'a Survey,
+        setting: Setting<'a>,
+        waits: Waits,
+    ) -> Tracing<'a> {
         Tracing {
             processes: Vec::new(alloc),
             pids: BTreeMap::new(alloc),
             pids_ever: BTreeMap::new(alloc),
             survey,
+            waits,
             run: Run::new(alloc, setting),
         }
     }
@@ -233,10 +258,13 @@ impl<'a> Tracing<'a> {
     // Waits for a child, whose parent hasn't waited for it yet.
     fn wait_child(&mut self, who: usize, pid: u32) -> Taken {
         match self.child_of(who, pid) {
-            Some(child) => match self.processes.get(who) {
-                Some(process) => self.run.say(process, Command::Wait { child }),
-                None => Ok(()),
-            },
+            Some(child) => {
+                let waited = self.waits.command(child);
+                match self.processes.get(who) {
+                    Some(process) => self.run.say(process, waited),
+                    None => Ok(()),
+                }
+            }
             None => self.run.skip(Skip::Child),
         }
     }

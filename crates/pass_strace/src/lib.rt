@@ -13,6 +13,7 @@ mod fault;
 mod telling;
 mod translating;
 
+pub use acting::Waits;
 pub use facts::Fact;
 pub use fault::{Refusal, TranslationFault};
 pub use pass_descriptor::Program;

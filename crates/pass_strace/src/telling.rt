@@ -4,9 +4,9 @@ use md5::{Digest, Md5};
 use pass_descriptor::Output;
 use pass_entry::{BLOCK_SIZE, Mode};
 use pass_observed::{
-    ATTRIBUTE, Before, File, Ledger, Origin, Stored, StoredFile, UNKNOWN, text_of,
+    ATTRIBUTE, Before, Ending, File, Ledger, Origin, SIZE, Stored, StoredFile, UNKNOWN, text_of,
 };
-use pass_syscall::{BAD, LineFault, Skip};
+use pass_syscall::{BAD, LineFault, Skip, Taken};
 use pass_trace::Command;
 use pass_transfer::payload_of;
 use std::alloc::{AllocError, Global};
@@ -49,7 +49,30 @@ impl Telling<'_> {
         if !before.is_whole() || file.is_seen_in_memory() {
             self.tag(file)?;
         }
+        self.say_more(file, before)?;
         Ok(self.say(Command::Close { fd: 0 })?)
+    }
+
+    // The version of a file of which process 1 has made a front says how long the file was.
+    fn say_more(&mut self, file: &File, before: &Before) -> Taken {
+        let kept = before.bytes.len() as u64;
+        match file.ending(kept) {
+            Some(Ending::Here) | None => Ok(()),
+            Some(ending) => self.say_ending(ending, kept),
+        }
+    }
+
+    // The version, with so many bytes, says where its file ended.
+    fn say_ending(&mut self, ending: Ending, kept: u64) -> Taken {
+        let alloc = self.alloc;
+        let value = match ending {
+            Ending::Here => text_of(alloc, format!(in alloc; "{kept}")?.as_bytes())?,
+            Ending::Behind(size) => text_of(alloc, format!(in alloc; "{size}")?.as_bytes())?,
+            Ending::Unknown => text_of(alloc, UNKNOWN.as_bytes())?,
+        };
+        let value = value.ok_or(BAD)?;
+        let attr = text_of(alloc, SIZE.as_bytes())?.ok_or(BAD)?;
+        Ok(self.say(Command::Tag { fd: 0, attr, value })?)
     }
 
     // What was read goes to a file without bytes.
@@ -69,11 +92,12 @@ impl Telling<'_> {
     }
 
     // A file of which the store doesn't know all bytes, and the run shows all, is written anew.
-    fn make_again(&mut self, file: &File, before: &Before) -> Result<(), AllocError> {
+    fn make_again(&mut self, file: &File, before: &Before) -> Taken {
         self.open(file)?;
         self.say(Command::Truncate { fd: 0, size: 0 })?;
         self.fill(before)?;
-        self.say(Command::Close { fd: 0 })
+        self.say_more(file, before)?;
+        Ok(self.say(Command::Close { fd: 0 })?)
     }
 
     // Writes a block at a place from another, and answers the place behind it.
@@ -104,56 +128,91 @@ impl Telling<'_> {
         stored: &StoredFile,
     ) -> Result<(), LineFault> {
         let size = before.bytes.len() as u64;
-        let is_shorter = before.most < stored.size;
-        let is_longer = stored.size < size;
         let is_seen = before.is_whole() && !file.is_seen_in_memory();
-        let is_known = is_seen && (before.end.is_some() || stored.size <= size);
-        if stored.unseen && is_known && before.end.is_some() {
-            return Ok(self.make_again(file, before)?);
+        let is_known = is_seen && (before.most == size || stored.size <= size);
+        if stored.unseen && is_seen && before.most == size {
+            return self.make_again(file, before);
         }
-        let mut opened = self.write_changed(file, before, stored)?;
-        if is_shorter || (is_longer && !opened) {
-            if !opened {
-                self.open(file)?;
-                opened = true;
-            }
-            let size = if is_shorter { before.most } else { size };
-            self.say(Command::Truncate { fd: 0, size })?;
+        let is_changed = self.write_changes(file, before, stored)?;
+        let is_shown = is_known && !stored.unseen;
+        if is_changed && !is_shown {
+            self.tag(file)?;
         }
-        let is_shown = is_seen && !stored.unseen && (!is_shorter || before.most == size);
-        if opened {
-            if !is_shown {
-                self.tag(file)?;
-            }
+        let is_open = self.correct_ending(file, before, stored, is_changed)?;
+        if is_open {
             self.say(Command::Close { fd: 0 })?;
         }
         let is_used = 0 < size || file.is_seen_in_memory();
-        if !opened && !file.written && is_used && !is_known {
+        if !is_changed && !file.written && is_used && !is_known {
             self.ledger.tell(0, Skip::Part, file.path())?;
         }
         Ok(())
     }
 
-    // Writes the blocks that have changed. Whether there are any, so that the file is open.
-    fn write_changed(
+    // Writes what has changed, and cuts the file where it is shorter. Whether anything has, so that the file is open.
+    fn write_changes(
         &mut self,
         file: &File,
         before: &Before,
         stored: &StoredFile,
     ) -> Result<bool, AllocError> {
-        let mut place = 0;
-        let mut opened = false;
+        let size = before.bytes.len() as u64;
+        let is_shorter = before.most < stored.size;
+        let written = self.write_blocks(file, before, stored)?;
+        let is_longer = stored.size.max(written.unwrap_or(0)) < size;
+        if is_shorter || is_longer {
+            if written.is_none() {
+                self.open(file)?;
+            }
+            let size = if is_shorter { before.most } else { size };
+            self.say(Command::Truncate { fd: 0, size })?;
+        }
+        Ok(written.is_some() || is_shorter || is_longer)
+    }
+
+    // Says where the file ends that is open or not, where the store's records say otherwise. Whether it is open then.
+    fn correct_ending(
+        &mut self,
+        file: &File,
+        before: &Before,
+        stored: &StoredFile,
+        is_open: bool,
+    ) -> Result<bool, LineFault> {
+        let size = before.bytes.len() as u64;
+        let kept = stored.size.max(size).min(before.most);
+        let taken = stored.ends.resized(stored.size, kept);
+        let was_behind = matches!(stored.ends, Ending::Behind(end) if kept <= end);
+        let ending = match file.ending(kept) {
+            // Nothing tells that it has another end by now.
+            Some(Ending::Unknown) if !is_open || was_behind => return Ok(is_open),
+            Some(ending) if ending != taken => ending,
+            _ => return Ok(is_open),
+        };
+        if !is_open {
+            self.open(file)?;
+        }
+        self.say_ending(ending, kept)?;
+        Ok(true)
+    }
+
+    // Writes the blocks that have changed. The place behind the last of them, where there is one, so that the file is open.
+    fn write_blocks(
+        &mut self,
+        file: &File,
+        before: &Before,
+        stored: &StoredFile,
+    ) -> Result<Option<u64>, AllocError> {
+        let mut place = None;
         for block in 0..before.count_blocks() {
             let at = start_of(block);
             if self.has_changed(before, block, stored) {
-                if !opened {
+                if place.is_none() {
                     self.open(file)?;
-                    opened = true;
                 }
-                place = self.write(before, at, place)?;
+                place = Some(self.write(before, at, place.unwrap_or(0))?);
             }
         }
-        Ok(opened)
+        Ok(place)
     }
 
     fn open(&mut self, file: &File) -> Result<(), AllocError> {
@@ -165,10 +224,7 @@ impl Telling<'_> {
     // Whether a block isn't what the store has there. Of one that was read in part that isn't known.
     fn has_changed(&self, before: &Before, block: usize, stored: &StoredFile) -> bool {
         let at = start_of(block);
-        let size = match before.end {
-            Some(end) => end,
-            None => stored.size.max(before.bytes.len() as u64),
-        };
+        let size = stored.size.max(before.bytes.len() as u64).min(before.most);
         let len = size.saturating_sub(at as u64).min(BLOCK_SIZE) as usize;
         if !before.shows_all(at, len) {
             return false;

@@ -7,7 +7,7 @@ ghost use Rattle.pass_trace.specs.Traces.{trace_of, IsTraceText};
 ghost use Rattle.pass_strace.specs.Facts.{BeginsWith, IsTold};
 ghost use Rattle.pass_strace.specs.Translations.{count_lines, is_whole, IsInOrder};
 
-use crate::acting::Tracing;
+use crate::acting::{Tracing, Waits};
 use crate::facts::{Fact, TOLD, begins_told, fact_lines};
 use crate::fault::{Refusal, TranslationFault};
 use crate::telling::Telling;
@@ -19,12 +19,14 @@ use pass_trace::{Command, Trace, TraceFault, TraceLine, TraceReason, parse, prin
 use std::alloc::{AllocError, Global};
 use std::collections::BTreeSet;
 
-/// What a trace is for: the files that its store has, the folder below which names are relative, and what is said of the run.
+/// What a trace is for: the files that its store has, the folder below which names are relative, what is said of the run, and what a
+/// wait is.
 #[derive(Clone, Copy)]
 pub struct Request<'a> {
     pub stored: &'a Stored,
     pub root: &'a [u8],
     pub facts: &'a [Fact],
+    pub waits: Waits,
 }
 
 /// The trace of a run.
@@ -229,8 +231,9 @@ fn traced<'a>(
     steps: &[Step<'_>],
     survey: &'a Survey,
     setting: Setting<'a>,
+    waits: Waits,
 ) -> Result<Run<'a>, TranslationFault> {
-    let mut tracing = Tracing::new(alloc, survey, setting);
+    let mut tracing = Tracing::new(alloc, survey, setting, waits);
     for step in steps {
         if let Err(fault) = tracing.take(alloc, step) {
             return Err(TranslationFault::at_line(step.place, fault));
@@ -281,11 +284,23 @@ fn shown_later(alloc: Global, run: &Run<'_>) -> Result<BTreeSet<usize>, AllocErr
     Ok(shown)
 }
 
+// The files that ended elsewhere than the store's, as the run shows after it wrote to them.
+fn changed_before(alloc: Global, run: &Run<'_>) -> Result<BTreeSet<usize>, AllocError> {
+    let mut changed = BTreeSet::new(alloc);
+    for (place, file) in run.files.files.iter().enumerate() {
+        if file.has_moved() {
+            changed.insert(place)?;
+        }
+    }
+    Ok(changed)
+}
+
 // What is known of a run by a reading of all its steps.
 fn learned(alloc: Global, run: &Run<'_>) -> Result<Known, AllocError> {
     Ok(Known {
         left_out: without_room(alloc, run)?,
         shown: shown_later(alloc, run)?,
+        changed: changed_before(alloc, run)?,
     })
 }
 
@@ -320,18 +335,19 @@ fn translated_steps<'a>(
         stored,
         root,
         facts,
+        waits,
     } = request;
     let has_facts = !facts.is_empty();
     let survey = Survey::of(alloc, steps)?;
     let nothing = Known::nothing(alloc);
     let first = Setting::of(&survey, stored, root, loaders, &nothing);
-    let run = traced(alloc, steps, &survey, first)?;
+    let run = traced(alloc, steps, &survey, first, waits)?;
     let known = learned(alloc, &run)?;
     if known.is_empty() {
         return output_of(alloc, &survey, run, has_facts);
     }
     let second = Setting::of(&survey, stored, root, loaders, &known);
-    let run = traced(alloc, steps, &survey, second)?;
+    let run = traced(alloc, steps, &survey, second, waits)?;
     output_of(alloc, &survey, run, has_facts)
 }
 
@@ -346,7 +362,7 @@ fn run_programs(
     let nothing = Known::nothing(alloc);
     let loaders = Loaders::none(alloc);
     let setting = Setting::of(&survey, request.stored, request.root, &loaders, &nothing);
-    let run = traced(alloc, &steps, &survey, setting)?;
+    let run = traced(alloc, &steps, &survey, setting, request.waits)?;
     Ok(run.programs()?)
 }
 

@@ -202,20 +202,23 @@ fn room(run: &mut Run<'_>, end: End, count: u64) -> Option<u64> {
     }
 }
 
-// Where a descriptor stands that no call of the run opened isn't known, unless its file was empty or read as a whole.
+// Where a descriptor stands that no call of the run opened isn't known, unless its file was empty or read as a whole; nor whether it
+// appends, which makes no difference at the file's end.
 fn note_floating(run: &mut Run<'_>, end: End, moved: &Moved<'_>, writes: bool) -> Taken {
-    let (What::File(file), true) = (end.what, end.moves) else {
+    let What::File(file) = end.what else {
         return Ok(());
     };
     let (Some(opening), Some(one)) = (run.openings.get_mut(end.opening), run.files.get_mut(file))
     else {
         return Ok(());
     };
-    if !opening.floats || (writes && opening.appends) {
+    let may_append = writes && opening.may_append && !one.ends_at(end.at);
+    let floats = opening.floats && end.moves && !(writes && opening.appends);
+    if !floats && !may_append {
         return Ok(());
     }
     let is_whole = !writes && one.ended_at(end.at.saturating_add(moved.count));
-    if is_whole || (end.at == 0 && one.is_empty()) {
+    if is_whole || (end.at == 0 && one.ends_at(0)) {
         opening.floats = false;
         return Ok(());
     }

@@ -1,7 +1,7 @@
 //! Reads on standard input what strace wrote of a run, and writes its trace to standard output. What the trace can't say, and why
-//! there is none, goes to standard error. It is called as `passtrace [DIR] [--root FOLDER] [--loaders] [--fact NAME VALUE]..`: the
-//! trace is for the store of DIR, names below FOLDER are relative to it, programs are read for what loads them, and the run has these
-//! attributes.
+//! there is none, goes to standard error. It is called as `passtrace [DIR] [--root FOLDER] [--waits-flow] [--loaders]
+//! [--fact NAME VALUE]..`: the trace is for the store of DIR, names below FOLDER are relative to it, a process takes from a child for
+//! which it waited, programs are read for what loads them, and the run has these attributes.
 //!
 //! `pass_on` writes exactly the text that `pass_strace::translate` gives (`text`, `written`), whose lines have an origin each, in
 //! order (`lines`, `origins`, `order`), which begins with the attributes (`facts`, `told`), and nothing where there is none (`untouched`). A text that ends within a line is refused
@@ -71,6 +71,7 @@ fn pass(rt: &HostRuntime, words: &Words) -> u8 {
     let request = Wanted {
         stored: &stored,
         root: words.root(),
+        waits: words.waits,
         facts: if stored.has_room_for_app() {
             &facts
         } else {

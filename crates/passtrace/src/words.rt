@@ -1,9 +1,13 @@
-//! The words of a call: `[DIR] [--root FOLDER] [--loaders] [--fact NAME VALUE]..`.
+//! The words of a call: `[DIR] [--root FOLDER] [--waits-flow] [--loaders] [--fact NAME VALUE]..`.
 
+use pass_strace::Waits;
 use std::alloc::Global;
 
 /// The word before the folder below which names are relative.
 const ROOT: &str = "--root";
+
+/// The word by which a process takes from a child for which it waited.
+const WAITS_FLOW: &str = "--waits-flow";
 
 /// The word by which the files of programs are read for what loads them.
 const LOADERS: &str = "--loaders";
@@ -31,6 +35,7 @@ enum Next {
 pub(crate) struct Words {
     store: Option<String>,
     root: Option<String>,
+    pub(crate) waits: Waits,
     pub(crate) loaders: bool,
     pub(crate) pairs: Vec<Pair>,
 }
@@ -41,6 +46,7 @@ impl Words {
         let mut words = Words {
             store: None,
             root: None,
+            waits: Waits::Quiet,
             loaders: false,
             pairs: Vec::new(alloc),
         };
@@ -78,6 +84,10 @@ impl Words {
         }
         if word == FACT {
             return Some(Next::FactName);
+        }
+        if word == WAITS_FLOW && self.waits == Waits::Quiet {
+            self.waits = Waits::Flow;
+            return Some(Next::Any);
         }
         if word == LOADERS && !self.loaders {
             self.loaders = true;

@@ -4,12 +4,14 @@ ghost use Rattle.pass_strace.specs.declared.fault.TranslationFault.TheVariants.{
 ghost use Rattle.pass_strace.specs.declared.fault.Refusal.TheVariants.{Strace};
 ghost use Rattle.pass_syscall.specs.declared.fault.StraceReason.TheVariants.{Cut};
 ghost use Rattle.pass_trace.specs.Traces.{trace_of, IsTraceText};
+ghost use Rattle.pass_strace.specs.Calls.{KeepsCalls, lines_of};
 ghost use Rattle.pass_strace.specs.Facts.{BeginsWith, IsTold};
 ghost use Rattle.pass_strace.specs.Translations.{count_lines, is_whole, IsInOrder};
 
 use crate::acting::{Tracing, Waits};
 use crate::facts::{Fact, TOLD, begins_told, fact_lines};
 use crate::fault::{Refusal, TranslationFault};
+use crate::keeping::keeps_text;
 use crate::telling::Telling;
 use pass_descriptor::{Known, Output, Program, Run, Setting};
 use pass_entry::KIND_LIMIT;
@@ -183,6 +185,7 @@ fn checked(
     ensures lines { IfOk result (λ t. t.lines.items ≡ trace_of t.text.items) }
     ensures origins { IfOk result (λ t. length t.origins.items ≡ length t.lines.items) }
     ensures order { IfOk result (λ t. IsInOrder t.origins.items (count_lines source.now)) }
+    ensures kept { IfOk result (λ t. KeepsCalls (lines_of source.now) t.origins.items t.skipped.items) }
     ensures facts { IfOk result (λ t. BeginsWith facts.now t.text.items) }
     ensures told { IfOk result (λ t. IsTold facts.now t.lines.items) }
 {
@@ -193,6 +196,9 @@ fn checked(
     let lines = read_again(alloc, &text, &origins)?;
     let count = count_lines(source) as u64;
     if lines.len() != origins.len() || !are_in_order(&origins, count) || !is_told(facts, &lines) {
+        return Err(refused(&origins, 1, TraceReason::Process));
+    }
+    if !keeps_text(alloc, source, &origins, &skipped)? {
         return Err(refused(&origins, 1, TraceReason::Process));
     }
     Ok(Translated {
@@ -399,6 +405,9 @@ pub fn translate<'a>(
     // They stand in the order of the lines of strace from which they come.
     ensures origins { IfOk result (λ t. length t.origins.items ≡ length t.lines.items) }
     ensures order { IfOk result (λ t. IsInOrder t.origins.items (count_lines text.now)) }
+    // No answered call that reads, writes, opens, closes, doubles, forks or execs is lost: a line of the trace comes from its line, or
+    // that is among those that are left out. Of a call in two lines it is one of these.
+    ensures kept { IfOk result (λ t. KeepsCalls (lines_of text.now) t.origins.items t.skipped.items) }
     // In front are the facts, spelled as they were given, and the run's first process begins by reading of them.
     ensures facts { IfOk result (λ t. BeginsWith request.entry.facts.now t.text.items) }
     ensures told { IfOk result (λ t. IsTold request.entry.facts.now t.lines.items) }

@@ -4,10 +4,10 @@
 //! which it waited, programs are read for what loads them, and the run has these attributes.
 //!
 //! `pass_on` writes exactly the text that `pass_strace::translate` gives (`text`, `written`), whose lines have an origin each, in
-//! order (`lines`, `origins`, `order`), which begins with the attributes (`facts`, `told`), and nothing where there is none (`untouched`). A text that ends within a line is refused
-//! with that line, unless it can't be read or memory is refused (`cut`). A fault of a stream is told exactly where its count rose
-//! (`read`, `read_ok`, `read_kept`, `write`, `write_ok`). The words of the call, the store that is read and the exit numbers are
-//! tested.
+//! order (`lines`, `origins`, `order`), of which none of the text's calls is lost (`kept`), which begins with the attributes (`facts`,
+//! `told`), and nothing where there is none (`untouched`). A text that ends within a line is refused with that line, unless it can't be
+//! read or memory is refused (`cut`). A fault of a stream is told exactly where its count rose (`read`, `read_ok`, `read_kept`, `write`,
+//! `write_ok`). The words of the call, the store that is read and the exit numbers are tested.
 #![tactic(auto)]
 
 mod help;

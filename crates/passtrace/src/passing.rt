@@ -4,6 +4,7 @@ ghost use Rattle.pass_outside.specs.Faults.{HasRisen};
 ghost use Rattle.pass_trace.specs.Traces.{IsTraceText, trace_of};
 ghost use Rattle.pass_syscall.specs.declared.fault.StraceReason.TheVariants.{Cut};
 ghost use Rattle.pass_strace.specs.declared.fault.Refusal.TheVariants.{Strace};
+ghost use Rattle.pass_strace.specs.Calls.{KeepsCalls, lines_of};
 ghost use Rattle.pass_strace.specs.Facts.{BeginsWith, IsTold};
 ghost use Rattle.pass_strace.specs.Translations.{IsInOrder, count_lines, is_whole};
 ghost use Rattle.passtrace.specs.declared.passing.Fault.TheVariants.{NoMemory, Refused, Unread, Unwritten};
@@ -106,6 +107,7 @@ fn translated<'a>(
     ensures lines { IfOk result (λ t. t.lines.items ≡ trace_of t.text.items) }
     ensures origins { IfOk result (λ t. length t.origins.items ≡ length t.lines.items) }
     ensures order { IfOk result (λ t. IsInOrder t.origins.items (count_lines text.now)) }
+    ensures kept { IfOk result (λ t. KeepsCalls (lines_of text.now) t.origins.items t.skipped.items) }
     ensures cut { is_whole text.now ≡ false → result ≡ Err (Refused (count_lines text.now + 1) (Strace Cut)) }
     ensures facts { IfOk result (λ t. BeginsWith request.entry.facts.now t.text.items) }
     ensures told { IfOk result (λ t. IsTold request.entry.facts.now t.lines.items) }
@@ -133,6 +135,8 @@ pub(crate) fn pass_on<S: Source, K: Sink, P: Programs>(
     ensures origins { IfOk result (λ t. length t.origins.items ≡ length t.lines.items) }
     ensures order { IfOk result (λ t. IsTrue S.tells → IsInOrder t.origins.items (count_lines (S.left source.old))) }
     ensures written { IfOk result (λ t. IsTrue K.tells → K.taken sink.new ≡ K.taken sink.old ++ t.text.items) }
+    // No answered call that reads, writes, opens, closes, doubles, forks or execs is lost.
+    ensures kept { IfOk result (λ t. IsTrue S.tells → KeepsCalls (lines_of (S.left source.old)) t.origins.items t.skipped.items) }
     // In front stands what is said of the run, and its first process begins by reading of it.
     ensures facts { IfOk result (λ t. BeginsWith request.entry.facts.now t.text.items) }
     ensures told { IfOk result (λ t. IsTold request.entry.facts.now t.lines.items) }

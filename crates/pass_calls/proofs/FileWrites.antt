@@ -1,6 +1,6 @@
 -- The steps of a write to a file.
-use Rattle.std.proofs.Common.{◌≡◌, ℕ, ◌+◌, ◌-◌, ◌<◌, ◌≤◌, List, [], ◌∷◌, length, refl, ap, sym, ◌∙◌, subst, arith, false, true}
-use Rattle.std.specs.Prelude.{None, Ok, Option, Some, slice_get, nat_le, if◌then◌else◌}
+use Rattle.std.proofs.Common.{◌≡◌, ℕ, ◌+◌, ◌-◌, ◌<◌, ◌≤◌, List, [], ◌∷◌, length, refl, ap, sym, ◌∙◌, arith, true}
+use Rattle.std.specs.Prelude.{None, Some, slice_get, nat_le, if◌then◌else◌}
 use Rattle.std.specs.Option.{option_map_or}
 use Rattle.std.specs.FinMap as finite_map
 use Rattle.std.proofs.lemmas.Bool.Decides.{nat_tests}
@@ -20,18 +20,12 @@ use Rattle.pass_plain.specs.Processes.{Process, is_file, refusal}
 use Rattle.pass_plain.specs.Sessions.{Session}
 use Rattle.pass_plain.specs.Versions.{nodes_of}
 use Rattle.pass_plain.proofs.Lists.{both_true}
-use Rattle.pass_hold.specs.Callers.{CallerState}
 use Rattle.pass_hold.specs.Callings.{IsEntered, IsIdle}
 use Rattle.pass_hold.proofs.Callings.{entry_of}
-use Rattle.pass_proc.specs.Procs.{ProcView, is_way, proc_with}
-use Rattle.pass_proc.specs.Views.{ProcessView}
-use Rattle.pass_proc.specs.declared.way.Way.{Way}
 use Rattle.pass_proc.proofs.Steps.{low_fd}
-use Rattle.pass_answer.specs.Answers.{Answers, HasMoved}
-use Rattle.pass_answer.specs.declared.answer.Moved.{Moved}
+use Rattle.pass_answer.specs.Answers.{HasMoved}
 use Rattle.pass_answer.specs.declared.answer.Moved.TheVariants as moved
 use Rattle.pass_answer.proofs.Steps.{not_refused}
-use Rattle.pass_answer.proofs.Wrapping.{moved as moved_on}
 use Rattle.pass_calls.proofs.Shown.{both_idle, both_made, node_at, show_allows, show_keeps, shown, take_allows, take_keeps}
 
 module _ (session : Session) (seen : List Entry) (who number : ℕ) (p : Process) (fd : ℕ) (bytes : List ℕ) (idle : IsIdle session seen who (number - 1) p) (some : 0 < number)
@@ -87,12 +81,3 @@ module _ (session : Session) (seen : List Entry) (who number : ℕ) (p : Process
 
       pub put_idle : IsIdle session later who number (shown p fd (length bytes))
       put_idle = both_idle session seen who number r p idle some fine refl within refl fd (length bytes) refl refl desk after out at entered what (act.Put out d.offset bytes) takes refl own later put refl
-
--- a write that does not go on with one under way
-pub wrote : (session : Session) (places : ℕ) (p : ProcessView) (n : ℕ) (c : CallerState) (way : Option Way) (old : ProcView) → proc_with p n c way ≡ old → (fd : ℕ) (bytes : List ℕ) → is_way old.way fd bytes ≡ false
-    → (q : ProcessView) (m : ℕ) (e : CallerState) → q.who ≡ p.who → (d : CallerState) → d ≡ c → (result : Moved) → HasMoved session p.who d.seen e.seen q.state (requests.Write fd bytes) result
-    → Answers session places old (proc_with q m e None) (requests.Write fd bytes) (Ok result)
-wrote session places p n c way old view fd bytes new q m e who d same result is =
-    let r = requests.Write fd bytes in
-    subst (λ (v : ProcView). is_way v.way fd bytes ≡ false → Answers session places v (proc_with q m e None) r (Ok result)) view
-    (λ new. moved_on session places (proc_with p n c way) r new q m e who result (subst (λ (x : CallerState). HasMoved session p.who x.seen e.seen q.state r result) same is)) new

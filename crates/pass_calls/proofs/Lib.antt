@@ -1,12 +1,13 @@
+pub mod Begun
 pub mod FileReads
 pub mod FileWrites
+pub mod Frame
 pub mod GrantSteps
 pub mod LeftPipe
 pub mod Nodes
 pub mod PipeReads
 pub mod PipeWrites
 pub mod Readiness
-pub mod Reserved
 pub mod Runs
 pub mod Shown
 pub mod SingleStep

@@ -94,10 +94,16 @@ steady n d pipe = ap (λ b. record d { offset = if b then d.offset + n else d.of
 get_here : (held : Held) (fd : ℕ) (d : Descriptor) → finite_map.get (finite_map.insert held fd d) fd ≡ Some d
 get_here held fd d = finite_map.get-insert nat_cmp_total held fd d fd ∙ ap (λ b. cond b (Some d) (finite_map.get held fd)) (unsigned_tied fd fd ∙ same_itself fd)
 
-still_held : (held : Held) (fd n : ℕ) (d : Descriptor) → finite_map.get held fd ≡ Some d → is_pipe d ≡ true → finite_map.get (changed_at held fd (risen n)) fd ≡ Some d
+pub still_held : (held : Held) (fd n : ℕ) (d : Descriptor) → finite_map.get held fd ≡ Some d → is_pipe d ≡ true → finite_map.get (changed_at held fd (risen n)) fd ≡ Some d
 still_held held fd n d at pipe =
     ap (λ (o : Option Descriptor). finite_map.get (option_map_or (λ d. finite_map.insert held fd (risen n d)) o held) fd) at
     ∙ get_here held fd (risen n d) ∙ ap (λ d. Some d) (steady n d pipe)
+
+-- what stands before an entry
+pub past_is : (session : Session) (line desk after : List Entry) (e : Entry) (entered : IsEntered session line desk after e) (out : ℕ) → out + 1 ≡ length after → take out after ≡ entered.past
+past_is session line desk after e entered out last =
+    let place = place_is session line desk after e entered out last in
+    ap (λ h. take out h) entered.whole ∙ take-append-le out entered.past (e ∷ []) (omega (arith, place)) ∙ take_all out entered.past (omega (arith, place))
 
 -- It is under way then
 
@@ -128,9 +134,7 @@ module _ (session : Session) (seen : List Entry) (who number : ℕ) (p : Process
   }
 
   before_is : take out after ≡ entered.past
-  before_is =
-      let place = place_is session seen desk after shown entered out last in
-      ap (λ h. take out h) entered.whole ∙ take-append-le out entered.past (shown ∷ []) (omega (arith, place)) ∙ take_all out entered.past (omega (arith, place))
+  before_is = past_is session seen desk after shown entered out last
 
   was : p ≡ process_after entered.past who
   was = sym past_idle.state
@@ -179,10 +183,6 @@ module _ (session : Session) (who number : ℕ) (w : Way) (seen : List Entry) (n
   pub push_allows : (reply : Reply) → CallerAllows seen (push_entry who number w.to.pnode w.out w.bytes reply)
   push_allows reply =
       next_allows session before seen who number call p made now call_fine w.to.pnode (act.Push w.out w.bytes) push_at reply refl (write_within w.fd w.bytes under.low under.few) going
-
-  pub push_keeps : (reply : Reply) → 0 ≡ keeps seen (push_entry who number w.to.pnode w.out w.bytes reply)
-  push_keeps reply = sym (next_keeps session before seen who number call p made now call_fine w.to.pnode (act.Push w.out w.bytes) push_at reply going
-      ∙ ap (λ b. if b then 0 else 1) (or_true (is_fault reply)))
 
   pub places_held : last_number seen who ≡ number → call_places seen who ≡ 2
   places_held last = held_going session before seen who number call p (w.out, show_entry who number w) [] now going.is last refl

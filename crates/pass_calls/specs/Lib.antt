@@ -1,2 +1,4 @@
+pub mod Beginnings
 pub mod Grants
 pub mod Renamings
+pub mod Writes

@@ -1,21 +1,22 @@
 //! The calls that ask the registry for an object and attach a descriptor of it: their two steps.
-ghost use Rattle.std.specs.Prelude.{◌≡◌, ◌+◌, ◌-◌, ◌<◌, ◌≤◌, ◌^◌, [], None, true, false, length, IfOk};
+ghost use Rattle.std.specs.Prelude.{◌≡◌, ◌<◌, ◌≤◌, ◌^◌, [], None, true, false, length, IfOk};
 ghost use Rattle.pass_entry.specs.declared.entry.Reply.TheVariants as answer;
 ghost use Rattle.pass_plain.specs.Calls.{is_within, name_of};
 ghost use Rattle.pass_plain.specs.Legal.{CallerAllows};
 ghost use Rattle.pass_plain.specs.Places.{is_exit, kept_by, keeps};
 ghost use Rattle.pass_plain.specs.Processes.{process_act, refusal};
 ghost use Rattle.pass_hold.specs.Callers.{moved_on};
-ghost use Rattle.pass_hold.specs.Callings.{IsEntered, IsIdle};
+ghost use Rattle.pass_hold.specs.Callings.{IsEntered};
 ghost use Rattle.pass_hold.specs.Places.{HasRoom};
 ghost use Rattle.pass_proc.specs.Acts.{own_entry};
 ghost use Rattle.pass_registry.specs.Desks.{on_registry};
 ghost use Rattle.pass_registry.specs.Outcomes.{reply_made};
-ghost use Rattle.pass_answer.specs.Answers.{Answers, Stepped};
+ghost use Rattle.pass_answer.specs.Answers.{Answers};
 ghost use Rattle.pass_calls.specs.Grants.{IfMade, IsGranted, IsLow, IsReady, ask_of_grant, attach_of, attached_by, call_of, first_of, name_room, request_of};
 ghost use Rattle.pass_calls.specs.declared.granting.Attach.TheVariants as attach;
 
-use pass_answer::{CallEnd, Moved, ended};
+use crate::beginning::begin;
+use pass_answer::{CallEnd, Moved};
 use pass_entry::{CallFault, CallName, Descriptor, Kind, Mode, Pnode, Record, Text};
 use pass_hold::{Caller, Shelf, Whose};
 use pass_proc::{Proc, ProcessDesk};
@@ -178,50 +179,6 @@ fn attach_object<J: Whose>(
     }
 }
 
-/// Both steps of a call that its process does not refuse.
-fn grant_steps<J: Whose>(
-    alloc: Global,
-    registry: &mut RegistryDesk<J>,
-    shelf: &mut Shelf<J>,
-    caller: &mut Caller<J>,
-    process: &mut ProcessDesk<J>,
-    number: u64,
-    grant: Grant,
-) -> Result<Moved, CallFault>
-    requires ready { IsReady grant }
-    requires room { name_room grant ≤ registry.old.room }
-    requires low { IsLow (attach_of grant) }
-    requires within { is_within (request_of grant) ≡ true }
-    requires places { HasRoom shelf.old caller.old.held 3 }
-    requires who { caller.old.who ≡ process.old.who }
-    requires free { refusal process.old.state (ask_of_grant grant) ≡ None }
-    requires idle { IsIdle J.book.session caller.old.seen process.old.who (number - 1) process.old.state }
-    requires number { 0 < number }
-    ensures call { Stepped J.book.session process.old.who caller.old.seen caller.new.seen process.new.state (request_of grant) result }
-    ensures granted { IfMade result (λ pnode. IsGranted J.book.session registry.old.seen registry.new.seen grant pnode) }
-    ensures idle { IsIdle J.book.session caller.new.seen process.new.who number process.new.state }
-    ensures who { (process.new.who ≡ process.old.who) × (caller.new.who ≡ caller.old.who) }
-    ensures own { caller.new.own ≡ caller.old.own }
-    ensures few { length caller.new.seen ≤ 2 ^ 32 }
-{
-    let hold = grant.attach();
-    match ask_registry(
-        alloc,
-        registry,
-        shelf,
-        caller,
-        process.pnode(),
-        number,
-        grant,
-    ) {
-        Err(fault) => Err(fault),
-        Ok(pnode) => {
-            attach_object(alloc, shelf, caller, process, number, hold, pnode);
-            Ok(Moved::Made(pnode))
-        }
-    }
-}
-
 /// A call whose memory is taken.
 pub(crate) fn granted<J: Whose>(
     alloc: Global,
@@ -238,21 +195,26 @@ pub(crate) fn granted<J: Whose>(
     ensures call { Answers J.book.session J.places proc.old proc.new (request_of grant) result }
     ensures granted { IfMade result (λ pnode. IsGranted J.book.session registry.old.seen registry.new.seen grant pnode) }
 {
-    if let Err(full) = proc.caller.room(shelf, 3) {
-        drop(grant);
-        return Err(CallEnd::from(full));
-    }
-    let number = proc.number + 1;
-    let result = grant_steps(
-        alloc,
-        registry,
-        shelf,
-        &mut proc.caller,
-        &mut proc.process,
-        number,
-        grant,
-    );
+    let number = begin(shelf, proc)?;
+    let attach = grant.attach();
+    let who = proc.process.pnode();
+    let _ = proc.caller.held();
     proc.number = number;
     proc.way = None;
-    ended(result)
+    let caller = &mut proc.caller;
+    match ask_registry(alloc, registry, shelf, caller, who, number, grant) {
+        Err(fault) => Err(CallEnd::Fault(fault)),
+        Ok(pnode) => {
+            attach_object(
+                alloc,
+                shelf,
+                caller,
+                &mut proc.process,
+                number,
+                attach,
+                pnode,
+            );
+            Ok(Moved::Made(pnode))
+        }
+    }
 }

@@ -1,4 +1,5 @@
-//! The calls that a store makes for a process, over the objects that it holds: each takes its memory first, then makes its entries.
+//! The calls that a store makes for a process, over the objects that it holds: each sees to its places and takes its memory, then
+//! makes its entries.
 //!
 //! The clause `call` of each is the relation `Answers` of `pass_answer`. What a write or a cut needs that depends on file and
 //! process alone is made first, without the book: memory, and the records of the content (`ready_write`, `ready_cut`: `room`,
@@ -8,6 +9,7 @@
 //! of too few places only where it wouldn't wait (`ready`).
 #![tactic(auto)]
 
+mod beginning;
 mod closing;
 mod disclosing;
 mod file_reading;

@@ -1,22 +1,23 @@
 //! The calls that change the names of files alone: `rename` and `unlink`.
-ghost use Rattle.std.specs.Prelude.{◌≡◌, ◌+◌, ◌-◌, ◌<◌, ◌≤◌, ◌^◌, true, length};
+ghost use Rattle.std.specs.Prelude.{◌≡◌, ◌≤◌, ◌^◌, true, length};
 ghost use Rattle.pass_entry.specs.Texts.{is_name};
 ghost use Rattle.pass_plain.specs.Calls.{is_within, name_of};
 ghost use Rattle.pass_plain.specs.Legal.{CallerAllows};
 ghost use Rattle.pass_plain.specs.Places.{keeps};
 ghost use Rattle.pass_plain.specs.declared.request.Request.TheVariants as requests;
 ghost use Rattle.pass_hold.specs.Callers.{moved_on};
-ghost use Rattle.pass_hold.specs.Callings.{IsEntered, IsIdle};
+ghost use Rattle.pass_hold.specs.Callings.{IsEntered};
 ghost use Rattle.pass_hold.specs.Places.{HasRoom};
 ghost use Rattle.pass_registry.specs.Desks.{on_registry};
 ghost use Rattle.pass_registry.specs.Outcomes.{reply_done};
-ghost use Rattle.pass_answer.specs.Answers.{Answers, Stepped};
+ghost use Rattle.pass_answer.specs.Answers.{Answers};
 ghost use Rattle.pass_calls.specs.Renamings.{act_of_change, request_of_change};
 
-use pass_answer::{CallEnd, Moved, ended};
+use crate::beginning::begin;
+use pass_answer::{CallEnd, Moved};
 use pass_entry::{CallFault, Pnode, Text};
 use pass_hold::{Caller, Shelf, Whose};
-use pass_proc::{Proc, ProcessDesk};
+use pass_proc::Proc;
 use pass_registry::{MoveRoom, RegistryDesk, UnbindRoom};
 use std::alloc::Global;
 
@@ -52,32 +53,6 @@ fn change_names<J: Whose>(
     }
 }
 
-/// The step of a call, which its process does not refuse.
-fn change_step<J: Whose>(
-    registry: &mut RegistryDesk<J>,
-    shelf: &mut Shelf<J>,
-    caller: &mut Caller<J>,
-    process: &ProcessDesk<J>,
-    number: u64,
-    change: Change,
-) -> Result<Moved, CallFault>
-    requires within { is_within (request_of_change change) ≡ true }
-    requires places { HasRoom shelf.old caller.old.held 3 }
-    requires who { caller.old.who ≡ process.now.who }
-    requires idle { IsIdle J.book.session caller.old.seen process.now.who (number - 1) process.now.state }
-    requires number { 0 < number }
-    ensures call { Stepped J.book.session process.now.who caller.old.seen caller.new.seen process.now.state (request_of_change change) result }
-    ensures idle { IsIdle J.book.session caller.new.seen process.now.who number process.now.state }
-    ensures who { caller.new.who ≡ caller.old.who }
-    ensures own { caller.new.own ≡ caller.old.own }
-    ensures few { length caller.new.seen ≤ 2 ^ 32 }
-{
-    match change_names(registry, shelf, caller, process.pnode(), number, change) {
-        Err(fault) => Err(fault),
-        Ok(()) => Ok(Moved::Done),
-    }
-}
-
 /// A call whose memory is taken.
 fn changed<J: Whose>(
     registry: &mut RegistryDesk<J>,
@@ -88,22 +63,15 @@ fn changed<J: Whose>(
     requires within { is_within (request_of_change change) ≡ true }
     ensures call { Answers J.book.session J.places proc.old proc.new (request_of_change change) result }
 {
-    if let Err(full) = proc.caller.room(shelf, 3) {
-        drop(change);
-        return Err(CallEnd::from(full));
-    }
-    let number = proc.number + 1;
-    let result = change_step(
-        registry,
-        shelf,
-        &mut proc.caller,
-        &proc.process,
-        number,
-        change,
-    );
+    let number = begin(shelf, proc)?;
+    let who = proc.process.pnode();
+    let _ = proc.caller.held();
     proc.number = number;
     proc.way = None;
-    ended(result)
+    match change_names(registry, shelf, &mut proc.caller, who, number, change) {
+        Ok(()) => Ok(Moved::Done),
+        Err(fault) => Err(CallEnd::Fault(fault)),
+    }
 }
 
 /// Gives a file another name. A file that has that name loses it.

@@ -1,34 +1,71 @@
-use Rattle.std.proofs.Common.{◌≡◌, refl, sym, subst, true}
-use Rattle.std.specs.Prelude.{Some}
-use Rattle.std.specs.FinMap as finite_map
+use Rattle.std.proofs.Common.{◌∙◌, refl, sym, subst, ap}
+use Rattle.std.specs.Option.{option_map_or}
+use Rattle.pass_entry.specs.declared.entry.Ask.TheVariants as ask
 use Rattle.pass_entry.specs.declared.objects.Descriptor.{Descriptor}
+use Rattle.pass_plain.specs.Calls.{descriptor_at, end_of, no_descriptor}
 use Rattle.pass_plain.specs.declared.request.Request.TheVariants as requests
-use Rattle.pass_plain.specs.Processes.{is_pipe}
-use Rattle.pass_proc.proofs.Steps.{frees, number_fits}
-use Rattle.pass_answer.proofs.Between.{looked_on, full_ends}
-use Rattle.pass_proc.specs.Procs.{ProcView}
+use Rattle.pass_hold.specs.Callings.{IsIdle}
+use Rattle.pass_proc.specs.Views.{ProcessView}
+use Rattle.pass_answer.specs.Answers.{HasMoved}
+use Rattle.pass_answer.specs.declared.answer.Moved.TheVariants as moved
+use Rattle.pass_calls.proofs.Frame.{answers, asks, has_room, holds, opened, over, rests, twice}
+use Rattle.pass_calls.proofs.LeftPipe.{held_at, detach_allows, detach_keeps, leave_allows, closed, closed_idle}
 use Rattle.pass_calls.proofs.closing.close_pipe.Goals as goal
 
-pub room-requires : goal.room-requires
-room-requires g c = let i = c.proc.inside in record { new = frees g.J.Whose.book.session i.process i.number i.caller c.proc.invariant.0 }
+pub returns-in_err-number-clause-call : goal.returns-in_err-number-clause-call
+returns-in_err-number-clause-call g c =
+    let S = g.J.Whose.book.session in let a = c.args in
+    over S g.J.Whose.places a.proc.now c.begin.new.proc (requests.CloseFd a.fd) c.from_residual.result c.in_err-number.field-0.0 c.from_residual.ensures.1 (c.in_err-number.ensures.full (requests.CloseFd a.fd) refl refl)
+
+pub detach-descriptor-requires : goal.detach-descriptor-requires
+detach-descriptor-requires g c =
+    let S = g.J.Whose.book.session in let a = c.args in let q = c.requires in let n = c.in_ok-number.number in let i = c.proc.inside in let p = i.process in
+    let o = opened S i.process i.number i.caller i.way c.proc.invariant.0 a.proc.now (c.proc.view_is ∙ c.in_ok-number.ensures.same) n c.in_ok-number.ensures.number in
+    let free = asks o (ask.Held a.fd) ∙ q.free in
+    let its = q.object (descriptor_at p.state a.fd) (sym (holds o a.fd) ∙ held_at p.state a.fd free) in
+    record {
+      held = free;
+      place = has_room o c.held.ensures.call c.begin.new.shelf c.in_ok-number.ensures.places;
+      keep = detach_keeps S i.caller.seen p.who n p.state a.fd o.idle o.some free q.fd its.0;
+      who = o.who;
+      allows = detach_allows S i.caller.seen p.who n p.state a.fd o.idle o.some free q.fd its.0;
+    }
+
+pub leave-requires-clause-allows : goal.leave-requires-clause-allows
+leave-requires-clause-allows g c =
+    let S = g.J.Whose.book.session in let a = c.args in let q = c.requires in let n = c.in_ok-number.number in let i = c.proc.inside in let p = i.process in
+    let o = opened S i.process i.number i.caller i.way c.proc.invariant.0 a.proc.now (c.proc.view_is ∙ c.in_ok-number.ensures.same) n c.in_ok-number.ensures.number in
+    let x = a.pipe.now in let free = asks o (ask.Held a.fd) ∙ q.free in
+    let its = q.object (descriptor_at p.state a.fd) (sym (holds o a.fd) ∙ held_at p.state a.fd free) in
+    let s = c.detach-descriptor in let after = s.new.caller.seen in
+    let side = c.end_of-end.ensures ∙ ap (λ (d : Descriptor). end_of d.mode) (sym (ap (λ at. option_map_or (λ d. d) at no_descriptor) s.ensures.answer)) in
+    leave_allows S i.caller.seen p.who n p.state a.fd o.idle o.some free q.fd its.0 p.seen after s.ensures.entered
+    x.what its.1 c.pnode-who.result c.pnode-who.ensures c.end_of-end.result side
 
 pub invariant_of-proc : goal.invariant_of-proc
 invariant_of-proc g c =
-    let i = c.proc.inside in
-    let e = c.in-Err.ensures in
-    looked_on g.J.Whose.book.session i.process i.number i.caller i.way c.proc.invariant c.room.new.self e.caller e.looked e.few
+    let S = g.J.Whose.book.session in let a = c.args in let q = c.requires in let n = c.in_ok-number.number in let i = c.proc.inside in let p = i.process in
+    let o = opened S i.process i.number i.caller i.way c.proc.invariant.0 a.proc.now (c.proc.view_is ∙ c.in_ok-number.ensures.same) n c.in_ok-number.ensures.number in
+    let x = a.pipe.now in let free = asks o (ask.Held a.fd) ∙ q.free in
+    let its = q.object (descriptor_at p.state a.fd) (sym (holds o a.fd) ∙ held_at p.state a.fd free) in
+    let s = c.detach-descriptor in let after = s.new.caller.seen in let w = c.leave in let e = w.new.caller in
+    let side = c.end_of-end.ensures ∙ ap (λ (d : Descriptor). end_of d.mode) (sym (ap (λ at. option_map_or (λ d. d) at no_descriptor) s.ensures.answer)) in (
+      rests o s.new.self e (λ k. (s.ensures.state k).who) (twice i.caller s.new.caller e 2 0 s.ensures.caller w.ensures.caller)
+          (subst (λ (v : ProcessView). IsIdle S e.seen v.who n v.state) (sym s.ensures.state) (closed_idle S i.caller.seen p.who n p.state a.fd o.idle o.some free q.fd its.0 p.seen after s.ensures.entered
+          x.what its.1 c.pnode-who.result c.pnode-who.ensures c.end_of-end.result side x.seen e.seen w.ensures.entered))
+          w.ensures.few,
+      tt,
+    )
 
-pub overflow_add-number : goal.overflow_add-number
-overflow_add-number g c = let i = c.proc.inside in number_fits g.J.Whose.book.session i.process i.number i.caller c.proc.invariant.0
-
-pub returns-in-Err-clause-call : goal.returns-in-Err-clause-call
-returns-in-Err-clause-call g c =
-    let S = g.J.Whose.book.session in
-    let i = c.proc.inside in
-    let e = c.in-Err.ensures in
-    full_ends S i.process i.number i.caller i.way c.proc.invariant c.room.new.self e.caller e.looked g.J.Whose.places c.args.proc.now c.proc.view_is
-    (requests.CloseFd c.args.fd) 3 c.in-Err.full refl refl e.full c.from.result c.from.ensures
-
-pub close_pipe_steps-requires-clause-object : goal.close_pipe_steps-requires-clause-object
-close_pipe_steps-requires-clause-object g c =
-    subst (λ (v : ProcView). (d : Descriptor) → finite_map.get v.state.descriptors c.args.fd ≡ Some d → (is_pipe d ≡ true) × (c.args.pipe.now.what ≡ d.pnode)) (sym c.proc.view_is) c.requires.object
+pub returns-clause-call : goal.returns-clause-call
+returns-clause-call g c =
+    let S = g.J.Whose.book.session in let a = c.args in let q = c.requires in let n = c.in_ok-number.number in let i = c.proc.inside in let p = i.process in
+    let o = opened S i.process i.number i.caller i.way c.proc.invariant.0 a.proc.now (c.proc.view_is ∙ c.in_ok-number.ensures.same) n c.in_ok-number.ensures.number in
+    let x = a.pipe.now in let free = asks o (ask.Held a.fd) ∙ q.free in
+    let its = q.object (descriptor_at p.state a.fd) (sym (holds o a.fd) ∙ held_at p.state a.fd free) in
+    let s = c.detach-descriptor in let after = s.new.caller.seen in let w = c.leave in let e = w.new.caller in
+    let side = c.end_of-end.ensures ∙ ap (λ (d : Descriptor). end_of d.mode) (sym (ap (λ at. option_map_or (λ d. d) at no_descriptor) s.ensures.answer)) in
+    answers o s.new.self e (λ k. (s.ensures.state k).who) g.J.Whose.places (requests.CloseFd a.fd) refl moved.Done
+    (subst (λ (v : ProcessView). HasMoved S p.who i.caller.seen e.seen v.state (requests.CloseFd a.fd) moved.Done) (sym s.ensures.state)
+    (closed S i.caller.seen p.who n p.state a.fd o.idle o.some free q.fd its.0 p.seen after s.ensures.entered
+    x.what its.1 c.pnode-who.result c.pnode-who.ensures c.end_of-end.result side x.seen e.seen w.ensures.entered))

@@ -1,43 +1,96 @@
-use Rattle.std.proofs.Common.{◌+◌, ◌-◌, ap, refl, subst, sym, ◌∙◌}
+use Rattle.std.proofs.Common.{◌≡◌, ◌∙◌, length, refl, sym, subst, ap}
+use Rattle.pass_entry.specs.declared.entry.Act.TheVariants as act
+use Rattle.pass_entry.specs.declared.entry.Ask.TheVariants as ask
+use Rattle.pass_entry.specs.declared.entry.CallName.TheVariants as calls
+use Rattle.pass_entry.specs.declared.entry.Reply.TheVariants as answer
+use Rattle.pass_plain.specs.Legal.{CallerAllows}
+use Rattle.pass_plain.specs.Places.{keeps}
 use Rattle.pass_plain.specs.declared.request.Request.TheVariants as requests
-use Rattle.pass_hold.specs.Callings.{IsIdle}
-use Rattle.pass_proc.specs.Procs.{proc_with}
+use Rattle.pass_hold.specs.Callings.{IsEntered, IsIdle}
+use Rattle.pass_file.specs.Desks.{entry_on}
 use Rattle.pass_proc.specs.Views.{ProcessView}
-use Rattle.pass_proc.proofs.Steps.{frees, number_fits, idle_before}
-use Rattle.pass_answer.proofs.Between.{full_ends, looked_on}
-use Rattle.pass_calls.proofs.Reserved.{reserved}
+use Rattle.pass_answer.specs.Answers.{HasMoved}
+use Rattle.pass_answer.specs.declared.answer.Moved.{Moved}
+use Rattle.pass_answer.specs.declared.answer.Moved.TheVariants as moved
+use Rattle.pass_calls.proofs.FileReads.{gain_allows, gain_keeps, give_allows, give_keeps, given, read_idle, read_made, read_of}
+use Rattle.pass_calls.proofs.Frame.{answers, asks, has_room, holds, opened, over, ready, rests, twice}
 use Rattle.pass_calls.proofs.file_reading.read_file.Goals as goal
 
-pub room-requires : goal.room-requires
-room-requires g c = let i = c.proc.inside in record { new = frees g.J.Whose.book.session i.process i.number i.caller c.proc.invariant.0 }
+pub returns-in_err-number-clause-call : goal.returns-in_err-number-clause-call
+returns-in_err-number-clause-call g c =
+    let S = g.J.Whose.book.session in let a = c.args in
+    over S g.J.Whose.places a.proc.now c.begin.new.proc (requests.Read a.fd a.len) c.from_residual.result c.in_err-number.field-0.0 c.from_residual.ensures.1 (c.in_err-number.ensures.full (requests.Read a.fd a.len) refl refl)
 
-pub overflow_add-number : goal.overflow_add-number
-overflow_add-number g c = let i = c.proc.inside in number_fits g.J.Whose.book.session i.process i.number i.caller c.proc.invariant.0
+pub give-out-requires : goal.give-out-requires
+give-out-requires g c =
+    let S = g.J.Whose.book.session in let a = c.args in let q = c.requires in let n = c.in_ok-number.number in let i = c.proc.inside in let p = c.reserve.new.self in
+    let o = ready (opened S i.process i.number i.caller i.way c.proc.invariant.0 a.proc.now (c.proc.view_is ∙ c.in_ok-number.ensures.same) n c.in_ok-number.ensures.number) p c.in_ok-reserve.ensures.same in
+    let x = a.file.now in let d = c.held-d.result in let free = asks o (ask.ToRead a.fd) ∙ q.free in let at = holds o a.fd ∙ c.held-d.ensures in let its = q.object d c.held-d.ensures in
+    let bytes = c.in_ok-bytes.bytes in
+    record {
+      bytes = c.in_ok-bytes.ensures;
+      place = has_room o c.held.ensures.call c.begin.new.shelf c.in_ok-number.ensures.places;
+      keep = subst (λ who. 2 ≡ keeps i.caller.seen (entry_on x.what who n calls.Read (act.Give d.offset a.len) (answer.Took bytes))) (sym c.pnode-who.ensures) (give_keeps S i.caller.seen p.who n p.state a.fd a.len o.idle o.some free q.fd q.len.0 q.len.1 d at its.0 x.what its.1 bytes);
+      who = o.who ∙ sym c.pnode-who.ensures;
+      allows = subst (λ who. CallerAllows i.caller.seen (entry_on x.what who n calls.Read (act.Give d.offset a.len) (answer.Took bytes))) (sym c.pnode-who.ensures) (give_allows S i.caller.seen p.who n p.state a.fd a.len o.idle o.some free q.fd q.len.0 q.len.1 d at its.0 x.what its.1 bytes);
+    }
 
-pub invariant_of-proc-in-Err : goal.invariant_of-proc-in-Err
-invariant_of-proc-in-Err g c =
-    let S = g.J.Whose.book.session in
-    let i = c.proc.inside in
-    let e = c.in-Err.ensures in
-    let q = c.reserve.new.self in
-    let same = c.reserve.ensures.same in
-    looked_on S q i.number i.caller i.way (reserved S i.process q i.number i.caller i.way (ap (λ (v : ProcessView). v.who) same) (ap (λ (v : ProcessView). v.state) same) c.proc.invariant)
-    c.room.new.self e.caller e.looked e.few
+pub gain-requires-clause-bytes : goal.gain-requires-clause-bytes
+gain-requires-clause-bytes g c =
+    let S = g.J.Whose.book.session in let a = c.args in let q = c.requires in let n = c.in_ok-number.number in let i = c.proc.inside in let p = c.reserve.new.self in
+    let o = ready (opened S i.process i.number i.caller i.way c.proc.invariant.0 a.proc.now (c.proc.view_is ∙ c.in_ok-number.ensures.same) n c.in_ok-number.ensures.number) p c.in_ok-reserve.ensures.same in
+    let x = a.file.now in let d = c.held-d.result in let free = asks o (ask.ToRead a.fd) ∙ q.free in let at = holds o a.fd ∙ c.held-d.ensures in let its = q.object d c.held-d.ensures in
+    let bytes = c.in_ok-bytes.bytes in let s = c.give-out in let after = s.new.caller.seen in
+    let gives = subst (λ who. IsEntered S i.caller.seen x.seen after (entry_on x.what who n calls.Read (act.Give d.offset a.len) (answer.Took bytes))) c.pnode-who.ensures s.ensures.entered in
+    given S i.caller.seen p.who n p.state a.fd a.len o.idle o.some free q.fd q.len.0 q.len.1 d at its.0 x.what its.1 bytes
+    x.seen after s.result.0 s.ensures.place gives ∙ sym c.in_ok-copy.ensures.cases
 
-pub returns-in-Err-clause-call : goal.returns-in-Err-clause-call
-returns-in-Err-clause-call g c =
-    let S = g.J.Whose.book.session in
-    let i = c.proc.inside in
-    let e = c.in-Err.ensures in
-    let q = c.reserve.new.self in
-    let same = c.reserve.ensures.same in
-    full_ends S q i.number i.caller i.way (reserved S i.process q i.number i.caller i.way (ap (λ (v : ProcessView). v.who) same) (ap (λ (v : ProcessView). v.state) same) c.proc.invariant)
-    c.room.new.self e.caller e.looked g.J.Whose.places c.args.proc.now (ap (λ (v : ProcessView). proc_with v i.number i.caller i.way) same ∙ c.proc.view_is)
-    (requests.Read c.args.fd c.args.len) 3 c.in-Err.full refl refl e.full c.from.result c.from.ensures
+pub gain-requires-clause-keep : goal.gain-requires-clause-keep
+gain-requires-clause-keep g c =
+    let S = g.J.Whose.book.session in let a = c.args in let q = c.requires in let n = c.in_ok-number.number in let i = c.proc.inside in let p = c.reserve.new.self in
+    let o = ready (opened S i.process i.number i.caller i.way c.proc.invariant.0 a.proc.now (c.proc.view_is ∙ c.in_ok-number.ensures.same) n c.in_ok-number.ensures.number) p c.in_ok-reserve.ensures.same in
+    let x = a.file.now in let d = c.held-d.result in let free = asks o (ask.ToRead a.fd) ∙ q.free in let at = holds o a.fd ∙ c.held-d.ensures in let its = q.object d c.held-d.ensures in
+    let bytes = c.in_ok-bytes.bytes in let s = c.give-out in let after = s.new.caller.seen in
+    let gives = subst (λ who. IsEntered S i.caller.seen x.seen after (entry_on x.what who n calls.Read (act.Give d.offset a.len) (answer.Took bytes))) c.pnode-who.ensures s.ensures.entered in
+    gain_keeps S i.caller.seen p.who n p.state a.fd a.len o.idle o.some free q.fd q.len.0 q.len.1 d at its.0 x.what its.1 bytes
+    x.seen after s.result.0 s.ensures.place gives
 
-pub give_steps-moved-requires-clause-idle : goal.give_steps-moved-requires-clause-idle
-give_steps-moved-requires-clause-idle g c =
-    let S = g.J.Whose.book.session in
-    let i = c.proc.inside in
-    subst (λ (v : ProcessView). IsIdle S c.room.new.self.seen v.who (i.number + 1 - 1) v.state) (sym c.reserve.ensures.same)
-    (idle_before S i.process i.number i.caller c.proc.invariant.0 c.room.new.self c.in_default.ensures.same)
+pub gain-requires-clause-allows : goal.gain-requires-clause-allows
+gain-requires-clause-allows g c =
+    let S = g.J.Whose.book.session in let a = c.args in let q = c.requires in let n = c.in_ok-number.number in let i = c.proc.inside in let p = c.reserve.new.self in
+    let o = ready (opened S i.process i.number i.caller i.way c.proc.invariant.0 a.proc.now (c.proc.view_is ∙ c.in_ok-number.ensures.same) n c.in_ok-number.ensures.number) p c.in_ok-reserve.ensures.same in
+    let x = a.file.now in let d = c.held-d.result in let free = asks o (ask.ToRead a.fd) ∙ q.free in let at = holds o a.fd ∙ c.held-d.ensures in let its = q.object d c.held-d.ensures in
+    let bytes = c.in_ok-bytes.bytes in let s = c.give-out in let after = s.new.caller.seen in
+    let gives = subst (λ who. IsEntered S i.caller.seen x.seen after (entry_on x.what who n calls.Read (act.Give d.offset a.len) (answer.Took bytes))) c.pnode-who.ensures s.ensures.entered in
+    gain_allows S i.caller.seen p.who n p.state a.fd a.len o.idle o.some free q.fd q.len.0 q.len.1 d at its.0 x.what its.1 bytes
+    x.seen after s.result.0 s.ensures.place gives
+
+pub invariant_of-proc-2 : goal.invariant_of-proc-2
+invariant_of-proc-2 g c =
+    let S = g.J.Whose.book.session in let a = c.args in let q = c.requires in let n = c.in_ok-number.number in let i = c.proc.inside in let p = c.reserve.new.self in
+    let o = ready (opened S i.process i.number i.caller i.way c.proc.invariant.0 a.proc.now (c.proc.view_is ∙ c.in_ok-number.ensures.same) n c.in_ok-number.ensures.number) p c.in_ok-reserve.ensures.same in
+    let x = a.file.now in let d = c.held-d.result in let free = asks o (ask.ToRead a.fd) ∙ q.free in let at = holds o a.fd ∙ c.held-d.ensures in let its = q.object d c.held-d.ensures in
+    let bytes = c.in_ok-bytes.bytes in let s = c.give-out in let after = s.new.caller.seen in let w = c.gain in let e = w.new.caller in
+    let gives = subst (λ who. IsEntered S i.caller.seen x.seen after (entry_on x.what who n calls.Read (act.Give d.offset a.len) (answer.Took bytes))) c.pnode-who.ensures s.ensures.entered in
+    let state = w.ensures.state ∙ ap (λ bs. read_of p w.new.self e.seen a.fd bs) c.in_ok-copy.ensures.cases in (
+      rests o w.new.self e (λ k. (w.ensures.state k).who) (twice i.caller s.new.caller e 2 0 s.ensures.caller w.ensures.caller)
+          (subst (λ (v : ProcessView). IsIdle S e.seen v.who n v.state) (sym state) (read_idle S i.caller.seen p.who n p.state a.fd a.len o.idle o.some free q.fd q.len.0 q.len.1 d at its.0 x.what its.1 bytes
+          x.seen after s.result.0 s.ensures.place gives p.seen e.seen w.ensures.entered))
+          w.ensures.few,
+      tt,
+    )
+
+pub returns-clause-call : goal.returns-clause-call
+returns-clause-call g c =
+    let S = g.J.Whose.book.session in let a = c.args in let q = c.requires in let n = c.in_ok-number.number in let i = c.proc.inside in let p = c.reserve.new.self in
+    let o = ready (opened S i.process i.number i.caller i.way c.proc.invariant.0 a.proc.now (c.proc.view_is ∙ c.in_ok-number.ensures.same) n c.in_ok-number.ensures.number) p c.in_ok-reserve.ensures.same in
+    let x = a.file.now in let d = c.held-d.result in let free = asks o (ask.ToRead a.fd) ∙ q.free in let at = holds o a.fd ∙ c.held-d.ensures in let its = q.object d c.held-d.ensures in
+    let bytes = c.in_ok-bytes.bytes in let s = c.give-out in let after = s.new.caller.seen in let w = c.gain in let e = w.new.caller in
+    let gives = subst (λ who. IsEntered S i.caller.seen x.seen after (entry_on x.what who n calls.Read (act.Give d.offset a.len) (answer.Took bytes))) c.pnode-who.ensures s.ensures.entered in
+    let state = w.ensures.state ∙ ap (λ bs. read_of p w.new.self e.seen a.fd bs) c.in_ok-copy.ensures.cases in
+    let m : Moved = moved.Read (length c.as_bytes.result.now) s.result.1 in
+    answers o w.new.self e (λ k. (w.ensures.state k).who) g.J.Whose.places (requests.Read a.fd a.len) refl m
+    (subst (λ (v : ProcessView). HasMoved S p.who i.caller.seen e.seen v.state (requests.Read a.fd a.len) m) (sym state)
+    (subst (λ bs. HasMoved S p.who i.caller.seen e.seen (read_of p w.new.self e.seen a.fd bytes).state (requests.Read a.fd a.len) (moved.Read (length bs) s.result.1)) (sym c.as_bytes.ensures.bytes)
+    (read_made S i.caller.seen p.who n p.state a.fd a.len o.idle o.some free q.fd q.len.0 q.len.1 d at its.0 x.what its.1 bytes
+    x.seen after s.result.0 s.ensures.place gives p.seen e.seen w.ensures.entered s.result.1 s.ensures.node)))

@@ -1,56 +1,92 @@
-use Rattle.std.proofs.Common.{◌≡◌, ◌+◌, length, refl, subst, sym}
-use Rattle.std.specs.Prelude.{None, Some}
-use Rattle.std.specs.FinMap as finite_map
+use Rattle.std.proofs.Common.{◌≡◌, ◌∙◌, length, refl, sym, subst}
+use Rattle.pass_entry.specs.declared.entry.Act.TheVariants as act
 use Rattle.pass_entry.specs.declared.entry.Ask.TheVariants as ask
-use Rattle.pass_plain.specs.Processes.{refusal}
+use Rattle.pass_entry.specs.declared.entry.CallName.TheVariants as calls
+use Rattle.pass_entry.specs.declared.entry.Reply.TheVariants as answer
+use Rattle.pass_plain.specs.Legal.{CallerAllows}
+use Rattle.pass_plain.specs.Places.{keeps}
 use Rattle.pass_plain.specs.declared.request.Request.TheVariants as requests
-use Rattle.pass_proc.specs.Procs.{ProcView}
-use Rattle.pass_proc.proofs.Steps.{frees, number_fits, idle_before}
-use Rattle.pass_answer.proofs.Between.{full_ends, looked_on}
-use Rattle.pass_calls.proofs.FileWrites.{wrote}
+use Rattle.pass_hold.specs.Callings.{IsEntered, IsIdle}
+use Rattle.pass_file.specs.Desks.{entry_on}
+use Rattle.pass_proc.specs.Acts.{own_entry}
+use Rattle.pass_proc.specs.Views.{ProcessView}
+use Rattle.pass_answer.specs.Answers.{HasMoved}
+use Rattle.pass_answer.specs.declared.answer.Moved.{Moved}
+use Rattle.pass_answer.specs.declared.answer.Moved.TheVariants as moved
+use Rattle.pass_calls.proofs.FileWrites.{first_allows, first_keeps, put_allows, put_keeps, put_idle, put_made}
+use Rattle.pass_calls.proofs.Frame.{answers, asks, has_room, holds, once, one_left, opened, over, rests, twice}
+use Rattle.pass_calls.proofs.Shown.{shown}
 use Rattle.pass_calls.proofs.file_writing.write_file.Goals as goal
 
-pub room-requires : goal.room-requires
-room-requires g c = let i = c.proc.inside in record { new = frees g.J.Whose.book.session i.process i.number i.caller c.proc.invariant.0 }
+pub returns-in_err-number-clause-call : goal.returns-in_err-number-clause-call
+returns-in_err-number-clause-call g c =
+    let S = g.J.Whose.book.session in let a = c.args in let q = c.requires in
+    over S g.J.Whose.places a.proc.now c.begin.new.proc (requests.Write a.fd a.ready.bytes) c.from_residual.result c.in_err-number.field-0.0 c.from_residual.ensures.1 (c.in_err-number.ensures.full (requests.Write a.fd a.ready.bytes) refl q.new)
 
-pub overflow_add-number : goal.overflow_add-number
-overflow_add-number g c = let i = c.proc.inside in number_fits g.J.Whose.book.session i.process i.number i.caller c.proc.invariant.0
+pub show-out-requires : goal.show-out-requires
+show-out-requires g c =
+    let S = g.J.Whose.book.session in let a = c.args in let q = c.requires in let n = c.in_ok-number.number in let i = c.proc.inside in let p = i.process in
+    let o = opened S i.process i.number i.caller i.way c.proc.invariant.0 a.proc.now (c.proc.view_is ∙ c.in_ok-number.ensures.same) n c.in_ok-number.ensures.number in
+    let bytes = a.ready.bytes in
+    let free = asks o (ask.ToWrite a.fd (length bytes)) ∙ q.free in
+    record {
+      fd = q.fd;
+      place = has_room o c.held.ensures.call c.begin.new.shelf c.in_ok-number.ensures.places;
+      keep = subst (λ bs. 2 ≡ keeps i.caller.seen (own_entry p.who n calls.Write (act.Show a.fd (length bs)) answer.Done)) (sym c.as_bytes.ensures.bytes) (first_keeps S i.caller.seen p.who n p.state a.fd bytes o.idle o.some free q.fd c.as_bytes.ensures.within);
+      exit = refl;
+      who = o.who;
+      allows = subst (λ bs. CallerAllows i.caller.seen (own_entry p.who n calls.Write (act.Show a.fd (length bs)) answer.Done)) (sym c.as_bytes.ensures.bytes) (first_allows S i.caller.seen p.who n p.state a.fd bytes o.idle o.some free q.fd c.as_bytes.ensures.within);
+    }
+
+pub put-to-requires : goal.put-to-requires
+put-to-requires g c =
+    let S = g.J.Whose.book.session in let a = c.args in let q = c.requires in let n = c.in_ok-number.number in let i = c.proc.inside in let p = i.process in
+    let o = opened S i.process i.number i.caller i.way c.proc.invariant.0 a.proc.now (c.proc.view_is ∙ c.in_ok-number.ensures.same) n c.in_ok-number.ensures.number in
+    let x = a.file.now in let d = a.ready.d in let bytes = a.ready.bytes in let its = q.object d q.descriptor in
+    let free = asks o (ask.ToWrite a.fd (length bytes)) ∙ q.free in
+    let at = holds o a.fd ∙ q.descriptor in let s = c.show-out in let after = s.new.caller.seen in
+    let shows = subst (λ bs. IsEntered S i.caller.seen p.seen after (own_entry p.who n calls.Write (act.Show a.fd (length bs)) answer.Done)) c.as_bytes.ensures.bytes s.ensures.entered in
+    record {
+      room = q.room;
+      list = q.list;
+      place = one_left i.caller s.new.caller 1 s.ensures.caller;
+      keep = subst (λ who. 0 ≡ keeps after (entry_on x.what who n calls.Write (act.Put s.result.0 d.offset bytes) answer.Done)) (sym c.pnode-who.ensures) (put_keeps S i.caller.seen p.who n p.state a.fd bytes o.idle o.some free q.fd c.as_bytes.ensures.within
+          d at its.0 x.what its.1 p.seen after s.result.0 s.ensures.place shows);
+      who = (once i.caller s.new.caller 2 s.ensures.caller).0 ∙ o.who ∙ sym c.pnode-who.ensures;
+      allows = subst (λ who. CallerAllows after (entry_on x.what who n calls.Write (act.Put s.result.0 d.offset bytes) answer.Done)) (sym c.pnode-who.ensures) (put_allows S i.caller.seen p.who n p.state a.fd bytes o.idle o.some free q.fd c.as_bytes.ensures.within
+          d at its.0 x.what its.1 p.seen after s.result.0 s.ensures.place shows);
+      source = s.ensures.node;
+    }
 
 pub invariant_of-proc : goal.invariant_of-proc
 invariant_of-proc g c =
-    let i = c.proc.inside in
-    let e = c.in-Err.ensures in
-    looked_on g.J.Whose.book.session i.process i.number i.caller i.way c.proc.invariant c.room.new.self e.caller e.looked e.few
-
-pub returns-in-Err-clause-call : goal.returns-in-Err-clause-call
-returns-in-Err-clause-call g c =
-    let S = g.J.Whose.book.session in
-    let i = c.proc.inside in
-    let e = c.in-Err.ensures in
-    full_ends S i.process i.number i.caller i.way c.proc.invariant c.room.new.self e.caller e.looked g.J.Whose.places c.args.proc.now c.proc.view_is
-    (requests.Write c.args.fd c.args.ready.bytes) 3 c.in-Err.full c.requires.new refl e.full c.from.result c.from.ensures
-
-pub put_steps-moved-requires-clause-idle : goal.put_steps-moved-requires-clause-idle
-put_steps-moved-requires-clause-idle g c =
-    let i = c.proc.inside in
-    idle_before g.J.Whose.book.session i.process i.number i.caller c.proc.invariant.0 c.room.new.self c.in_default.ensures.same
-
-pub put_steps-moved-requires-clause-descriptor : goal.put_steps-moved-requires-clause-descriptor
-put_steps-moved-requires-clause-descriptor g c =
-    subst (λ (v : ProcView). finite_map.get v.state.descriptors c.args.fd ≡ Some c.args.ready.d) (sym c.proc.view_is) c.requires.descriptor
-
-pub put_steps-moved-requires-clause-object : goal.put_steps-moved-requires-clause-object
-put_steps-moved-requires-clause-object g c = c.requires.object c.args.ready.d c.requires.descriptor
-
-pub put_steps-moved-requires-clause-free : goal.put_steps-moved-requires-clause-free
-put_steps-moved-requires-clause-free g c =
-    subst (λ (v : ProcView). refusal v.state (ask.ToWrite c.args.fd (length c.args.ready.bytes)) ≡ None) (sym c.proc.view_is) c.requires.free
+    let S = g.J.Whose.book.session in let a = c.args in let q = c.requires in let n = c.in_ok-number.number in let i = c.proc.inside in let p = i.process in
+    let o = opened S i.process i.number i.caller i.way c.proc.invariant.0 a.proc.now (c.proc.view_is ∙ c.in_ok-number.ensures.same) n c.in_ok-number.ensures.number in
+    let x = a.file.now in let d = a.ready.d in let bytes = a.ready.bytes in let its = q.object d q.descriptor in
+    let free = asks o (ask.ToWrite a.fd (length bytes)) ∙ q.free in
+    let at = holds o a.fd ∙ q.descriptor in let s = c.show-out in let after = s.new.caller.seen in let w = c.put-to in let e = w.new.caller in
+    let shows = subst (λ bs. IsEntered S i.caller.seen p.seen after (own_entry p.who n calls.Write (act.Show a.fd (length bs)) answer.Done)) c.as_bytes.ensures.bytes s.ensures.entered in
+    let puts = subst (λ who. IsEntered S after x.seen e.seen (entry_on x.what who n calls.Write (act.Put s.result.0 d.offset bytes) answer.Done)) c.pnode-who.ensures w.ensures.entered in (
+      rests o s.new.self e (λ k. (s.ensures.state k).who) (twice i.caller s.new.caller e 2 0 s.ensures.caller w.ensures.caller)
+          (subst (λ (v : ProcessView). IsIdle S e.seen v.who n v.state) (sym s.ensures.state)
+          (subst (λ bs. IsIdle S e.seen p.who n (shown p.state a.fd (length bs))) (sym c.as_bytes.ensures.bytes) (put_idle S i.caller.seen p.who n p.state a.fd bytes o.idle o.some free q.fd c.as_bytes.ensures.within
+          d at its.0 x.what its.1 p.seen after s.result.0 s.ensures.place shows x.seen e.seen puts)))
+          w.ensures.few,
+      tt,
+    )
 
 pub returns-clause-call : goal.returns-clause-call
 returns-clause-call g c =
-    let S = g.J.Whose.book.session in
-    let i = c.proc.inside in
-    let s = c.put_steps-moved in
-    wrote S g.J.Whose.places i.process i.number i.caller i.way c.args.proc.now c.proc.view_is c.args.fd c.args.ready.bytes c.requires.new
-    s.new.process (i.number + 1) s.new.caller s.ensures.who.0 c.room.new.self c.in_default.ensures.same s.result
-    s.ensures.call
+    let S = g.J.Whose.book.session in let a = c.args in let q = c.requires in let n = c.in_ok-number.number in let i = c.proc.inside in let p = i.process in
+    let o = opened S i.process i.number i.caller i.way c.proc.invariant.0 a.proc.now (c.proc.view_is ∙ c.in_ok-number.ensures.same) n c.in_ok-number.ensures.number in
+    let x = a.file.now in let d = a.ready.d in let bytes = a.ready.bytes in let its = q.object d q.descriptor in
+    let free = asks o (ask.ToWrite a.fd (length bytes)) ∙ q.free in
+    let at = holds o a.fd ∙ q.descriptor in let s = c.show-out in let after = s.new.caller.seen in let w = c.put-to in let e = w.new.caller in
+    let shows = subst (λ bs. IsEntered S i.caller.seen p.seen after (own_entry p.who n calls.Write (act.Show a.fd (length bs)) answer.Done)) c.as_bytes.ensures.bytes s.ensures.entered in
+    let puts = subst (λ who. IsEntered S after x.seen e.seen (entry_on x.what who n calls.Write (act.Put s.result.0 d.offset bytes) answer.Done)) c.pnode-who.ensures w.ensures.entered in
+    let m : Moved = moved.Wrote (length c.as_bytes.result.now) w.result in
+    answers o s.new.self e (λ k. (s.ensures.state k).who) g.J.Whose.places (requests.Write a.fd bytes) q.new m
+    (subst (λ (v : ProcessView). HasMoved S p.who i.caller.seen e.seen v.state (requests.Write a.fd bytes) m) (sym s.ensures.state)
+    (subst (λ bs. HasMoved S p.who i.caller.seen e.seen (shown p.state a.fd (length bs)) (requests.Write a.fd bytes) (moved.Wrote (length bs) w.result)) (sym c.as_bytes.ensures.bytes)
+    (put_made S i.caller.seen p.who n p.state a.fd bytes o.idle o.some free q.fd c.as_bytes.ensures.within
+    d at its.0 x.what its.1 p.seen after s.result.0 s.ensures.place shows x.seen e.seen puts w.result w.ensures.node)))

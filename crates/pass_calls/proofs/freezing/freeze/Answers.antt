@@ -1,37 +1,53 @@
-use Rattle.std.proofs.Common.{refl, sym, subst}
-use Rattle.std.specs.Prelude.{Err}
+use Rattle.std.proofs.Common.{◌≡◌, ◌∙◌, refl, sym, subst}
+use Rattle.std.specs.Prelude.{Some}
+use Rattle.std.specs.FinMap as finite_map
+use Rattle.pass_entry.specs.declared.entry.Ask.TheVariants as ask
+use Rattle.pass_entry.specs.declared.objects.Descriptor.{Descriptor}
+use Rattle.pass_plain.specs.Legal.{CallerAllows}
+use Rattle.pass_plain.specs.Places.{keeps}
 use Rattle.pass_plain.specs.declared.request.Request.TheVariants as requests
-use Rattle.pass_hold.specs.Callings.{HasLooked}
-use Rattle.pass_proc.specs.Procs.{ProcView, proc_with}
-use Rattle.pass_proc.proofs.Steps.{frees, number_fits, still, way_looked}
-use Rattle.pass_answer.specs.Answers.{Answers}
-use Rattle.pass_answer.specs.declared.answer.CallEnd.{CallEnd}
-use Rattle.pass_answer.proofs.Wrapping.{full}
+use Rattle.pass_hold.specs.Callings.{IsEntered}
+use Rattle.pass_flow.specs.Flows.{freeze_entry}
+use Rattle.pass_answer.specs.declared.answer.Moved.TheVariants as moved
+use Rattle.pass_calls.proofs.Frame.{answers, asks, has_room, holds, once, opened, over, rests}
+use Rattle.pass_calls.proofs.VersionCalls.{freeze_allows, freeze_keeps, frozen_moved, frozen_idle}
 use Rattle.pass_calls.proofs.freezing.freeze.Goals as goal
 
-pub room-requires : goal.room-requires
-room-requires g c = let i = c.proc.inside in record { new = frees g.J.Whose.book.session i.process i.number i.caller c.proc.invariant.0 }
+pub returns-in_err-number-clause-call : goal.returns-in_err-number-clause-call
+returns-in_err-number-clause-call g c =
+    let S = g.J.Whose.book.session in let a = c.args in
+    over S g.J.Whose.places a.proc.now c.begin.new.proc (requests.FreezeObj a.fd) c.from_residual.result c.in_err-number.field-0.0 c.from_residual.ensures.1 (c.in_err-number.ensures.full (requests.FreezeObj a.fd) refl refl)
+
+pub freeze-frozen-requires : goal.freeze-frozen-requires
+freeze-frozen-requires g c =
+    let S = g.J.Whose.book.session in let a = c.args in let q = c.requires in let n = c.in_ok-number.number in let i = c.proc.inside in let p = i.process in
+    let o = opened S i.process i.number i.caller i.way c.proc.invariant.0 a.proc.now (c.proc.view_is ∙ c.in_ok-number.ensures.same) n c.in_ok-number.ensures.number in
+    let x = g.V.Versioned.object a.object.now in let free = asks o (ask.Held a.fd) ∙ q.free in
+    let its : (d : Descriptor) → finite_map.get p.state.descriptors a.fd ≡ Some d → x.what ≡ d.pnode = λ d at. q.object d (sym (holds o a.fd) ∙ at) in
+    record {
+      who = o.who ∙ sym c.pnode-who.ensures;
+      place = has_room o c.held.ensures.call c.begin.new.shelf c.in_ok-number.ensures.places;
+      keep = subst (λ who. 0 ≡ keeps i.caller.seen (freeze_entry who n x.what)) (sym c.pnode-who.ensures) (freeze_keeps S i.caller.seen p.who n p.state a.fd x.what o.idle o.some free q.fd its);
+      allows = subst (λ who. CallerAllows i.caller.seen (freeze_entry who n x.what)) (sym c.pnode-who.ensures) (freeze_allows S i.caller.seen p.who n p.state a.fd x.what o.idle o.some free q.fd its);
+    }
 
 pub invariant_of-proc : goal.invariant_of-proc
 invariant_of-proc g c =
-    let S = g.J.Whose.book.session in
-    let i = c.proc.inside in
-    let e = c.in-Err.ensures in (
-      still S i.process i.number i.caller c.proc.invariant.0 c.room.new.self i.caller.held e.caller e.looked e.few,
-      way_looked S i.process.who i.number i.caller.seen c.room.new.self.seen i.process.state i.way
-          (subst (λ w. HasLooked S w i.caller.seen c.room.new.self.seen) c.proc.invariant.0.of_who e.looked) c.proc.invariant.1,
-    )
+    let S = g.J.Whose.book.session in let a = c.args in let q = c.requires in let n = c.in_ok-number.number in let i = c.proc.inside in let p = i.process in
+    let o = opened S i.process i.number i.caller i.way c.proc.invariant.0 a.proc.now (c.proc.view_is ∙ c.in_ok-number.ensures.same) n c.in_ok-number.ensures.number in
+    let x = g.V.Versioned.object a.object.now in let free = asks o (ask.Held a.fd) ∙ q.free in
+    let its : (d : Descriptor) → finite_map.get p.state.descriptors a.fd ≡ Some d → x.what ≡ d.pnode = λ d at. q.object d (sym (holds o a.fd) ∙ at) in
+    let s = c.freeze-frozen in let e = s.new.caller in
+    let made = subst (λ who. IsEntered S i.caller.seen x.seen e.seen (freeze_entry who n x.what)) c.pnode-who.ensures s.ensures.entered in
+    (rests o p e refl (once i.caller e 0 s.ensures.caller) (frozen_idle S i.caller.seen p.who n p.state a.fd x.what o.idle o.some free q.fd its x.seen e.seen made) s.ensures.few, tt)
 
-pub overflow_add-number : goal.overflow_add-number
-overflow_add-number g c = let i = c.proc.inside in number_fits g.J.Whose.book.session i.process i.number i.caller c.proc.invariant.0
-
-pub returns-in-Err-clause-call : goal.returns-in-Err-clause-call
-returns-in-Err-clause-call g c =
-    let S = g.J.Whose.book.session in
-    let i = c.proc.inside in
-    let e = c.in-Err.ensures in
-    let r = requests.FreezeObj c.args.fd in
-    let after = proc_with i.process i.number c.room.new.self i.way in
-    subst (λ (old : ProcView). Answers S g.J.Whose.places old after r (Err c.from.result)) c.proc.view_is
-    (subst (λ (end : CallEnd). Answers S g.J.Whose.places (proc_with i.process i.number i.caller i.way) after r (Err end)) (sym c.from.ensures)
-    (full S g.J.Whose.places i.process i.number i.caller c.room.new.self i.way c.proc.invariant.0 r 3 c.in-Err.full refl refl e.caller e.looked e.full))
+pub returns-clause-call : goal.returns-clause-call
+returns-clause-call g c =
+    let S = g.J.Whose.book.session in let a = c.args in let q = c.requires in let n = c.in_ok-number.number in let i = c.proc.inside in let p = i.process in
+    let o = opened S i.process i.number i.caller i.way c.proc.invariant.0 a.proc.now (c.proc.view_is ∙ c.in_ok-number.ensures.same) n c.in_ok-number.ensures.number in
+    let x = g.V.Versioned.object a.object.now in let free = asks o (ask.Held a.fd) ∙ q.free in
+    let its : (d : Descriptor) → finite_map.get p.state.descriptors a.fd ≡ Some d → x.what ≡ d.pnode = λ d at. q.object d (sym (holds o a.fd) ∙ at) in
+    let s = c.freeze-frozen in let e = s.new.caller in
+    let made = subst (λ who. IsEntered S i.caller.seen x.seen e.seen (freeze_entry who n x.what)) c.pnode-who.ensures s.ensures.entered in
+    answers o p e refl g.J.Whose.places (requests.FreezeObj a.fd) refl (moved.Frozen s.result.1)
+    (frozen_moved S i.caller.seen p.who n p.state a.fd x.what o.idle o.some free q.fd its x.seen e.seen made s.result.0 s.result.1 s.ensures.place s.ensures.node)

@@ -1,120 +1,162 @@
-use Rattle.std.proofs.Common.{◌≡◌, ◌+◌, ◌-◌, ap, refl, sym, ◌∙◌, subst}
-use Rattle.std.specs.Prelude.{Err, List, None, Option, Some, true, ℕ}
+use Rattle.std.proofs.Common.{◌≡◌, ◌∙◌, length, refl, sym, subst, ap, true}
+use Rattle.std.specs.Prelude.{Some, None, Err, Option, List, ℕ}
 use Rattle.std.specs.Option.{option_map_or}
+use Rattle.std.specs.FinMap as finite_map
 use Rattle.pass_entry.specs.declared.entry.Ask.TheVariants as ask
 use Rattle.pass_entry.specs.declared.entry.Reply.TheVariants as answer
 use Rattle.pass_entry.specs.declared.objects.Descriptor.{Descriptor}
-use Rattle.std.specs.FinMap as finite_map
-use Rattle.pass_plain.specs.declared.request.Request.TheVariants as requests
+use Rattle.pass_plain.specs.Legal.{CallerAllows}
 use Rattle.pass_plain.specs.Pipes.{pipe_after}
-use Rattle.pass_plain.specs.Processes.{is_pipe, refusal}
+use Rattle.pass_plain.specs.Places.{keeps}
+use Rattle.pass_plain.specs.Processes.{changed_at, risen, Process, refusal, is_pipe}
 use Rattle.pass_plain.specs.Replies.{taken}
-use Rattle.pass_book.specs.Tokens.{BookState}
-use Rattle.pass_hold.specs.Callers.{CallerState}
-use Rattle.pass_hold.specs.Callings.{HasLooked, IsIdle}
+use Rattle.pass_plain.specs.declared.request.Request.TheVariants as requests
+use Rattle.pass_hold.specs.Callings.{IsEntered, IsIdle, HasLooked}
 use Rattle.pass_flow.specs.Flows.{ObjectView}
+use Rattle.pass_pipe.specs.Desks.{take_entry}
 use Rattle.pass_proc.specs.Procs.{ProcView, proc_with}
 use Rattle.pass_proc.specs.Views.{ProcessView}
-use Rattle.pass_proc.proofs.Steps.{frees, idle_before, number_fits, still, way_looked}
-use Rattle.pass_answer.specs.Answers.{Answers}
+use Rattle.pass_answer.specs.Answers.{Answers, HasMoved}
 use Rattle.pass_answer.specs.declared.answer.CallEnd.{CallEnd}
 use Rattle.pass_answer.specs.declared.answer.CallEnd.TheVariants as ends
-use Rattle.pass_calls.proofs.PipeReads.{read_ready, read_waits}
+use Rattle.pass_answer.specs.declared.answer.Moved.{Moved}
+use Rattle.pass_answer.specs.declared.answer.Moved.TheVariants as moved
+use Rattle.pass_answer.proofs.Between.{looked_on}
+use Rattle.pass_calls.proofs.Frame.{answers, asks, has_room, holds, opened, ready, rests, twice}
+use Rattle.pass_calls.proofs.PipeReads.{read_ready, read_waits, take_allows, take_keeps, gives, gain_allows, gain_keeps, read_moved, read_idle}
 use Rattle.pass_answer.proofs.Ready.{is_there}
 use Rattle.pass_calls.proofs.Readiness.{still_full}
-use Rattle.pass_answer.proofs.Between.{full_ends, looked_on}
-use Rattle.pass_answer.proofs.Waiting.{reserved}
 use Rattle.pass_calls.proofs.pipe_reading.read_pipe.Goals as goal
 
-pub invariant_of-proc-in_default : goal.invariant_of-proc-in_default
-invariant_of-proc-in_default g c =
-    let S = g.J.Whose.book.session in
-    let i = c.proc.inside in
-    let e = c.look.ensures in
-    let d = c.look.new.caller in
-    reserved S i.process c.reserve.new.self i.number d i.way c.in_ok-reserve.ensures.same (
-      still S i.process i.number i.caller c.proc.invariant.0 d i.caller.held e.caller e.looked e.few,
-      way_looked S i.process.who i.number i.caller.seen d.seen i.process.state i.way
-          (subst (λ w. HasLooked S w i.caller.seen d.seen) c.proc.invariant.0.of_who e.looked) c.proc.invariant.1,
-    )
+pub invariant_of-proc : goal.invariant_of-proc
+invariant_of-proc g c =
+    let S = g.J.Whose.book.session in let i = c.proc.inside in let l = c.look in let dd = l.new.caller in
+    looked_on S i.process i.number i.caller i.way c.proc.invariant dd l.ensures.caller l.ensures.looked l.ensures.few
 
 pub returns-in_default-clause-call : goal.returns-in_default-clause-call
 returns-in_default-clause-call g c =
-    let S = g.J.Whose.book.session in
-    let a = c.args in
-    let i = c.proc.inside in
-    let e = c.look.ensures in
-    let d = c.look.new.caller in
-    let p = c.reserve.new.self in
-    let same = c.in_ok-reserve.ensures.same in
-    let what = a.pipe.now.what in
-    let seen : pipe_after d.seen what ≡ pipe_after a.pipe.now.seen what =
-    ap (λ h. pipe_after h what) (e.whole ∙ sym (ap (λ (v : ObjectView). v.seen) e.pipe)) ∙ ap (λ o. pipe_after c.look.new.self.seen o) (sym (ap (λ (v : ObjectView). v.what) e.pipe)) ∙ e.same in
-    let again : CallEnd = ends.Again in
-    subst (λ (old : ProcView). Answers S g.J.Whose.places old (proc_with p i.number d i.way) (requests.Read a.fd a.len) (Err again)) c.proc.view_is
-    (read_waits S (proc_with i.process i.number i.caller i.way) (proc_with p i.number d i.way) a.fd a.len what c.proc.invariant.0.idle
-    (subst (λ (v : ProcView). refusal v.state (ask.ToRead a.fd) ≡ None) (sym c.proc.view_is) c.requires.free)
-    (subst (λ (v : ProcView). (x : Descriptor) → finite_map.get v.state.descriptors a.fd ≡ Some x → (is_pipe x ≡ true) × (what ≡ x.pnode)) (sym c.proc.view_is) c.requires.object)
-    (subst (λ w. HasLooked S w i.caller.seen d.seen) c.proc.invariant.0.of_who e.looked)
-    (ap (λ q. taken q a.len) seen ∙ sym c.in_ok-bytes.ensures ∙ ap (λ (o : Option (List ℕ)). option_map_or (λ b. Some (answer.Took b)) o None) c.in_default.is)
-    (λ k. record {
-      who = (ap (λ (v : ProcessView). v.who) same) k;
-      number = i.number;
-      seen = d.seen;
-      syncs = d.syncs;
-      looks = (ap (λ (v : CallerState). v.looks) e.caller) k;
-      looked = (ap (λ (v : CallerState). v.looked) e.caller) k;
-      state = (ap (λ (v : ProcessView). v.state) same) k;
-      way = i.way;
-    }))
-
-pub room-requires : goal.room-requires
-room-requires g c = let i = c.proc.inside in record { new = frees g.J.Whose.book.session i.process i.number i.caller c.proc.invariant.0 }
+    let S = g.J.Whose.book.session in let a = c.args in let q = c.requires in let i = c.proc.inside in let x = a.pipe.now in let l = c.look in let dd = l.new.caller in
+    let looked = subst (λ who. HasLooked S who i.caller.seen dd.seen) c.proc.invariant.0.of_who l.ensures.looked in
+    let as_before = ap (λ h. pipe_after h x.what) (l.ensures.whole ∙ sym (ap (λ (v : ObjectView). v.seen) l.ensures.pipe)) ∙ ap (λ what. pipe_after l.new.self.seen what) (sym (ap (λ (v : ObjectView). v.what) l.ensures.pipe)) ∙ l.ensures.same in
+    let again : CallEnd = ends.Again in subst (λ (v : ProcView). Answers S g.J.Whose.places v (proc_with i.process i.number dd i.way) (requests.Read a.fd a.len) (Err again)) c.proc.view_is
+    (read_waits S (proc_with i.process i.number i.caller i.way) (proc_with i.process i.number dd i.way) a.fd a.len x.what c.proc.invariant.0.idle
+    (ap (λ (v : ProcView). refusal v.state (ask.ToRead a.fd)) c.proc.view_is ∙ q.free)
+    (λ (y : Descriptor) at. q.object y (ap (λ (v : ProcView). finite_map.get v.state.descriptors a.fd) (sym c.proc.view_is) ∙ at))
+    looked
+    (ap (λ bytes_of. taken bytes_of a.len) as_before ∙ sym c.in_ok-bytes.ensures ∙ ap (λ (got : Option (List ℕ)). option_map_or (λ bs. Some (answer.Took bs)) got None) c.in_default.is)
+    (λ k. record (proc_with i.process i.number dd i.way) { looks = (l.ensures.caller k).looks; looked = (l.ensures.caller k).looked }))
 
 pub invariant_of-proc-in-Err : goal.invariant_of-proc-in-Err
 invariant_of-proc-in-Err g c =
-    let S = g.J.Whose.book.session in
-    let i = c.proc.inside in
-    let e = c.in-Err.ensures in
-    let l = c.look-in-Err.ensures in
-    let d = c.room.new.self in
-    let last = c.look-in-Err.new.caller in
-    reserved S i.process c.reserve.new.self i.number last i.way c.in_ok-reserve.ensures.same
-    (looked_on S i.process i.number d i.way (looked_on S i.process i.number i.caller i.way c.proc.invariant d e.caller e.looked e.few) last l.caller l.looked l.few)
-
-pub overflow_add-number : goal.overflow_add-number
-overflow_add-number g c = let i = c.proc.inside in number_fits g.J.Whose.book.session i.process i.number i.caller c.proc.invariant.0
+    let S = g.J.Whose.book.session in let i = c.proc-2.inside in let l = c.look-in-Err in
+    looked_on S i.process i.number i.caller i.way c.proc-2.invariant l.new.caller l.ensures.caller l.ensures.looked l.ensures.few
 
 pub returns-in-Err-clause-call : goal.returns-in-Err-clause-call
 returns-in-Err-clause-call g c =
-    let S = g.J.Whose.book.session in
-    let places = g.J.Whose.places in
-    let i = c.proc.inside in
-    let e = c.in-Err.ensures in
-    let l = c.look-in-Err.ensures in
-    let r = requests.Read c.args.fd c.args.len in
-    let d = c.room.new.self in
-    let last = c.look-in-Err.new.caller in
-    let f = c.in-Err.full in
-    subst (λ (q : ProcessView). Answers S places c.args.proc.now (proc_with q i.number last i.way) r (Err c.from.result)) (sym c.in_ok-reserve.ensures.same)
-    (still_full S places c.args.proc.now i.process i.number d last i.way r l.caller (l.whole ∙ ap (λ (b : BookState). b.history) e.shelf ∙ sym e.whole) f.left f.need c.from.result c.from.ensures
-    (full_ends S i.process i.number i.caller i.way c.proc.invariant d e.caller e.looked places c.args.proc.now c.proc.view_is r 3 f refl refl e.full c.from.result c.from.ensures))
+    let S = g.J.Whose.book.session in let a = c.args in let i = c.proc-2.inside in let l = c.look-in-Err in let last = l.new.caller in
+    let r = requests.Read a.fd a.len in
+    let mid = proc_with i.process i.number i.caller i.way in let new = proc_with i.process i.number last i.way in
+    still_full S g.J.Whose.places a.proc.now mid new r (λ k. record new { looks = (l.ensures.caller k).looks; looked = (l.ensures.caller k).looked })
+    (l.ensures.whole ∙ sym c.in-Err.ensures.whole ∙ ap (λ (v : ProcView). v.seen) (sym c.proc-2.view_is)) c.in-Err.full c.in-Err.ensures.only
+    (subst (λ (v : ProcView). Answers S g.J.Whose.places a.proc.now v r (Err c.in-Err.full)) (sym c.proc-2.view_is) (c.in-Err.ensures.full r refl refl))
 
 pub returns-in-Err-clause-ready : goal.returns-in-Err-clause-ready
 returns-in-Err-clause-ready g c =
-    let S = g.J.Whose.book.session in
-    let a = c.args in
-    let l = c.look-in-Err.ensures in
-    let what = a.pipe.now.what in
-    let seen : pipe_after c.look-in-Err.new.caller.seen what ≡ pipe_after a.pipe.now.seen what =
-    ap (λ h. pipe_after h what) (l.whole ∙ sym (ap (λ (v : ObjectView). v.seen) l.pipe)) ∙ ap (λ o. pipe_after c.look-in-Err.new.self.seen o) (sym (ap (λ (v : ObjectView). v.what) l.pipe)) ∙ l.same in
-    let reply = ap (λ q. taken q a.len) seen ∙ sym c.in_ok-bytes.ensures ∙ ap (λ (o : Option (List ℕ)). option_map_or (λ b. Some (answer.Took b)) o None) c.in-Some.is in
-    read_ready S a.proc.now (proc_with c.reserve.new.self c.proc.inside.number c.look-in-Err.new.caller c.proc.inside.way) a.fd a.len what c.requires.free c.requires.object
-    (is_there (taken (pipe_after c.look-in-Err.new.caller.seen what) a.len) (answer.Took c.in-Some.bytes) reply) c.from.result
+    let S = g.J.Whose.book.session in let a = c.args in let q = c.requires in let i = c.proc-2.inside in let x = a.pipe.now in let l = c.look-in-Err in let last = l.new.caller in
+    let as_before : pipe_after last.seen x.what ≡ pipe_after x.seen x.what =
+    ap (λ h. pipe_after h x.what) (l.ensures.whole ∙ sym (ap (λ (v : ObjectView). v.seen) l.ensures.pipe)) ∙ ap (λ what. pipe_after l.new.self.seen what) (sym (ap (λ (v : ObjectView). v.what) l.ensures.pipe)) ∙ l.ensures.same in
+    let reply = ap (λ bytes_of. taken bytes_of a.len) as_before ∙ sym c.in_ok-bytes.ensures ∙ ap (λ (got : Option (List ℕ)). option_map_or (λ bs. Some (answer.Took bs)) got None) c.in-Some.is in
+    read_ready S a.proc.now (proc_with i.process i.number last i.way) a.fd a.len x.what q.free q.object
+    (is_there (taken (pipe_after last.seen x.what) a.len) (answer.Took c.in-Some.bytes) reply) c.in-Err.full
 
-pub take_steps-moved-requires-clause-idle : goal.take_steps-moved-requires-clause-idle
-take_steps-moved-requires-clause-idle g c =
-    let S = g.J.Whose.book.session in
-    let i = c.proc.inside in
-    subst (λ (q : ProcessView). IsIdle S c.room.new.self.seen q.who (i.number + 1 - 1) q.state) (sym c.in_ok-reserve.ensures.same)
-    (idle_before S i.process i.number i.caller c.proc.invariant.0 c.room.new.self c.in_default-room.ensures.same)
+pub take-out-requires-clause-place : goal.take-out-requires-clause-place
+take-out-requires-clause-place g c =
+    let S = g.J.Whose.book.session in let a = c.args in let n = c.in-Ok.number in let i = c.proc-2.inside in let p = c.reserve.new.self in
+    let o = ready (opened S i.process i.number i.caller i.way c.proc-2.invariant.0 a.proc.now (c.proc-2.view_is ∙ c.in-Ok.ensures.same) n c.in-Ok.ensures.number) p c.in_ok-reserve.ensures.same in
+    has_room o c.held.ensures.call c.begin.new.shelf c.in-Ok.ensures.places
+
+pub take-out-requires-clause-keep : goal.take-out-requires-clause-keep
+take-out-requires-clause-keep g c =
+    let S = g.J.Whose.book.session in let a = c.args in let q = c.requires in let n = c.in-Ok.number in let i = c.proc-2.inside in let p = c.reserve.new.self in
+    let o = ready (opened S i.process i.number i.caller i.way c.proc-2.invariant.0 a.proc.now (c.proc-2.view_is ∙ c.in-Ok.ensures.same) n c.in-Ok.ensures.number) p c.in_ok-reserve.ensures.same in
+    let x = a.pipe.now in let free = asks o (ask.ToRead a.fd) ∙ q.free in
+    let its : (d : Descriptor) → finite_map.get p.state.descriptors a.fd ≡ Some d → (is_pipe d ≡ true) × (x.what ≡ d.pnode) = λ d at. q.object d (sym (holds o a.fd) ∙ at) in
+    let bytes = c.in-Some.bytes in
+    subst (λ who. 2 ≡ keeps i.caller.seen (take_entry who n x.what a.len bytes)) (sym c.pnode-who.ensures) (take_keeps S i.caller.seen p.who n p.state a.fd a.len bytes x.what o.idle o.some free q.fd q.len.0 q.len.1 its)
+
+pub take-out-requires-clause-allows : goal.take-out-requires-clause-allows
+take-out-requires-clause-allows g c =
+    let S = g.J.Whose.book.session in let a = c.args in let q = c.requires in let n = c.in-Ok.number in let i = c.proc-2.inside in let p = c.reserve.new.self in
+    let o = ready (opened S i.process i.number i.caller i.way c.proc-2.invariant.0 a.proc.now (c.proc-2.view_is ∙ c.in-Ok.ensures.same) n c.in-Ok.ensures.number) p c.in_ok-reserve.ensures.same in
+    let x = a.pipe.now in let free = asks o (ask.ToRead a.fd) ∙ q.free in
+    let its : (d : Descriptor) → finite_map.get p.state.descriptors a.fd ≡ Some d → (is_pipe d ≡ true) × (x.what ≡ d.pnode) = λ d at. q.object d (sym (holds o a.fd) ∙ at) in
+    let bytes = c.in-Some.bytes in
+    subst (λ who. CallerAllows i.caller.seen (take_entry who n x.what a.len bytes)) (sym c.pnode-who.ensures) (take_allows S i.caller.seen p.who n p.state a.fd a.len bytes x.what o.idle o.some free q.fd q.len.0 q.len.1 its)
+
+pub gain-requires-clause-bytes : goal.gain-requires-clause-bytes
+gain-requires-clause-bytes g c =
+    let S = g.J.Whose.book.session in let a = c.args in let q = c.requires in let n = c.in-Ok.number in let i = c.proc-2.inside in let p = c.reserve.new.self in
+    let o = ready (opened S i.process i.number i.caller i.way c.proc-2.invariant.0 a.proc.now (c.proc-2.view_is ∙ c.in-Ok.ensures.same) n c.in-Ok.ensures.number) p c.in_ok-reserve.ensures.same in
+    let x = a.pipe.now in let free = asks o (ask.ToRead a.fd) ∙ q.free in
+    let its : (d : Descriptor) → finite_map.get p.state.descriptors a.fd ≡ Some d → (is_pipe d ≡ true) × (x.what ≡ d.pnode) = λ d at. q.object d (sym (holds o a.fd) ∙ at) in
+    let bytes = c.in-Some.bytes in let read = c.in_ok-read.read in let copied = c.in_ok-read.ensures.cases in let s = c.take-out in let after = s.new.caller.seen in
+    let takes = subst (λ who. IsEntered S i.caller.seen x.seen after (take_entry who n x.what a.len bytes)) c.pnode-who.ensures s.ensures.entered in
+    gives S i.caller.seen p.who n p.state a.fd a.len bytes x.what o.idle o.some free q.fd q.len.0 q.len.1 its
+    x.seen after s.result.0 s.ensures.place takes ∙ sym copied
+
+pub gain-requires-clause-keep : goal.gain-requires-clause-keep
+gain-requires-clause-keep g c =
+    let S = g.J.Whose.book.session in let a = c.args in let q = c.requires in let n = c.in-Ok.number in let i = c.proc-2.inside in let p = c.reserve.new.self in
+    let o = ready (opened S i.process i.number i.caller i.way c.proc-2.invariant.0 a.proc.now (c.proc-2.view_is ∙ c.in-Ok.ensures.same) n c.in-Ok.ensures.number) p c.in_ok-reserve.ensures.same in
+    let x = a.pipe.now in let free = asks o (ask.ToRead a.fd) ∙ q.free in
+    let its : (d : Descriptor) → finite_map.get p.state.descriptors a.fd ≡ Some d → (is_pipe d ≡ true) × (x.what ≡ d.pnode) = λ d at. q.object d (sym (holds o a.fd) ∙ at) in
+    let bytes = c.in-Some.bytes in let s = c.take-out in let after = s.new.caller.seen in
+    let takes = subst (λ who. IsEntered S i.caller.seen x.seen after (take_entry who n x.what a.len bytes)) c.pnode-who.ensures s.ensures.entered in
+    gain_keeps S i.caller.seen p.who n p.state a.fd a.len bytes x.what o.idle o.some free q.fd q.len.0 q.len.1 its
+    x.seen after s.result.0 s.ensures.place takes
+
+pub gain-requires-clause-allows : goal.gain-requires-clause-allows
+gain-requires-clause-allows g c =
+    let S = g.J.Whose.book.session in let a = c.args in let q = c.requires in let n = c.in-Ok.number in let i = c.proc-2.inside in let p = c.reserve.new.self in
+    let o = ready (opened S i.process i.number i.caller i.way c.proc-2.invariant.0 a.proc.now (c.proc-2.view_is ∙ c.in-Ok.ensures.same) n c.in-Ok.ensures.number) p c.in_ok-reserve.ensures.same in
+    let x = a.pipe.now in let free = asks o (ask.ToRead a.fd) ∙ q.free in
+    let its : (d : Descriptor) → finite_map.get p.state.descriptors a.fd ≡ Some d → (is_pipe d ≡ true) × (x.what ≡ d.pnode) = λ d at. q.object d (sym (holds o a.fd) ∙ at) in
+    let bytes = c.in-Some.bytes in let s = c.take-out in let after = s.new.caller.seen in
+    let takes = subst (λ who. IsEntered S i.caller.seen x.seen after (take_entry who n x.what a.len bytes)) c.pnode-who.ensures s.ensures.entered in
+    gain_allows S i.caller.seen p.who n p.state a.fd a.len bytes x.what o.idle o.some free q.fd q.len.0 q.len.1 its
+    x.seen after s.result.0 s.ensures.place takes
+
+pub invariant_of-proc-2 : goal.invariant_of-proc-2
+invariant_of-proc-2 g c =
+    let S = g.J.Whose.book.session in let a = c.args in let q = c.requires in let n = c.in-Ok.number in let i = c.proc-2.inside in let p = c.reserve.new.self in
+    let o = ready (opened S i.process i.number i.caller i.way c.proc-2.invariant.0 a.proc.now (c.proc-2.view_is ∙ c.in-Ok.ensures.same) n c.in-Ok.ensures.number) p c.in_ok-reserve.ensures.same in
+    let x = a.pipe.now in let free = asks o (ask.ToRead a.fd) ∙ q.free in
+    let its : (d : Descriptor) → finite_map.get p.state.descriptors a.fd ≡ Some d → (is_pipe d ≡ true) × (x.what ≡ d.pnode) = λ d at. q.object d (sym (holds o a.fd) ∙ at) in
+    let bytes = c.in-Some.bytes in let read = c.in_ok-read.read in let copied = c.in_ok-read.ensures.cases in let s = c.take-out in let after = s.new.caller.seen in let w = c.gain in
+    let e = w.new.caller in
+    let takes = subst (λ who. IsEntered S i.caller.seen x.seen after (take_entry who n x.what a.len bytes)) c.pnode-who.ensures s.ensures.entered in
+    let state = ap (λ (v : ProcessView). v.state) w.ensures.state ∙ ap (λ bs. record p.state { descriptors = changed_at p.state.descriptors a.fd (risen (length bs)); last_read = bs }) copied in (
+      rests o w.new.self e (λ k. (w.ensures.state k).who) (twice i.caller s.new.caller e 2 0 s.ensures.caller w.ensures.caller)
+          (subst (λ who. IsIdle S e.seen who n w.new.self.state) (λ k. (sym w.ensures.state k).who)
+          (subst (λ (v : Process). IsIdle S e.seen p.who n v) (sym state) (read_idle S i.caller.seen p.who n p.state a.fd a.len bytes x.what o.idle o.some free q.fd q.len.0 q.len.1 its
+          x.seen after s.result.0 s.ensures.place takes p.seen e.seen w.ensures.entered)))
+          w.ensures.few,
+      tt,
+    )
+
+pub returns-clause-call : goal.returns-clause-call
+returns-clause-call g c =
+    let S = g.J.Whose.book.session in let a = c.args in let q = c.requires in let n = c.in-Ok.number in let i = c.proc-2.inside in let p = c.reserve.new.self in
+    let o = ready (opened S i.process i.number i.caller i.way c.proc-2.invariant.0 a.proc.now (c.proc-2.view_is ∙ c.in-Ok.ensures.same) n c.in-Ok.ensures.number) p c.in_ok-reserve.ensures.same in
+    let x = a.pipe.now in let free = asks o (ask.ToRead a.fd) ∙ q.free in
+    let its : (d : Descriptor) → finite_map.get p.state.descriptors a.fd ≡ Some d → (is_pipe d ≡ true) × (x.what ≡ d.pnode) = λ d at. q.object d (sym (holds o a.fd) ∙ at) in
+    let bytes = c.in-Some.bytes in let read = c.in_ok-read.read in let copied = c.in_ok-read.ensures.cases in let s = c.take-out in let after = s.new.caller.seen in let w = c.gain in
+    let e = w.new.caller in
+    let takes = subst (λ who. IsEntered S i.caller.seen x.seen after (take_entry who n x.what a.len bytes)) c.pnode-who.ensures s.ensures.entered in
+    let state = ap (λ (v : ProcessView). v.state) w.ensures.state ∙ ap (λ bs. record p.state { descriptors = changed_at p.state.descriptors a.fd (risen (length bs)); last_read = bs }) copied in
+    let m : Moved = moved.Read (length c.as_bytes.result.now) s.result.1 in
+    answers o w.new.self e (λ k. (w.ensures.state k).who) g.J.Whose.places (requests.Read a.fd a.len) refl m
+    (subst (λ (v : Process). HasMoved S p.who i.caller.seen e.seen v (requests.Read a.fd a.len) m) (sym state)
+    (subst (λ bs. HasMoved S p.who i.caller.seen e.seen (record p.state { descriptors = changed_at p.state.descriptors a.fd (risen (length bytes)); last_read = bytes }) (requests.Read a.fd a.len) (moved.Read (length bs) s.result.1)) (sym (c.as_bytes.ensures.bytes ∙ copied))
+    (read_moved S i.caller.seen p.who n p.state a.fd a.len bytes x.what o.idle o.some free q.fd q.len.0 q.len.1 its
+    x.seen after s.result.0 s.ensures.place takes p.seen e.seen w.ensures.entered s.result.1 s.ensures.node)))

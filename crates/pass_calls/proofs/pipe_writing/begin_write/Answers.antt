@@ -1,83 +1,73 @@
-use Rattle.std.proofs.Common.{◌≡◌, ◌+◌, ◌<◌, ap, false, length, refl, sym, ◌∙◌, subst, [], ◌∷◌}
-use Rattle.std.specs.Prelude.{Err, None, Some}
+use Rattle.std.proofs.Common.{◌≡◌, ◌∙◌, length, refl, sym, subst, ap}
+use Rattle.std.specs.Prelude.{Some, Err, take}
+use Rattle.std.specs.FinMap as finite_map
 use Rattle.pass_entry.specs.declared.entry.Act.TheVariants as act
-use Rattle.pass_entry.specs.declared.objects.Descriptor.{Descriptor}
+use Rattle.pass_entry.specs.declared.entry.Ask.TheVariants as ask
+use Rattle.pass_entry.specs.declared.entry.CallName.TheVariants as calls
+use Rattle.pass_entry.specs.declared.entry.Reply.TheVariants as answer
+use Rattle.pass_plain.specs.Legal.{CallerAllows}
+use Rattle.pass_plain.specs.Places.{keeps}
+use Rattle.pass_plain.specs.Processes.{changed_at, risen, Process}
 use Rattle.pass_plain.specs.declared.request.Request.TheVariants as requests
-use Rattle.pass_plain.specs.Pipes.{pipe_after}
-use Rattle.pass_plain.specs.Replies.{pushed, reply_to}
-use Rattle.pass_hold.specs.Callers.{CallerState}
-use Rattle.pass_hold.specs.Callings.{HasLooked, IsGoing}
-use Rattle.pass_proc.specs.Procs.{ProcView, is_way, proc_with}
-use Rattle.pass_proc.specs.UnderWay.{show_entry}
-use Rattle.pass_proc.proofs.Steps.{frees, idle_before, number_fits, still, way_looked}
+use Rattle.pass_hold.specs.Callings.{IsEntered, IsIdle}
+use Rattle.pass_proc.specs.Acts.{own_entry}
+use Rattle.pass_proc.specs.UnderWay.{IsUnderWay}
+use Rattle.pass_proc.specs.Views.{ProcessView}
+use Rattle.pass_proc.specs.declared.way.Way.{Way}
 use Rattle.pass_answer.specs.Answers.{Answers}
-use Rattle.pass_answer.specs.declared.answer.CallEnd.{CallEnd}
-use Rattle.pass_answer.specs.declared.answer.CallEnd.TheVariants as ends
-use Rattle.pass_calls.proofs.PipeWrites.{write_waits}
-use Rattle.pass_answer.proofs.Wrapping.{begins_now, full}
+use Rattle.pass_calls.proofs.Begun.{begins_write}
+use Rattle.pass_calls.proofs.Frame.{asks, has_room, holds, once, opened, passed, rests}
+use Rattle.pass_calls.proofs.PipeWrites.{show_allows, show_keeps, shown_idle, under_way, still_held}
 use Rattle.pass_calls.proofs.pipe_writing.begin_write.Goals as goal
 
-pub room-requires : goal.room-requires
-room-requires g c = let i = c.proc.inside in record { new = frees g.J.Whose.book.session i.process i.number i.caller c.proc.invariant.0 }
+pub returns-in_err-number-clause-full : goal.returns-in_err-number-clause-full
+returns-in_err-number-clause-full g c =
+    let S = g.J.Whose.book.session in let a = c.args in let q = c.requires in
+    passed c.from_residual.result c.in_err-number.field-0.0 (λ end. Answers S g.J.Whose.places a.proc.now c.begin.new.proc (requests.Write a.fd a.bytes) (Err end)) c.from_residual.ensures.1 (c.in_err-number.ensures.full (requests.Write a.fd a.bytes) refl q.new)
+
+pub show-out-requires : goal.show-out-requires
+show-out-requires g c =
+    let S = g.J.Whose.book.session in let a = c.args in let q = c.requires in let n = c.in_ok-number.number in let i = c.proc.inside in let p = i.process in
+    let o = opened S i.process i.number i.caller i.way c.proc.invariant.0 a.proc.now (c.proc.view_is ∙ c.in_ok-number.ensures.same) n c.in_ok-number.ensures.number in
+    let bytes = a.bytes in let d = c.held-to.result in
+    let free = asks o (ask.ToWrite a.fd (length bytes)) ∙ q.free in
+    let at = holds o a.fd ∙ c.held-to.ensures in let pipe = q.pipe d c.held-to.ensures in
+    record {
+      fd = q.fd;
+      place = has_room o c.held.ensures.call c.begin.new.shelf c.in_ok-number.ensures.places;
+      keep = subst (λ bs. 2 ≡ keeps i.caller.seen (own_entry p.who n calls.Write (act.Show a.fd (length bs)) answer.Done)) (sym c.as_bytes.ensures.bytes) (show_keeps S i.caller.seen p.who n p.state a.fd bytes d o.idle o.some free q.fd c.as_bytes.ensures.within at pipe);
+      exit = refl;
+      who = o.who;
+      allows = subst (λ bs. CallerAllows i.caller.seen (own_entry p.who n calls.Write (act.Show a.fd (length bs)) answer.Done)) (sym c.as_bytes.ensures.bytes) (show_allows S i.caller.seen p.who n p.state a.fd bytes d o.idle o.some free q.fd c.as_bytes.ensures.within at pipe);
+    }
 
 pub invariant_of-proc : goal.invariant_of-proc
 invariant_of-proc g c =
-    let S = g.J.Whose.book.session in
-    let i = c.proc.inside in
-    let e = c.in-Err.ensures in (
-      still S i.process i.number i.caller c.proc.invariant.0 c.room.new.self i.caller.held e.caller e.looked e.few,
-      way_looked S i.process.who i.number i.caller.seen c.room.new.self.seen i.process.state i.way
-          (subst (λ w. HasLooked S w i.caller.seen c.room.new.self.seen) c.proc.invariant.0.of_who e.looked) c.proc.invariant.1,
+    let S = g.J.Whose.book.session in let a = c.args in let q = c.requires in let n = c.in_ok-number.number in let i = c.proc.inside in let p = i.process in
+    let o = opened S i.process i.number i.caller i.way c.proc.invariant.0 a.proc.now (c.proc.view_is ∙ c.in_ok-number.ensures.same) n c.in_ok-number.ensures.number in
+    let bytes = a.bytes in let d = c.held-to.result in
+    let free = asks o (ask.ToWrite a.fd (length bytes)) ∙ q.free in
+    let at = holds o a.fd ∙ c.held-to.ensures in let pipe = q.pipe d c.held-to.ensures in let s = c.show-out in let e = s.new.caller in let after = e.seen in let out = s.result.0 in
+    let shows = subst (λ bs. IsEntered S i.caller.seen p.seen after (own_entry p.who n calls.Write (act.Show a.fd (length bs)) answer.Done)) c.as_bytes.ensures.bytes s.ensures.entered in
+    let state = ap (λ (v : ProcessView). v.state) s.ensures.state ∙ ap (λ bs. record p.state { descriptors = changed_at p.state.descriptors a.fd (risen (length bs)) }) c.as_bytes.ensures.bytes in
+    let way : Way = record { fd = a.fd; bytes = bytes; to = d; out = out; source = s.result.1 } in (
+      rests o s.new.self e (λ k. (s.ensures.state k).who) (once i.caller e 2 s.ensures.caller)
+          (subst (λ w. IsIdle S after w n s.new.self.state) (λ k. (sym s.ensures.state k).who)
+          (subst (λ (v : Process). IsIdle S after p.who n v) (sym state) (shown_idle S i.caller.seen p.who n p.state a.fd bytes d o.idle o.some free q.fd c.as_bytes.ensures.within at pipe p.seen after out s.ensures.place shows)))
+          s.ensures.few,
+      subst (λ w. IsUnderWay S w n (take out after) after s.new.self.state way) (λ k. (sym s.ensures.state k).who)
+          (subst (λ (v : Process). IsUnderWay S p.who n (take out after) after v way) (sym state)
+          (under_way S i.caller.seen p.who n p.state a.fd bytes d o.idle o.some free q.fd c.as_bytes.ensures.within at pipe p.seen after out s.ensures.place s.result.1 s.ensures.node shows)),
     )
 
-pub overflow_add-number : goal.overflow_add-number
-overflow_add-number g c = let i = c.proc.inside in number_fits g.J.Whose.book.session i.process i.number i.caller c.proc.invariant.0
-
-pub returns-in-Err-clause-call : goal.returns-in-Err-clause-call
-returns-in-Err-clause-call g c =
-    let S = g.J.Whose.book.session in
-    let i = c.proc.inside in
-    let e = c.in-Err.ensures in
-    let r = requests.Write c.args.fd c.args.bytes in
-    let after = proc_with i.process i.number c.room.new.self i.way in
-    subst (λ (old : ProcView). Answers S g.J.Whose.places old after r (Err c.from.result)) c.proc.view_is
-    (subst (λ (end : CallEnd). Answers S g.J.Whose.places (proc_with i.process i.number i.caller i.way) after r (Err end)) (sym c.from.ensures)
-    (full S g.J.Whose.places i.process i.number i.caller c.room.new.self i.way c.proc.invariant.0 r 3 c.in-Err.full (ap (λ (v : ProcView). is_way v.way c.args.fd c.args.bytes) c.proc.view_is ∙ c.requires.new) refl e.caller e.looked e.full))
-
-pub wait_steps-way-requires-clause-idle : goal.wait_steps-way-requires-clause-idle
-wait_steps-way-requires-clause-idle g c =
-    let i = c.proc.inside in
-    idle_before g.J.Whose.book.session i.process i.number i.caller c.proc.invariant.0 c.room.new.self c.in_default-room.ensures.same
-
-pub write_steps-result-requires-clause-idle : goal.write_steps-result-requires-clause-idle
-write_steps-result-requires-clause-idle g c =
-    let i = c.proc.inside in
-    idle_before g.J.Whose.book.session i.process i.number i.caller c.proc.invariant.0 c.room.new.self c.in_default-room.ensures.same
-
-pub returns-then-is_full_for-clause-call : goal.returns-then-is_full_for-clause-call
-returns-then-is_full_for-clause-call g c =
-    let S = g.J.Whose.book.session in
-    let a = c.args in
-    let i = c.proc.inside in
-    let e = c.wait_steps-way.ensures in
-    let d = c.wait_steps-way.new.caller in
-    let q = c.wait_steps-way.new.process in
-    let w = c.wait_steps-way.result in
-    let n = i.number + 1 in
-    let same = c.in_default-room.ensures.same in
-    let old = proc_with i.process i.number i.caller i.way in
-    let new = proc_with q n d (Some w) in
-    let fresh : is_way i.way w.fd w.bytes ≡ false =
-    ap (λ (v : ProcView). is_way v.way w.fd w.bytes) c.proc.view_is ∙ ap (λ f. is_way a.proc.now.way f w.bytes) e.way.0 ∙ ap (λ b. is_way a.proc.now.way a.fd b) e.way.1 ∙ c.requires.new in
-    let made = (w.out, show_entry i.process.who n w) ∷ [] in
-    let going = subst (λ f. IsGoing S i.caller.seen d.seen i.process.who n (requests.Write f w.bytes) i.process.state made q.state) (sym e.way.0)
-    (subst (λ b. IsGoing S i.caller.seen d.seen i.process.who n (requests.Write a.fd b) i.process.state made q.state) (sym e.way.1)
-    (subst (λ (v : CallerState). IsGoing S v.seen d.seen i.process.who n (requests.Write a.fd a.bytes) i.process.state made q.state) same e.going)) in
-    let unready : reply_to S d.seen w.to.pnode (act.Push w.out w.bytes) ≡ None =
-    ap (λ (x : Descriptor). pushed (pipe_after d.seen x.pnode) (length w.bytes)) e.way.2 ∙ ap (λ b. pushed (pipe_after d.seen c.in-Some.to.pnode) (length b)) e.way.1 ∙ e.unready in
-    let again : CallEnd = ends.Again in
-    subst (λ (v : ProcView). Answers S g.J.Whose.places v new (requests.Write a.fd a.bytes) (Err again)) c.proc.view_is
-    (subst (λ f. Answers S g.J.Whose.places old new (requests.Write f a.bytes) (Err again)) e.way.0
-    (subst (λ b. Answers S g.J.Whose.places old new (requests.Write w.fd b) (Err again)) e.way.1
-    (write_waits S old new n i.process.state w i.caller.seen (begins_now old (requests.Write w.fd w.bytes) fresh) e.under going unready going.is.begins
-    (subst (λ (v : CallerState). v.looks < d.looks) same e.looks.0) e.looks.1 e.who.0 refl)))
+pub returns-clause-begun : goal.returns-clause-begun
+returns-clause-begun g c =
+    let S = g.J.Whose.book.session in let a = c.args in let q = c.requires in let n = c.in_ok-number.number in let i = c.proc.inside in let p = i.process in
+    let o = opened S i.process i.number i.caller i.way c.proc.invariant.0 a.proc.now (c.proc.view_is ∙ c.in_ok-number.ensures.same) n c.in_ok-number.ensures.number in
+    let bytes = a.bytes in let d = c.held-to.result in let at = holds o a.fd ∙ c.held-to.ensures in let pipe = q.pipe d c.held-to.ensures in let s = c.show-out in let e = s.new.caller in
+    let after = e.seen in let out = s.result.0 in
+    let shows = subst (λ bs. IsEntered S i.caller.seen p.seen after (own_entry p.who n calls.Write (act.Show a.fd (length bs)) answer.Done)) c.as_bytes.ensures.bytes s.ensures.entered in
+    let state = ap (λ (v : ProcessView). v.state) s.ensures.state ∙ ap (λ bs. record p.state { descriptors = changed_at p.state.descriptors a.fd (risen (length bs)) }) c.as_bytes.ensures.bytes in
+    let is : finite_map.get s.new.self.state.descriptors a.fd ≡ Some d = ap (λ (v : Process). finite_map.get v.descriptors a.fd) state ∙ still_held p.state.descriptors a.fd (length bytes) d at pipe in
+    begins_write o s.new.self e a.fd bytes d out s.result.1 q.new (λ k. (s.ensures.state k).who) s.ensures.place (λ y its. c.held-to.ensures ∙ sym is ∙ its)
+    (λ k. (s.ensures.caller k).looks) p.seen shows

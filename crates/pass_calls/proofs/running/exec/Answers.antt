@@ -1,43 +1,135 @@
-use Rattle.std.proofs.Common.{◌+◌, ◌-◌, ap, refl, subst, sym, ◌∙◌}
+use Rattle.std.proofs.Common.{◌≡◌, ◌∙◌, refl, sym, subst}
+use Rattle.pass_entry.specs.declared.entry.Act.TheVariants as act
+use Rattle.pass_entry.specs.declared.entry.CallName.TheVariants as calls
+use Rattle.pass_entry.specs.declared.entry.Reply.{Reply}
+use Rattle.pass_entry.specs.declared.entry.Reply.TheVariants as answer
+use Rattle.pass_plain.specs.Legal.{CallerAllows}
+use Rattle.pass_plain.specs.Places.{keeps, kept_by}
+use Rattle.pass_plain.specs.Registries.{registry_after}
+use Rattle.pass_plain.specs.States.{registry_reply}
 use Rattle.pass_plain.specs.declared.request.Request.TheVariants as requests
-use Rattle.pass_hold.specs.Callings.{IsIdle}
-use Rattle.pass_proc.specs.Procs.{proc_with}
+use Rattle.pass_hold.specs.Callings.{IsEntered, IsIdle}
+use Rattle.pass_file.specs.Desks.{entry_on}
+use Rattle.pass_registry.specs.Desks.{on_registry}
+use Rattle.pass_registry.specs.Outcomes.{reply_made}
+use Rattle.pass_proc.specs.Acts.{own_entry}
+use Rattle.pass_proc.specs.Execs.{ExecView}
 use Rattle.pass_proc.specs.Views.{ProcessView}
-use Rattle.pass_proc.proofs.Steps.{frees, number_fits, idle_before}
-use Rattle.pass_answer.proofs.Between.{full_ends, looked_on}
-use Rattle.pass_calls.proofs.Reserved.{reserved}
+use Rattle.pass_answer.specs.Answers.{HasMoved}
+use Rattle.pass_answer.specs.declared.answer.Moved.TheVariants as moved
+use Rattle.pass_calls.proofs.Frame.{answers, has_room, later, opened, over, ready, rests, twice}
+use Rattle.pass_calls.proofs.Runs.{answers_file, find_allows, find_keeps, load_allows, load_keeps, run_allows, run_keeps, run_idle, run_made}
 use Rattle.pass_calls.proofs.running.exec.Goals as goal
 
-pub room-requires : goal.room-requires
-room-requires g c = let i = c.proc.inside in record { new = frees g.J.Whose.book.session i.process i.number i.caller c.proc.invariant.0 }
+pub returns-in_err-number-clause-call : goal.returns-in_err-number-clause-call
+returns-in_err-number-clause-call g c =
+    let S = g.J.Whose.book.session in let a = c.args in
+    over S g.J.Whose.places a.proc.now c.begin.new.proc (requests.Exec a.name.now a.args.now) c.from_residual.result c.in_err-number.field-0.0 c.from_residual.ensures.1 (c.in_err-number.ensures.full (requests.Exec a.name.now a.args.now) refl refl)
 
-pub overflow_add-number : goal.overflow_add-number
-overflow_add-number g c = let i = c.proc.inside in number_fits g.J.Whose.book.session i.process i.number i.caller c.proc.invariant.0
+pub find-requires-clause-place : goal.find-requires-clause-place
+find-requires-clause-place g c =
+    let S = g.J.Whose.book.session in let a = c.args in let n = c.in_ok-number.number in let i = c.proc.inside in let p = c.reserve.new.self in
+    let o = ready (opened S i.process i.number i.caller i.way c.proc.invariant.0 a.proc.now (c.proc.view_is ∙ c.in_ok-number.ensures.same) n c.in_ok-number.ensures.number) p c.in_ok-reserve.ensures.same in
+    has_room o c.held.ensures.call c.begin.new.shelf c.in_ok-number.ensures.places
 
-pub invariant_of-proc-in-Err : goal.invariant_of-proc-in-Err
-invariant_of-proc-in-Err g c =
-    let S = g.J.Whose.book.session in
-    let i = c.proc.inside in
-    let e = c.in-Err.ensures in
-    let q = c.reserve.new.self in
-    let same = c.reserve.ensures.same in
-    looked_on S q i.number i.caller i.way (reserved S i.process q i.number i.caller i.way (ap (λ (v : ProcessView). v.who) same) (ap (λ (v : ProcessView). v.state) same) c.proc.invariant)
-    c.room-2.new.self e.caller e.looked e.few
+pub find-requires-clause-keep : goal.find-requires-clause-keep
+find-requires-clause-keep g c = λ reply.
+    let S = g.J.Whose.book.session in let a = c.args in let q = c.requires in let n = c.in_ok-number.number in let i = c.proc.inside in let p = c.reserve.new.self in
+    let o = ready (opened S i.process i.number i.caller i.way c.proc.invariant.0 a.proc.now (c.proc.view_is ∙ c.in_ok-number.ensures.same) n c.in_ok-number.ensures.number) p c.in_ok-reserve.ensures.same in
+    let name = a.name.now in let args = a.args.now in let sought = c.in_ok-sought.ensures.cases in let line = c.as_bytes.ensures.line in
+    subst (λ t. kept_by reply 2 ≡ keeps i.caller.seen (on_registry c.pnode-who.result n calls.Exec (act.Find t) reply)) (sym sought)
+    (subst (λ who. kept_by reply 2 ≡ keeps i.caller.seen (on_registry who n calls.Exec (act.Find name) reply)) (sym c.pnode-who.ensures) (find_keeps S i.caller.seen p.who n p.state name args o.idle o.some q.name line reply))
 
-pub returns-in-Err-clause-call : goal.returns-in-Err-clause-call
-returns-in-Err-clause-call g c =
-    let S = g.J.Whose.book.session in
-    let i = c.proc.inside in
-    let e = c.in-Err.ensures in
-    let q = c.reserve.new.self in
-    let same = c.reserve.ensures.same in
-    full_ends S q i.number i.caller i.way (reserved S i.process q i.number i.caller i.way (ap (λ (v : ProcessView). v.who) same) (ap (λ (v : ProcessView). v.state) same) c.proc.invariant)
-    c.room-2.new.self e.caller e.looked g.J.Whose.places c.args.proc.now (ap (λ (v : ProcessView). proc_with v i.number i.caller i.way) same ∙ c.proc.view_is)
-    (requests.Exec c.args.name.now c.args.args.now) 3 c.in-Err.full refl refl e.full c.from.result c.from.ensures
+pub find-requires-clause-allows : goal.find-requires-clause-allows
+find-requires-clause-allows g c = λ reply.
+    let S = g.J.Whose.book.session in let a = c.args in let q = c.requires in let n = c.in_ok-number.number in let i = c.proc.inside in let p = c.reserve.new.self in
+    let o = ready (opened S i.process i.number i.caller i.way c.proc.invariant.0 a.proc.now (c.proc.view_is ∙ c.in_ok-number.ensures.same) n c.in_ok-number.ensures.number) p c.in_ok-reserve.ensures.same in
+    let name = a.name.now in let args = a.args.now in let sought = c.in_ok-sought.ensures.cases in let line = c.as_bytes.ensures.line in
+    subst (λ t. CallerAllows i.caller.seen (on_registry c.pnode-who.result n calls.Exec (act.Find t) reply)) (sym sought)
+    (subst (λ who. CallerAllows i.caller.seen (on_registry who n calls.Exec (act.Find name) reply)) (sym c.pnode-who.ensures) (find_allows S i.caller.seen p.who n p.state name args o.idle o.some q.name line reply))
 
-pub exec_steps-requires-clause-idle : goal.exec_steps-requires-clause-idle
-exec_steps-requires-clause-idle g c =
-    let S = g.J.Whose.book.session in
-    let i = c.proc.inside in
-    subst (λ (v : ProcessView). IsIdle S c.room-2.new.self.seen v.who (i.number + 1 - 1) v.state) (sym c.reserve.ensures.same)
-    (idle_before S i.process i.number i.caller c.proc.invariant.0 c.room-2.new.self c.in_default.ensures.same)
+pub load-out-requires-clause-keep : goal.load-out-requires-clause-keep
+load-out-requires-clause-keep g c =
+    let S = g.J.Whose.book.session in let a = c.args in let q = c.requires in let n = c.in_ok-number.number in let i = c.proc.inside in let p = c.reserve.new.self in
+    let o = ready (opened S i.process i.number i.caller i.way c.proc.invariant.0 a.proc.now (c.proc.view_is ∙ c.in_ok-number.ensures.same) n c.in_ok-number.ensures.number) p c.in_ok-reserve.ensures.same in
+    let name = a.name.now in let args = a.args.now in let sought = c.in_ok-sought.ensures.cases in let line = c.as_bytes.ensures.line in let r = a.registry.now in let f = c.find in
+    let x = a.file.now in
+    let finds = subst (λ (reply : Reply). IsEntered S i.caller.seen r.seen f.new.caller.seen (on_registry p.who n calls.Exec (act.Find name) reply)) (answers_file S (registry_after S r.seen) name x.what f.result (subst (λ t. reply_made f.result ≡ registry_reply S (registry_after S r.seen) (act.Find t)) sought f.ensures.answer) q.program)
+    (subst (λ t. IsEntered S i.caller.seen r.seen f.new.caller.seen (on_registry p.who n calls.Exec (act.Find t) (reply_made f.result))) sought
+    (subst (λ who. IsEntered S i.caller.seen r.seen f.new.caller.seen (on_registry who n calls.Exec (act.Find c.in_ok-sought.sought) (reply_made f.result))) c.pnode-who.ensures f.ensures.entered)) in
+    subst (λ who. 1 ≡ keeps f.new.caller.seen (entry_on x.what who n calls.Exec act.Load answer.Done)) (sym c.pnode-who.ensures)
+    (load_keeps S i.caller.seen p.who n p.state name args o.idle o.some q.name line x.what r.seen f.new.caller.seen finds)
+
+pub load-out-requires-clause-allows : goal.load-out-requires-clause-allows
+load-out-requires-clause-allows g c =
+    let S = g.J.Whose.book.session in let a = c.args in let q = c.requires in let n = c.in_ok-number.number in let i = c.proc.inside in let p = c.reserve.new.self in
+    let o = ready (opened S i.process i.number i.caller i.way c.proc.invariant.0 a.proc.now (c.proc.view_is ∙ c.in_ok-number.ensures.same) n c.in_ok-number.ensures.number) p c.in_ok-reserve.ensures.same in
+    let name = a.name.now in let args = a.args.now in let sought = c.in_ok-sought.ensures.cases in let line = c.as_bytes.ensures.line in let r = a.registry.now in let f = c.find in
+    let x = a.file.now in
+    let finds = subst (λ (reply : Reply). IsEntered S i.caller.seen r.seen f.new.caller.seen (on_registry p.who n calls.Exec (act.Find name) reply)) (answers_file S (registry_after S r.seen) name x.what f.result (subst (λ t. reply_made f.result ≡ registry_reply S (registry_after S r.seen) (act.Find t)) sought f.ensures.answer) q.program)
+    (subst (λ t. IsEntered S i.caller.seen r.seen f.new.caller.seen (on_registry p.who n calls.Exec (act.Find t) (reply_made f.result))) sought
+    (subst (λ who. IsEntered S i.caller.seen r.seen f.new.caller.seen (on_registry who n calls.Exec (act.Find c.in_ok-sought.sought) (reply_made f.result))) c.pnode-who.ensures f.ensures.entered)) in
+    subst (λ who. CallerAllows f.new.caller.seen (entry_on x.what who n calls.Exec act.Load answer.Done)) (sym c.pnode-who.ensures)
+    (load_allows S i.caller.seen p.who n p.state name args o.idle o.some q.name line x.what r.seen f.new.caller.seen finds)
+
+pub exec-requires-clause-keep : goal.exec-requires-clause-keep
+exec-requires-clause-keep g c =
+    let S = g.J.Whose.book.session in let a = c.args in let q = c.requires in let n = c.in_ok-number.number in let i = c.proc.inside in let p = c.reserve.new.self in
+    let o = ready (opened S i.process i.number i.caller i.way c.proc.invariant.0 a.proc.now (c.proc.view_is ∙ c.in_ok-number.ensures.same) n c.in_ok-number.ensures.number) p c.in_ok-reserve.ensures.same in
+    let name = a.name.now in let args = a.args.now in let sought = c.in_ok-sought.ensures.cases in let line = c.as_bytes.ensures.line in let r = a.registry.now in let f = c.find in
+    let x = a.file.now in let room = c.in_ok-room.room in let run = c.in_ok-room.ensures in let s = c.load-out in
+    let finds = subst (λ (reply : Reply). IsEntered S i.caller.seen r.seen f.new.caller.seen (on_registry p.who n calls.Exec (act.Find name) reply)) (answers_file S (registry_after S r.seen) name x.what f.result (subst (λ t. reply_made f.result ≡ registry_reply S (registry_after S r.seen) (act.Find t)) sought f.ensures.answer) q.program)
+    (subst (λ t. IsEntered S i.caller.seen r.seen f.new.caller.seen (on_registry p.who n calls.Exec (act.Find t) (reply_made f.result))) sought
+    (subst (λ who. IsEntered S i.caller.seen r.seen f.new.caller.seen (on_registry who n calls.Exec (act.Find c.in_ok-sought.sought) (reply_made f.result))) c.pnode-who.ensures f.ensures.entered)) in
+    let loads = subst (λ who. IsEntered S f.new.caller.seen x.seen s.new.caller.seen (entry_on x.what who n calls.Exec act.Load answer.Done)) c.pnode-who.ensures s.ensures.entered in
+    subst (λ (v : ExecView). 0 ≡ keeps s.new.caller.seen (own_entry p.who n calls.Exec (act.Exec s.result.0 v.name v.args) answer.Done)) (sym run)
+    (run_keeps S i.caller.seen p.who n p.state name args o.idle o.some q.name line x.what r.seen f.new.caller.seen finds
+    x.seen s.new.caller.seen s.result.0 s.ensures.place loads)
+
+pub exec-requires-clause-allows : goal.exec-requires-clause-allows
+exec-requires-clause-allows g c =
+    let S = g.J.Whose.book.session in let a = c.args in let q = c.requires in let n = c.in_ok-number.number in let i = c.proc.inside in let p = c.reserve.new.self in
+    let o = ready (opened S i.process i.number i.caller i.way c.proc.invariant.0 a.proc.now (c.proc.view_is ∙ c.in_ok-number.ensures.same) n c.in_ok-number.ensures.number) p c.in_ok-reserve.ensures.same in
+    let name = a.name.now in let args = a.args.now in let sought = c.in_ok-sought.ensures.cases in let line = c.as_bytes.ensures.line in let r = a.registry.now in let f = c.find in
+    let x = a.file.now in let room = c.in_ok-room.room in let run = c.in_ok-room.ensures in let s = c.load-out in
+    let finds = subst (λ (reply : Reply). IsEntered S i.caller.seen r.seen f.new.caller.seen (on_registry p.who n calls.Exec (act.Find name) reply)) (answers_file S (registry_after S r.seen) name x.what f.result (subst (λ t. reply_made f.result ≡ registry_reply S (registry_after S r.seen) (act.Find t)) sought f.ensures.answer) q.program)
+    (subst (λ t. IsEntered S i.caller.seen r.seen f.new.caller.seen (on_registry p.who n calls.Exec (act.Find t) (reply_made f.result))) sought
+    (subst (λ who. IsEntered S i.caller.seen r.seen f.new.caller.seen (on_registry who n calls.Exec (act.Find c.in_ok-sought.sought) (reply_made f.result))) c.pnode-who.ensures f.ensures.entered)) in
+    let loads = subst (λ who. IsEntered S f.new.caller.seen x.seen s.new.caller.seen (entry_on x.what who n calls.Exec act.Load answer.Done)) c.pnode-who.ensures s.ensures.entered in
+    subst (λ (v : ExecView). CallerAllows s.new.caller.seen (own_entry p.who n calls.Exec (act.Exec s.result.0 v.name v.args) answer.Done)) (sym run)
+    (run_allows S i.caller.seen p.who n p.state name args o.idle o.some q.name line x.what r.seen f.new.caller.seen finds
+    x.seen s.new.caller.seen s.result.0 s.ensures.place loads)
+
+pub invariant_of-proc-2 : goal.invariant_of-proc-2
+invariant_of-proc-2 g c =
+    let S = g.J.Whose.book.session in let a = c.args in let q = c.requires in let n = c.in_ok-number.number in let i = c.proc.inside in let p = c.reserve.new.self in
+    let o = ready (opened S i.process i.number i.caller i.way c.proc.invariant.0 a.proc.now (c.proc.view_is ∙ c.in_ok-number.ensures.same) n c.in_ok-number.ensures.number) p c.in_ok-reserve.ensures.same in
+    let name = a.name.now in let args = a.args.now in let sought = c.in_ok-sought.ensures.cases in let line = c.as_bytes.ensures.line in let r = a.registry.now in let f = c.find in
+    let x = a.file.now in let room = c.in_ok-room.room in let run = c.in_ok-room.ensures in let s = c.load-out in let w = c.exec in let e = w.new.caller in
+    let finds = subst (λ (reply : Reply). IsEntered S i.caller.seen r.seen f.new.caller.seen (on_registry p.who n calls.Exec (act.Find name) reply)) (answers_file S (registry_after S r.seen) name x.what f.result (subst (λ t. reply_made f.result ≡ registry_reply S (registry_after S r.seen) (act.Find t)) sought f.ensures.answer) q.program)
+    (subst (λ t. IsEntered S i.caller.seen r.seen f.new.caller.seen (on_registry p.who n calls.Exec (act.Find t) (reply_made f.result))) sought
+    (subst (λ who. IsEntered S i.caller.seen r.seen f.new.caller.seen (on_registry who n calls.Exec (act.Find c.in_ok-sought.sought) (reply_made f.result))) c.pnode-who.ensures f.ensures.entered)) in
+    let loads = subst (λ who. IsEntered S f.new.caller.seen x.seen s.new.caller.seen (entry_on x.what who n calls.Exec act.Load answer.Done)) c.pnode-who.ensures s.ensures.entered in
+    let runs = subst (λ (v : ExecView). IsEntered S s.new.caller.seen p.seen e.seen (own_entry p.who n calls.Exec (act.Exec s.result.0 v.name v.args) answer.Done)) run w.ensures.entered in (
+      rests o w.new.self e (λ k. (w.ensures.state k).who) (later i.caller s.new.caller e 0 (twice i.caller f.new.caller s.new.caller _ 1 f.ensures.caller s.ensures.caller) w.ensures.caller)
+          (subst (λ (v : ProcessView). IsIdle S e.seen v.who n v.state) (sym w.ensures.state) (run_idle S i.caller.seen p.who n p.state name args o.idle o.some q.name line x.what r.seen f.new.caller.seen finds
+          x.seen s.new.caller.seen s.result.0 s.ensures.place loads p.seen e.seen runs))
+          w.ensures.few,
+      tt,
+    )
+
+pub returns-clause-call : goal.returns-clause-call
+returns-clause-call g c =
+    let S = g.J.Whose.book.session in let a = c.args in let q = c.requires in let n = c.in_ok-number.number in let i = c.proc.inside in let p = c.reserve.new.self in
+    let o = ready (opened S i.process i.number i.caller i.way c.proc.invariant.0 a.proc.now (c.proc.view_is ∙ c.in_ok-number.ensures.same) n c.in_ok-number.ensures.number) p c.in_ok-reserve.ensures.same in
+    let name = a.name.now in let args = a.args.now in let sought = c.in_ok-sought.ensures.cases in let line = c.as_bytes.ensures.line in let r = a.registry.now in let f = c.find in
+    let x = a.file.now in let room = c.in_ok-room.room in let run = c.in_ok-room.ensures in let s = c.load-out in let w = c.exec in let e = w.new.caller in
+    let finds = subst (λ (reply : Reply). IsEntered S i.caller.seen r.seen f.new.caller.seen (on_registry p.who n calls.Exec (act.Find name) reply)) (answers_file S (registry_after S r.seen) name x.what f.result (subst (λ t. reply_made f.result ≡ registry_reply S (registry_after S r.seen) (act.Find t)) sought f.ensures.answer) q.program)
+    (subst (λ t. IsEntered S i.caller.seen r.seen f.new.caller.seen (on_registry p.who n calls.Exec (act.Find t) (reply_made f.result))) sought
+    (subst (λ who. IsEntered S i.caller.seen r.seen f.new.caller.seen (on_registry who n calls.Exec (act.Find c.in_ok-sought.sought) (reply_made f.result))) c.pnode-who.ensures f.ensures.entered)) in
+    let loads = subst (λ who. IsEntered S f.new.caller.seen x.seen s.new.caller.seen (entry_on x.what who n calls.Exec act.Load answer.Done)) c.pnode-who.ensures s.ensures.entered in
+    let runs = subst (λ (v : ExecView). IsEntered S s.new.caller.seen p.seen e.seen (own_entry p.who n calls.Exec (act.Exec s.result.0 v.name v.args) answer.Done)) run w.ensures.entered in
+    answers o w.new.self e (λ k. (w.ensures.state k).who) g.J.Whose.places (requests.Exec name args) refl moved.Done
+    (subst (λ (v : ProcessView). HasMoved S p.who i.caller.seen e.seen v.state (requests.Exec name args) moved.Done) (sym w.ensures.state)
+    (run_made S i.caller.seen p.who n p.state name args o.idle o.some q.name line x.what r.seen f.new.caller.seen finds
+    x.seen s.new.caller.seen s.result.0 s.ensures.place loads p.seen e.seen runs))

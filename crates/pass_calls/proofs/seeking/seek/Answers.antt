@@ -1,31 +1,63 @@
-use Rattle.std.proofs.Common.{refl}
+use Rattle.std.proofs.Common.{◌∙◌, refl, sym, subst}
+use Rattle.pass_entry.specs.declared.entry.Act.TheVariants as act
+use Rattle.pass_entry.specs.declared.entry.Ask.TheVariants as ask
+use Rattle.pass_entry.specs.declared.entry.Reply.TheVariants as answer
 use Rattle.pass_plain.specs.declared.request.Request.TheVariants as requests
-use Rattle.pass_proc.proofs.Steps.{frees, number_fits, low_fd}
-use Rattle.pass_answer.proofs.Between.{looked_on, full_ends}
+use Rattle.pass_hold.specs.Callings.{IsIdle}
+use Rattle.pass_proc.proofs.Steps.{low_fd}
+use Rattle.pass_proc.specs.Views.{ProcessView}
+use Rattle.pass_answer.specs.Answers.{HasMoved}
+use Rattle.pass_answer.specs.declared.answer.Moved.TheVariants as moved
+use Rattle.pass_calls.proofs.Frame.{answers, asks, has_room, once, opened, over, rests}
+use Rattle.pass_calls.proofs.SingleStep.{seek_step, step_allows, step_keeps, here_moved, here_idle}
 use Rattle.pass_calls.proofs.seeking.seek.Goals as goal
 
 pub refused-requires-clause-refused : goal.refused-requires-clause-refused
-refused-requires-clause-refused g c = (c.in-Err.ensures.fault c.in-Err.fault).0 refl
+refused-requires-clause-refused g c =
+    (c.in-Err.ensures.fault c.in-Err.fault).0 refl
 
 pub refused-requires-clause-some : goal.refused-requires-clause-some
-refused-requires-clause-some g c = record { request = requests.Seek c.args.fd c.args.at; named = refl; asked = refl; within = low_fd c.args.fd c.requires.fd }
+refused-requires-clause-some g c =
+    let a = c.args in let q = c.requires in
+    record { request = requests.Seek a.fd a.at; named = refl; asked = refl; within = low_fd a.fd q.fd }
 
-pub room-requires : goal.room-requires
-room-requires g c = let i = c.proc.inside in record { new = frees g.J.Whose.book.session i.process i.number i.caller c.proc.invariant.0 }
+pub returns-in_err-number-clause-call : goal.returns-in_err-number-clause-call
+returns-in_err-number-clause-call g c =
+    let S = g.J.Whose.book.session in let a = c.args in
+    over S g.J.Whose.places a.proc.now c.begin.new.proc (requests.Seek a.fd a.at) c.from_residual.result c.in_err-number.field-0.0 c.from_residual.ensures.1 (c.in_err-number.ensures.full (requests.Seek a.fd a.at) refl refl)
+
+pub seek-requires : goal.seek-requires
+seek-requires g c =
+    let S = g.J.Whose.book.session in let a = c.args in let q = c.requires in let n = c.in_ok-number.number in let i = c.proc.inside in let p = i.process in
+    let o = opened S i.process i.number i.caller i.way c.proc.invariant.0 a.proc.now (c.proc.view_is ∙ c.in_ok-number.ensures.same) n c.in_ok-number.ensures.number in
+    let free = asks o (ask.ToSeek a.fd a.at) ∙ c.in_default.ensures.ok.0 refl in
+    let only = seek_step p.who p.state a.fd a.at q.fd free in
+    record {
+      fd = q.fd;
+      place = has_room o c.held.ensures.call c.begin.new.shelf c.in_ok-number.ensures.places;
+      keep = step_keeps S i.caller.seen p.who n p.state (requests.Seek a.fd a.at) p.who (act.Seek a.fd a.at) only o.idle o.some answer.Done;
+      who = o.who;
+      allows = step_allows S i.caller.seen p.who n p.state (requests.Seek a.fd a.at) p.who (act.Seek a.fd a.at) only o.idle o.some answer.Done;
+    }
 
 pub invariant_of-proc : goal.invariant_of-proc
 invariant_of-proc g c =
-    let i = c.proc.inside in
-    let e = c.in-Err-room.ensures in
-    looked_on g.J.Whose.book.session i.process i.number i.caller i.way c.proc.invariant c.room.new.self e.caller e.looked e.few
+    let S = g.J.Whose.book.session in let a = c.args in let q = c.requires in let n = c.in_ok-number.number in let i = c.proc.inside in let p = i.process in
+    let o = opened S i.process i.number i.caller i.way c.proc.invariant.0 a.proc.now (c.proc.view_is ∙ c.in_ok-number.ensures.same) n c.in_ok-number.ensures.number in
+    let free = asks o (ask.ToSeek a.fd a.at) ∙ c.in_default.ensures.ok.0 refl in
+    let s = c.seek in let e = s.new.caller in let only = seek_step p.who p.state a.fd a.at q.fd free in (
+      rests o s.new.self e (λ k. (s.ensures.state k).who) (once i.caller e 0 s.ensures.caller)
+          (subst (λ (v : ProcessView). IsIdle S e.seen v.who n v.state) (sym s.ensures.state) (here_idle S i.caller.seen p.who n p.state (requests.Seek a.fd a.at) p.who (act.Seek a.fd a.at) only o.idle o.some answer.Done p.seen e.seen s.ensures.entered refl refl o.idle.lives))
+          s.ensures.few,
+      tt,
+    )
 
-pub overflow_add-number : goal.overflow_add-number
-overflow_add-number g c = let i = c.proc.inside in number_fits g.J.Whose.book.session i.process i.number i.caller c.proc.invariant.0
-
-pub returns-in-Err-room-clause-call : goal.returns-in-Err-room-clause-call
-returns-in-Err-room-clause-call g c =
-    let S = g.J.Whose.book.session in
-    let i = c.proc.inside in
-    let e = c.in-Err-room.ensures in
-    full_ends S i.process i.number i.caller i.way c.proc.invariant c.room.new.self e.caller e.looked g.J.Whose.places c.args.proc.now c.proc.view_is
-    (requests.Seek c.args.fd c.args.at) 3 c.in-Err-room.full refl refl e.full c.from.result c.from.ensures
+pub returns-clause-call : goal.returns-clause-call
+returns-clause-call g c =
+    let S = g.J.Whose.book.session in let a = c.args in let q = c.requires in let n = c.in_ok-number.number in let i = c.proc.inside in let p = i.process in
+    let o = opened S i.process i.number i.caller i.way c.proc.invariant.0 a.proc.now (c.proc.view_is ∙ c.in_ok-number.ensures.same) n c.in_ok-number.ensures.number in
+    let free = asks o (ask.ToSeek a.fd a.at) ∙ c.in_default.ensures.ok.0 refl in
+    let s = c.seek in let e = s.new.caller in let only = seek_step p.who p.state a.fd a.at q.fd free in
+    answers o s.new.self e (λ k. (s.ensures.state k).who) g.J.Whose.places (requests.Seek a.fd a.at) refl moved.Done
+    (subst (λ (v : ProcessView). HasMoved S p.who i.caller.seen e.seen v.state (requests.Seek a.fd a.at) moved.Done) (sym s.ensures.state)
+    (here_moved S i.caller.seen p.who n p.state (requests.Seek a.fd a.at) p.who (act.Seek a.fd a.at) only o.idle o.some answer.Done p.seen e.seen s.ensures.entered refl refl o.idle.lives moved.Done tt))

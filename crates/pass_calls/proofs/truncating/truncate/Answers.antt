@@ -1,51 +1,81 @@
-use Rattle.std.proofs.Common.{◌≡◌, ◌+◌, refl, subst, sym}
-use Rattle.std.specs.Prelude.{None, Ok, Some}
+use Rattle.std.proofs.Common.{◌≡◌, ◌∙◌, refl, sym, subst}
+use Rattle.std.specs.Prelude.{Some}
 use Rattle.std.specs.FinMap as finite_map
+use Rattle.pass_entry.specs.declared.entry.Act.TheVariants as act
 use Rattle.pass_entry.specs.declared.entry.Ask.TheVariants as ask
+use Rattle.pass_entry.specs.declared.entry.CallName.TheVariants as calls
+use Rattle.pass_entry.specs.declared.entry.Reply.TheVariants as answer
 use Rattle.pass_entry.specs.declared.objects.Descriptor.{Descriptor}
-use Rattle.pass_plain.specs.Processes.{refusal}
+use Rattle.pass_plain.specs.Legal.{CallerAllows}
+use Rattle.pass_plain.specs.Places.{keeps}
 use Rattle.pass_plain.specs.declared.request.Request.TheVariants as requests
-use Rattle.pass_proc.specs.Procs.{ProcView}
-use Rattle.pass_proc.proofs.Steps.{frees, number_fits, idle_before}
+use Rattle.pass_hold.specs.Callings.{IsEntered, IsIdle}
+use Rattle.pass_file.specs.Desks.{entry_on}
+use Rattle.pass_proc.specs.Views.{ProcessView}
+use Rattle.pass_answer.specs.Answers.{HasMoved}
 use Rattle.pass_answer.specs.declared.answer.Moved.TheVariants as moved
-use Rattle.pass_answer.proofs.Between.{full_ends, looked_on, steps_end}
+use Rattle.pass_calls.proofs.Frame.{answers, asks, has_room, holds, once, one_left, opened, over, rests, twice}
+use Rattle.pass_calls.proofs.Truncations.{cut_allows, cut_keeps, cut_idle, cut_made, first_allows, first_keeps}
 use Rattle.pass_calls.proofs.truncating.truncate.Goals as goal
 
-pub room-requires : goal.room-requires
-room-requires g c = let i = c.proc.inside in record { new = frees g.J.Whose.book.session i.process i.number i.caller c.proc.invariant.0 }
+pub returns-in_err-number-clause-call : goal.returns-in_err-number-clause-call
+returns-in_err-number-clause-call g c =
+    let S = g.J.Whose.book.session in let a = c.args in
+    over S g.J.Whose.places a.proc.now c.begin.new.proc (requests.Truncate a.fd a.size) c.from_residual.result c.in_err-number.field-0.0 c.from_residual.ensures.1 (c.in_err-number.ensures.full (requests.Truncate a.fd a.size) refl refl)
 
-pub overflow_add-number : goal.overflow_add-number
-overflow_add-number g c = let i = c.proc.inside in number_fits g.J.Whose.book.session i.process i.number i.caller c.proc.invariant.0
+pub show-out-requires : goal.show-out-requires
+show-out-requires g c =
+    let S = g.J.Whose.book.session in let a = c.args in let q = c.requires in let n = c.in_ok-number.number in let i = c.proc.inside in let p = i.process in
+    let o = opened S i.process i.number i.caller i.way c.proc.invariant.0 a.proc.now (c.proc.view_is ∙ c.in_ok-number.ensures.same) n c.in_ok-number.ensures.number in
+    let free = asks o (ask.ToCut a.fd a.size) ∙ q.free in
+    record {
+      fd = q.fd;
+      place = has_room o c.held.ensures.call c.begin.new.shelf c.in_ok-number.ensures.places;
+      keep = first_keeps S i.caller.seen p.who n p.state a.fd a.size o.idle o.some free q.fd;
+      exit = refl;
+      who = o.who;
+      allows = first_allows S i.caller.seen p.who n p.state a.fd a.size o.idle o.some free q.fd;
+    }
+
+pub cut-requires : goal.cut-requires
+cut-requires g c =
+    let S = g.J.Whose.book.session in let a = c.args in let q = c.requires in let n = c.in_ok-number.number in let i = c.proc.inside in let p = i.process in
+    let o = opened S i.process i.number i.caller i.way c.proc.invariant.0 a.proc.now (c.proc.view_is ∙ c.in_ok-number.ensures.same) n c.in_ok-number.ensures.number in
+    let x = a.file.now in let free = asks o (ask.ToCut a.fd a.size) ∙ q.free in
+    let its : (d : Descriptor) → finite_map.get p.state.descriptors a.fd ≡ Some d → x.what ≡ d.pnode = λ d at. q.object d (sym (holds o a.fd) ∙ at) in
+    let s = c.show-out in let after = s.new.caller.seen in
+    record {
+      room = q.room;
+      list = q.list;
+      place = one_left i.caller s.new.caller 1 s.ensures.caller;
+      keep = subst (λ who. 0 ≡ keeps after (entry_on x.what who n calls.Truncate (act.Cut s.result.0 a.size) answer.Done)) (sym c.pnode-who.ensures) (cut_keeps S i.caller.seen p.who n p.state a.fd a.size o.idle o.some free q.fd x.what its p.seen after s.result.0 s.ensures.place s.ensures.entered);
+      who = (once i.caller s.new.caller 2 s.ensures.caller).0 ∙ o.who ∙ sym c.pnode-who.ensures;
+      allows = subst (λ who. CallerAllows after (entry_on x.what who n calls.Truncate (act.Cut s.result.0 a.size) answer.Done)) (sym c.pnode-who.ensures) (cut_allows S i.caller.seen p.who n p.state a.fd a.size o.idle o.some free q.fd x.what its p.seen after s.result.0 s.ensures.place s.ensures.entered);
+      source = s.ensures.node;
+    }
 
 pub invariant_of-proc : goal.invariant_of-proc
 invariant_of-proc g c =
-    let i = c.proc.inside in
-    let e = c.in-Err.ensures in
-    looked_on g.J.Whose.book.session i.process i.number i.caller i.way c.proc.invariant c.room.new.self e.caller e.looked e.few
-
-pub returns-in-Err-clause-call : goal.returns-in-Err-clause-call
-returns-in-Err-clause-call g c =
-    let S = g.J.Whose.book.session in
-    let i = c.proc.inside in
-    let e = c.in-Err.ensures in
-    full_ends S i.process i.number i.caller i.way c.proc.invariant c.room.new.self e.caller e.looked g.J.Whose.places c.args.proc.now c.proc.view_is
-    (requests.Truncate c.args.fd c.args.size) 3 c.in-Err.full refl refl e.full c.from.result c.from.ensures
-
-pub cut_steps-requires-clause-object : goal.cut_steps-requires-clause-object
-cut_steps-requires-clause-object g c =
-    subst (λ (v : ProcView). (d : Descriptor) → finite_map.get v.state.descriptors c.args.fd ≡ Some d → c.args.file.now.what ≡ d.pnode) (sym c.proc.view_is) c.requires.object
-
-pub cut_steps-requires-clause-free : goal.cut_steps-requires-clause-free
-cut_steps-requires-clause-free g c = subst (λ (v : ProcView). refusal v.state (ask.ToCut c.args.fd c.args.size) ≡ None) (sym c.proc.view_is) c.requires.free
-
-pub cut_steps-requires-clause-idle : goal.cut_steps-requires-clause-idle
-cut_steps-requires-clause-idle g c =
-    let i = c.proc.inside in
-    idle_before g.J.Whose.book.session i.process i.number i.caller c.proc.invariant.0 c.room.new.self c.in_default.ensures.same
+    let S = g.J.Whose.book.session in let a = c.args in let q = c.requires in let n = c.in_ok-number.number in let i = c.proc.inside in let p = i.process in
+    let o = opened S i.process i.number i.caller i.way c.proc.invariant.0 a.proc.now (c.proc.view_is ∙ c.in_ok-number.ensures.same) n c.in_ok-number.ensures.number in
+    let x = a.file.now in let free = asks o (ask.ToCut a.fd a.size) ∙ q.free in
+    let its : (d : Descriptor) → finite_map.get p.state.descriptors a.fd ≡ Some d → x.what ≡ d.pnode = λ d at. q.object d (sym (holds o a.fd) ∙ at) in
+    let s = c.show-out in let after = s.new.caller.seen in let w = c.cut in let e = w.new.caller in
+    let cuts = subst (λ who. IsEntered S after x.seen e.seen (entry_on x.what who n calls.Truncate (act.Cut s.result.0 a.size) answer.Done)) c.pnode-who.ensures w.ensures.entered in (
+      rests o s.new.self e (λ k. (s.ensures.state k).who) (twice i.caller s.new.caller e 2 0 s.ensures.caller w.ensures.caller)
+          (subst (λ (v : ProcessView). IsIdle S e.seen v.who n v.state) (sym s.ensures.state) (cut_idle S i.caller.seen p.who n p.state a.fd a.size o.idle o.some free q.fd x.what its p.seen after s.result.0 s.ensures.place s.ensures.entered x.seen e.seen cuts))
+          w.ensures.few,
+      tt,
+    )
 
 pub returns-clause-call : goal.returns-clause-call
 returns-clause-call g c =
-    let i = c.proc.inside in
-    let s = c.cut_steps in
-    steps_end g.J.Whose.book.session g.J.Whose.places i.process i.number i.caller i.way c.args.proc.now c.proc.view_is (requests.Truncate c.args.fd c.args.size) (λ _. refl)
-    s.new.process (i.number + 1) s.new.caller s.ensures.who.0 c.room.new.self c.in_default.ensures.same (Ok moved.Done) s.ensures.call (Ok moved.Done) refl
+    let S = g.J.Whose.book.session in let a = c.args in let q = c.requires in let n = c.in_ok-number.number in let i = c.proc.inside in let p = i.process in
+    let o = opened S i.process i.number i.caller i.way c.proc.invariant.0 a.proc.now (c.proc.view_is ∙ c.in_ok-number.ensures.same) n c.in_ok-number.ensures.number in
+    let x = a.file.now in let free = asks o (ask.ToCut a.fd a.size) ∙ q.free in
+    let its : (d : Descriptor) → finite_map.get p.state.descriptors a.fd ≡ Some d → x.what ≡ d.pnode = λ d at. q.object d (sym (holds o a.fd) ∙ at) in
+    let s = c.show-out in let after = s.new.caller.seen in let w = c.cut in let e = w.new.caller in
+    let cuts = subst (λ who. IsEntered S after x.seen e.seen (entry_on x.what who n calls.Truncate (act.Cut s.result.0 a.size) answer.Done)) c.pnode-who.ensures w.ensures.entered in
+    answers o s.new.self e (λ k. (s.ensures.state k).who) g.J.Whose.places (requests.Truncate a.fd a.size) refl moved.Done
+    (subst (λ (v : ProcessView). HasMoved S p.who i.caller.seen e.seen v.state (requests.Truncate a.fd a.size) moved.Done) (sym s.ensures.state)
+    (cut_made S i.caller.seen p.who n p.state a.fd a.size o.idle o.some free q.fd x.what its p.seen after s.result.0 s.ensures.place s.ensures.entered x.seen e.seen cuts))

@@ -1,4 +1,3 @@
-pub mod Awaits
 pub mod ExitSteps
 pub mod ForkBegins
 pub mod ForkSteps

@@ -1,3 +1,4 @@
 pub mod Exits
 pub mod Forks
 pub mod Pipes
+pub mod Waits

@@ -9,19 +9,17 @@
 //! holds what its parent holds, with offsets of its own (`child`: `IsChild`).
 //!
 //! An `Exiting` process makes no other call. It leaves its pipes (`leave`), and its last entry ends it, at the place that is
-//! answered, and last in what its trail has seen (`end_exit`: `call`, `trail`, `ended`). A wait takes from a child that has ended
-//! (`wait_ended`), or takes nothing from it (`await_ended`), and takes no memory; where it finds too few places, the child has ended
-//! in what was seen (`ready`). For a child whose right to end it is found the answer to either is Again, since it has not ended in
+//! answered, and last in what its trail has seen (`end_exit`: `call`, `trail`, `ended`). A wait lets a child go that has ended, and
+//! takes from it or not (`wait_ended`, by `ChildWait`). It takes no memory; where it finds too few places, the child has ended in
+//! what was seen (`ready`). For a child whose right to end it is found the answer to either wait is Again, since it has not ended in
 //! what was seen (`wait_living`).
 #![tactic(auto)]
 
-mod awaiting;
 mod exiting;
 mod forking;
 mod pipes;
 mod waiting;
 
-pub use awaiting::await_ended;
 pub use exiting::{Exiting, begin_exit, end_exit, leave};
 pub use forking::{Forking, begin_fork, end_fork, join};
-pub use waiting::{wait_ended, wait_living};
+pub use waiting::{ChildWait, wait_ended, wait_living};

@@ -43,12 +43,6 @@ tag_asks fd attr value low names = record { request = requests.TagObj fd attr va
 pub disclose_asks : (fd source : ℕ) → (fd < 64) × (source < 64) → Asks calls.Disclose (ask.HeldTwo fd source)
 disclose_asks fd source low = record { request = requests.Disclose fd source; named = refl; asked = refl; within = disclose_within fd source low }
 
-pub child_asks : (child : ℕ) → Asks calls.WaitChild (ask.Child child)
-child_asks child = record { request = requests.WaitChild child; named = refl; asked = refl; within = refl }
-
-pub await_asks : (child : ℕ) → Asks calls.Await (ask.Child child)
-await_asks child = record { request = requests.Await child; named = refl; asked = refl; within = refl }
-
 -- and what the process holds where it does not refuse
 pub second_held : (p : Process) (fd source : ℕ) → refusal p (ask.HeldTwo fd source) ≡ None → is_held p source ≡ true
 second_held p fd source fine = (two_held p fd source fine).1

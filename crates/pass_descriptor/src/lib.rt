@@ -9,4 +9,4 @@ mod output;
 mod run;
 
 pub use output::Output;
-pub use run::{Known, Opening, Program, Run, Setting, What};
+pub use run::{Beginning, Known, Opening, Program, Run, Setting, What};

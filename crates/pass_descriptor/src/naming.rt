@@ -282,6 +282,9 @@ impl Run<'_> {
             self.own_path_of(process, parts, first, below)?
         };
         let new = self.path_of(process, parts, second, below, false)?;
+        if self.links.double(&old, &new)? {
+            return Ok(());
+        }
         let held = match (parts.has(4, b"AT_EMPTY_PATH"), parts.base(first, below)?) {
             (true, Base::Held(fd)) => self.held(process, fd)?,
             _ => own_descriptor(&old).and_then(|number| process.held_at(number)),
@@ -334,6 +337,7 @@ impl Run<'_> {
 
     pub fn unlink(&mut self, process: &mut Process, parts: &Parts<'_>, below: bool) -> Taken {
         let path = self.own_path_of(process, parts, usize::from(below), below)?;
+        self.links.note_change(&path)?;
         if parts.has(2, b"AT_REMOVEDIR") || self.links.take(&path) {
             return Ok(());
         }
@@ -376,7 +380,7 @@ impl Run<'_> {
         let place = if below { 2 } else { 1 };
         let path = self.path_of(process, parts, place, below, false)?;
         let target = parts.bytes(self.alloc, 0)?;
-        Ok(self.links.set(path, target)?)
+        Ok(self.links.make(path, target)?)
     }
 
     /// What a link leads to is told where it is read.
@@ -385,6 +389,7 @@ impl Run<'_> {
         let path = self.path_of(process, parts, place, below, false)?;
         let target = parts.shown(self.alloc, place.saturating_add(1))?;
         if outside(&path).is_none() && !target.cut {
+            self.note_link(&path)?;
             self.links.set(path, target.bytes)?;
         }
         Ok(())
@@ -422,9 +427,18 @@ impl Run<'_> {
 
     /// The size of the file of a descriptor is told at a place.
     pub fn measure(&mut self, process: &mut Process, parts: &Parts<'_>, told: usize) -> Taken {
+        let Ok(fd) = parts.fd(0) else {
+            return Ok(());
+        };
+        if parts.has(told, b"S_IFDIR") {
+            return match process.held_at(fd.number) {
+                Some(held) => Ok(self.note_folder(held.opening)?),
+                None => Ok(()),
+            };
+        }
         let word = parts.word(told);
         let size = number_of_field(word, b"st_size").or(number_of_field(word, b"stx_size"));
-        let (Ok(fd), Some(size), true) = (parts.fd(0), size, parts.has(told, b"S_IFREG")) else {
+        let (Some(size), true) = (size, parts.has(told, b"S_IFREG")) else {
             return Ok(());
         };
         let file = self

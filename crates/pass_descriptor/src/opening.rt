@@ -131,6 +131,7 @@ impl Run<'_> {
     // A path that leads to another is a link, unless both have the same last part: then its folder may be one.
     fn learn(&mut self, path: &[u8], real: &[u8]) -> Taken {
         let is_own = split_last(path).1 != split_last(real).1;
+        self.note_link(path)?;
         let path = Vec::from_slice(self.alloc, path)?;
         let real = Vec::from_slice(self.alloc, real)?;
         if is_own {
@@ -184,7 +185,7 @@ impl Run<'_> {
 
     // Whether a path is that of a folder, as other names tell.
     fn is_folder(&self, process: &Process, path: &[u8], ways: Ways) -> Result<bool, LineFault> {
-        if path == process.folder.as_slice() || path == b"/".as_slice() {
+        if path == process.folder.as_slice() || path == b"/".as_slice() || self.opens_folder() {
             return Ok(true);
         }
         let may_be = ways.mode == Mode::Read && !ways.creates && path.starts_with(b"/");

@@ -10,6 +10,7 @@ use pass_syscall::{BAD, Base, LineFault, Parts, Skip, Taken, unescaped};
 use pass_trace::Command;
 use std::alloc::{AllocError, Global};
 use std::collections::{BTreeMap, BTreeSet};
+use std::mem;
 
 /// What a descriptor was opened as.
 #[derive(Clone, Copy, PartialEq)]
@@ -29,6 +30,8 @@ pub struct Opening {
     pub path: Vec<u8>,
     /// The same as strace last wrote it.
     pub said: Vec<u8>,
+    /// The line of the call that gave it.
+    pub line: u64,
     pub at: u64,
     /// Its position isn't known, since no call of the run opened it.
     pub floats: bool,
@@ -61,6 +64,14 @@ impl Known {
     }
 }
 
+/// What an earlier reading has shown of names that it had taken for those of files: the links that were there before the run, and the
+/// lines of the calls that opened folders.
+#[derive(Drop)]
+pub struct Beginning {
+    pub links: Links,
+    pub folders: BTreeSet<u64>,
+}
+
 /// What is known of a run before its calls are taken.
 #[derive(Clone, Copy)]
 pub struct Setting<'a> {
@@ -71,6 +82,7 @@ pub struct Setting<'a> {
     pub base: &'a [u8],
     /// What loads programs, as far as that was looked for.
     pub loaders: &'a Loaders,
+    pub start: Option<&'a Beginning>,
     pub known: &'a Known,
 }
 
@@ -88,8 +100,20 @@ impl<'a> Setting<'a> {
             root,
             base,
             loaders,
+            start: None,
             known,
         }
+    }
+
+    /// The same with what the reading before has shown of the start.
+    pub fn from(&self, start: &'a Option<Beginning>) -> Setting<'a> {
+        let start = start.as_ref();
+        Setting { start, ..*self }
+    }
+
+    /// The same with what the reading before has shown.
+    pub fn knowing(&self, known: &'a Known) -> Setting<'a> {
+        Setting { known, ..*self }
     }
 }
 
@@ -132,6 +156,10 @@ pub struct Run<'a> {
     pub copied: BTreeSet<usize>,
     /// How many changes there were of files that processes share in memory.
     pub changes: u64,
+    /// The lines of the calls that opened folders which were taken for files.
+    folders: BTreeSet<u64>,
+    /// A file had a name that is a link's, or one below it, before that was told.
+    was_led: bool,
     ran: Vec<Ran>,
 }
 
@@ -157,7 +185,57 @@ impl<'a> Run<'a> {
             ledger: Ledger::new(alloc),
             copied: BTreeSet::new(alloc),
             changes: 0,
+            folders: BTreeSet::new(alloc),
+            was_led: false,
             ran: Vec::new(alloc),
+        }
+    }
+
+    /// Takes what was there at the start, as the reading before has shown.
+    pub fn begin(&mut self) -> Result<(), AllocError> {
+        if let Some(start) = self.setting.start {
+            self.links = start.links.beginning()?;
+        }
+        Ok(())
+    }
+
+    /// What a further reading has to know from the front on, where this one took names for those of files.
+    pub fn start(&mut self) -> Option<Beginning> {
+        if !self.was_led && self.folders.is_empty() {
+            return None;
+        }
+        let links = mem::replace(&mut self.links, Links::new(self.alloc));
+        let folders = mem::replace(&mut self.folders, BTreeSet::new(self.alloc));
+        Some(Beginning { links, folders })
+    }
+
+    /// A path turns out to be a link. What was named by it before, here or in the store, was another file's by its own name.
+    pub(crate) fn note_link(&mut self, path: &[u8]) -> Taken {
+        let is_named = matches!(self.files.named(path), Named::File(_))
+            || self.files.is_folder(self.alloc, path)?;
+        let was_there = !self.links.has_changed(path);
+        self.was_led = self.was_led || (is_named && was_there);
+        if is_named || (was_there && self.is_stored(path)?) {
+            self.ledger.tell(self.line, Skip::Link, path)?;
+        }
+        Ok(())
+    }
+
+    /// A descriptor turns out to be a folder's, and what it is for was taken for a file.
+    pub(crate) fn note_folder(&mut self, opening: usize) -> Result<(), AllocError> {
+        if self.file_of(opening).is_some() {
+            if let Some(opened) = self.openings.get(opening) {
+                self.folders.insert(opened.line)?;
+            }
+        }
+        Ok(())
+    }
+
+    /// Whether the call that is told now opens a folder, as an earlier reading has shown.
+    pub(crate) fn opens_folder(&self) -> bool {
+        match self.setting.start {
+            Some(start) => start.folders.contains(&self.line),
+            None => false,
         }
     }
 
@@ -360,6 +438,7 @@ impl<'a> Run<'a> {
             what,
             path,
             said: Vec::from_slice(self.alloc, said.unwrap_or(&[]))?,
+            line: self.line,
             at: 0,
             floats: false,
             appends: false,

@@ -88,12 +88,25 @@ struct Link {
     ground: Ground,
 }
 
+impl Link {
+    fn copy(&self) -> Result<Link, AllocError> {
+        Ok(Link {
+            target: self.target.clone()?,
+            ground: self.ground,
+        })
+    }
+}
+
 /// The symbolic links that are known, by their paths, and folders to whose paths no link leads.
 #[derive(Drop)]
 pub struct Links {
     alloc: Global,
     targets: BTreeMap<Vec<u8>, Link>,
     folders: BTreeSet<Vec<u8>>,
+    /// The links that were there before the run, as far as it has told them.
+    before: BTreeMap<Vec<u8>, Link>,
+    /// The paths that the run gave away or got.
+    changed: BTreeSet<Vec<u8>>,
 }
 
 impl Links {
@@ -102,7 +115,23 @@ impl Links {
             alloc,
             targets: BTreeMap::new(alloc),
             folders: BTreeSet::new(alloc),
+            before: BTreeMap::new(alloc),
+            changed: BTreeSet::new(alloc),
         }
+    }
+
+    /// The links that were there before a run, of which it told these.
+    pub fn beginning(&self) -> Result<Links, AllocError> {
+        let mut links = Links::new(self.alloc);
+        for (path, link) in self.before.iter() {
+            let own = links.resolved(&[], path, false)?;
+            // By the link of its folder it may have another path, and be none.
+            let target = joined(self.alloc, split_last(&own).0, &link.target)?;
+            if own != target {
+                links.put(own, link.copy()?)?;
+            }
+        }
+        Ok(links)
     }
 
     fn put(&mut self, path: Vec<u8>, link: Link) -> Result<(), AllocError> {
@@ -111,22 +140,59 @@ impl Links {
         Ok(())
     }
 
+    // A call tells a link, which was there before the run unless that has changed its path.
+    fn tell(&mut self, path: Vec<u8>, link: Link) -> Result<(), AllocError> {
+        let is_surer = match self.before.get(path.as_slice()) {
+            Some(known) => known.ground != Ground::Told && link.ground == Ground::Told,
+            None => true,
+        };
+        if is_surer && !self.has_changed(&path) {
+            self.before.insert(path.clone()?, link.copy()?)?;
+        }
+        self.put(path, link)
+    }
+
     /// A path is a link to a target.
     pub fn set(&mut self, path: Vec<u8>, target: Vec<u8>) -> Result<(), AllocError> {
         let ground = Ground::Told;
-        self.put(path, Link { target, ground })
+        self.tell(path, Link { target, ground })
     }
 
     /// A path leads to a target in the end, by a link of its own.
     pub fn learn(&mut self, path: Vec<u8>, target: Vec<u8>) -> Result<(), AllocError> {
         let ground = Ground::Learned;
-        self.put(path, Link { target, ground })
+        self.tell(path, Link { target, ground })
     }
 
     /// A path leads to a target with the same last part, by a link of its own or by one of its folder's.
     pub fn suppose(&mut self, path: Vec<u8>, target: Vec<u8>) -> Result<(), AllocError> {
         let ground = Ground::Supposed;
+        self.tell(path, Link { target, ground })
+    }
+
+    /// The run makes a link.
+    pub fn make(&mut self, path: Vec<u8>, target: Vec<u8>) -> Result<(), AllocError> {
+        self.note_change(&path)?;
+        let ground = Ground::Told;
         self.put(path, Link { target, ground })
+    }
+
+    /// A path names something else from now on, or nothing.
+    pub fn note_change(&mut self, path: &[u8]) -> Result<(), AllocError> {
+        if !self.changed.contains(path) {
+            self.changed.insert(Vec::from_slice(self.alloc, path)?)?;
+        }
+        Ok(())
+    }
+
+    /// Whether the run has changed what a path, or a folder of it, names.
+    pub fn has_changed(&self, path: &[u8]) -> bool {
+        for (end, byte) in path.iter().enumerate() {
+            if *byte == b'/' && self.changed.contains(ahead(path, end)) {
+                return true;
+            }
+        }
+        self.changed.contains(path)
     }
 
     /// A link goes by its path. Whether there was one.
@@ -134,8 +200,21 @@ impl Links {
         self.targets.remove(path).is_some()
     }
 
+    /// A further name of a link is one too. Whether there is one.
+    pub fn double(&mut self, old: &[u8], new: &[u8]) -> Result<bool, AllocError> {
+        let link = match self.targets.get(old) {
+            Some(link) => link.copy()?,
+            None => return Ok(false),
+        };
+        self.note_change(new)?;
+        self.put(Vec::from_slice(self.alloc, new)?, link)?;
+        Ok(true)
+    }
+
     /// A link gets another path, in place of what had that. Whether there is one.
     pub fn rename(&mut self, old: &[u8], new: &[u8]) -> Result<bool, AllocError> {
+        self.note_change(old)?;
+        self.note_change(new)?;
         let link = self.targets.remove(old);
         let _over = self.targets.remove(new);
         let Some(link) = link else {

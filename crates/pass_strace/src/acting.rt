@@ -139,6 +139,7 @@ impl<'a> Tracing<'a> {
     }
 
     fn begin(&mut self, alloc: Global, pid: u32) -> Taken {
+        self.run.begin()?;
         let base = Vec::from_slice(alloc, self.run.setting.base)?;
         let mut process = Process::first(alloc, pid, base)?;
         self.run.give(&mut process)?;

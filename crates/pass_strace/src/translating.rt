@@ -329,8 +329,26 @@ fn at_front(fault: LineFault) -> TranslationFault {
     TranslationFault::at_line(1, fault)
 }
 
-// The lines of a trace of all steps. Where a first reading shows that some files have no room, or that bytes are shown later than they
-// are copied, they are read once more.
+// The lines of a reading, or of one more where it shows that some files have no room, or that bytes are shown later than they are copied.
+fn completed(
+    alloc: Global,
+    steps: &[Step<'_>],
+    survey: &Survey,
+    setting: Setting<'_>,
+    waits: Waits,
+    has_facts: bool,
+    run: Run<'_>,
+) -> Result<(Output, Ledger), TranslationFault> {
+    let known = learned(alloc, &run)?;
+    if known.is_empty() {
+        return output_of(alloc, survey, run, has_facts);
+    }
+    let run = traced(alloc, steps, survey, setting.knowing(&known), waits)?;
+    output_of(alloc, survey, run, has_facts)
+}
+
+// The lines of a trace of all steps. Where a first reading shows that names were links' or folders' from the front on, they are read once
+// more before.
 fn translated_steps<'a>(
     alloc: Global,
     steps: &[Step<'_>],
@@ -347,14 +365,16 @@ fn translated_steps<'a>(
     let survey = Survey::of(alloc, steps)?;
     let nothing = Known::nothing(alloc);
     let first = Setting::of(&survey, stored, root, loaders, &nothing);
-    let run = traced(alloc, steps, &survey, first, waits)?;
-    let known = learned(alloc, &run)?;
-    if known.is_empty() {
-        return output_of(alloc, &survey, run, has_facts);
+    let mut run = traced(alloc, steps, &survey, first, waits)?;
+    let start = run.start();
+    match &start {
+        Some(_) => {
+            let second = first.from(&start);
+            let run = traced(alloc, steps, &survey, second, waits)?;
+            completed(alloc, steps, &survey, second, waits, has_facts, run)
+        }
+        None => completed(alloc, steps, &survey, first, waits, has_facts, run),
     }
-    let second = Setting::of(&survey, stored, root, loaders, &known);
-    let run = traced(alloc, steps, &survey, second, waits)?;
-    output_of(alloc, &survey, run, has_facts)
 }
 
 // The programs of a reading.
@@ -367,9 +387,16 @@ fn run_programs(
     let survey = Survey::of(alloc, &steps)?;
     let nothing = Known::nothing(alloc);
     let loaders = Loaders::none(alloc);
-    let setting = Setting::of(&survey, request.stored, request.root, &loaders, &nothing);
-    let run = traced(alloc, &steps, &survey, setting, request.waits)?;
-    Ok(run.programs()?)
+    let first = Setting::of(&survey, request.stored, request.root, &loaders, &nothing);
+    let mut run = traced(alloc, &steps, &survey, first, request.waits)?;
+    let start = run.start();
+    match &start {
+        Some(_) => {
+            let run = traced(alloc, &steps, &survey, first.from(&start), request.waits)?;
+            Ok(run.programs()?)
+        }
+        None => Ok(run.programs()?),
+    }
 }
 
 /// The programs of a run, and the interpreters of its scripts; none of a text that isn't translated.

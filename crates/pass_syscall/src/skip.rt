@@ -31,6 +31,8 @@ pub enum Skip {
     Loader,
     /// The file was read in part, so whether it changed since the store has it isn't known.
     Part,
+    /// A file was known by the name of a link before a call told of that, in the run or in the store.
+    Link,
     /// The text was written without `-y`: folders, links and descriptors that were given are known by their spelling alone.
     Paths,
     /// Two calls on the file overlapped, of which one changed it: which one came first isn't known.
@@ -59,6 +61,7 @@ impl Skip {
             Skip::Bytes => "bytes",
             Skip::Loader => "loader",
             Skip::Part => "part",
+            Skip::Link => "link",
             Skip::Paths => "paths",
             Skip::OverlapFile => "overlap-file",
             Skip::OverlapName => "overlap-name",

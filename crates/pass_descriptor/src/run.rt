@@ -192,9 +192,15 @@ impl<'a> Run<'a> {
     }
 
     /// Takes what was there at the start, as the reading before has shown.
-    pub fn begin(&mut self) -> Result<(), AllocError> {
-        if let Some(start) = self.setting.start {
-            self.links = start.links.beginning()?;
+    pub fn begin(&mut self) -> Taken {
+        let Some(start) = self.setting.start else {
+            return Ok(());
+        };
+        self.links = start.links.beginning()?;
+        for path in &self.links.paths()? {
+            if self.is_stored(path)? {
+                self.ledger.tell(self.line, Skip::Link, path)?;
+            }
         }
         Ok(())
     }
@@ -209,8 +215,11 @@ impl<'a> Run<'a> {
         Some(Beginning { links, folders })
     }
 
-    /// A path turns out to be a link. What was named by it before, here or in the store, was another file's by its own name.
+    /// A path turns out to be a link. What had its name before, here or in the store, is a file that has another one, too.
     pub(crate) fn note_link(&mut self, path: &[u8]) -> Taken {
+        if self.links.is_known(path) {
+            return Ok(());
+        }
         let is_named = matches!(self.files.named(path), Named::File(_))
             || self.files.is_folder(self.alloc, path)?;
         let was_there = !self.links.has_changed(path);

@@ -195,6 +195,20 @@ impl Links {
         self.changed.contains(path)
     }
 
+    /// Whether a path is known as a link.
+    pub fn is_known(&self, path: &[u8]) -> bool {
+        self.targets.contains_key(path)
+    }
+
+    /// The paths that are known as links.
+    pub fn paths(&self) -> Result<Vec<Vec<u8>>, AllocError> {
+        let mut paths = Vec::new(self.alloc);
+        for (path, _) in self.targets.iter() {
+            paths.push(path.clone()?)?;
+        }
+        Ok(paths)
+    }
+
     /// A link goes by its path. Whether there was one.
     pub fn take(&mut self, path: &[u8]) -> bool {
         self.targets.remove(path).is_some()

@@ -1,23 +1,19 @@
 -- The table of the lines that leave calls open, from one line of a text to the next.
-use Rattle.std.proofs.Common.{ℕ, ◌≡◌, ◌+◌, ◌<◌, inl, inr, Bool, true, false, cond, List, refl, ap, sym, ◌∙◌, arith, Ordering}
+use Rattle.std.proofs.Common.{ℕ, ◌≡◌, ◌+◌, ◌<◌, inl, inr, Bool, true, false, cond, List, refl, ap, sym, ◌∙◌, arith}
 use Rattle.std.specs.Prelude.{Some, None, Contains, map, length, get_or}
 use Rattle.std.specs.Cmp.{nat_cmp_is}
 use Rattle.std.specs.Ordering.{nat_cmp, is_eq}
-use Rattle.std.specs.declared.cmp.Ordering.TheVariants.{Less, Equal, Greater}
+use Rattle.std.specs.declared.cmp.Ordering.TheVariants.{Equal}
 use Rattle.std.specs.FinMap.{nat_cmp-IsAntisymmetric}
 use Rattle.std.specs.BTreeMap.{BTreeMap, get, IsEmpty, Updates}
 use Rattle.std.specs.Map.{lookup}
 use Rattle.std.proofs.lemmas.Bool.{cases_lt}
+use Rattle.pass_entry.proofs.Lists.{is_equal}
 use Rattle.std.proofs.lemmas.List.{get_or-map, length-map}
 use Rattle.std.proofs.lemmas.Option.{same_Some as some_is}
 use Rattle.pass_strace.specs.Calls.{IsLastOpen, is_left_open, line_at, process_of, said_of}
 use Rattle.pass_observed.specs.declared.ledger.Skipped.{Skipped}
 use Rattle.pass_strace.specs.Openings.{AreLast, IsLastByKey, key_of}
-
-is_equal : (o : Ordering) → is_eq o ≡ true → o ≡ Equal
-is_equal Less e = absurd (cc)
-is_equal Equal e = refl
-is_equal Greater e = absurd (cc)
 
 pub is_listed : (skipped : List Skipped) (i : ℕ) (d : Skipped) (number : ℕ) → i < length skipped → (get_or skipped i d).line ≡ number → Contains (map (λ s. s.line) skipped) number
 is_listed skipped i d number less is = (i, (let size = length-map skipped (λ (s : Skipped). s.line) in omega (arith, size, less)), get_or-map (λ (s : Skipped). s.line) skipped i d number less ∙ is)

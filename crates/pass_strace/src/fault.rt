@@ -11,6 +11,8 @@ pub enum Refusal {
     Strace(StraceReason),
     /// What it does has no line that may stand in a trace, or one too many.
     Trace(TraceReason),
+    /// Its call would be in no line of the trace, nor among those that are left out.
+    Lost,
 }
 
 impl Refusal {
@@ -19,6 +21,7 @@ impl Refusal {
         match self {
             Refusal::Strace(reason) => reason.word(),
             Refusal::Trace(reason) => reason.word(),
+            Refusal::Lost => "lost",
         }
     }
 
@@ -26,7 +29,7 @@ impl Refusal {
     pub fn expected(&self) -> Option<&'static str> {
         match self {
             Refusal::Strace(reason) => reason.expected(),
-            Refusal::Trace(_) => None,
+            Refusal::Trace(_) | Refusal::Lost => None,
         }
     }
 }

@@ -2,7 +2,7 @@
 ghost use Rattle.std.specs.List.{position};
 ghost use Rattle.std.specs.BTreeMap.{get};
 ghost use Rattle.std.specs.Ordering.{nat_cmp};
-ghost use Rattle.std.specs.Prelude.{◌≡◌, ◌⊎◌, ◌<◌, ◌+◌, ◌==◌, ◌^◌, not, true, length, map, reverse, IfOk, IfSome, OnOk, IsTrue, Contains, drop};
+ghost use Rattle.std.specs.Prelude.{◌≡◌, ◌⊎◌, ◌<◌, ◌+◌, ◌==◌, ◌^◌, not, true, length, map, reverse, None, IfOk, IfSome, OnOk, IsTrue, Contains, drop};
 ghost use Rattle.pass_strace.specs.Calls.{HasBegin, HasLine, IsBegunAt, IsLastOpen, KeepsCalls, KeepsRest, KeepsWhole, before, behind_last, behind_spaces, is_answered, is_beginning, is_begun, is_kept_call, is_kept_name, is_kept_rest, is_left_open, is_number, is_opening, is_reading, is_resumed_call, is_said_call, is_superseded, is_unfinished, is_writing, line_at, lines_of, name_of, process_of, resumed_name, resumed_rest, said_of, superseder_of};
 ghost use Rattle.pass_strace.specs.Openings.{AreLast, key_of};
 
@@ -411,37 +411,37 @@ fn note_open(
     Ok(())
 }
 
-// Whether each call that a trace has to keep is one of its lines, or among those that are left out.
-fn keeps_calls(
+// The number of the first line whose call a trace has to keep, and that is neither one of its lines nor among those that are left out.
+fn lost_call(
     alloc: Global,
     lines: &[&[u8]],
     origins: &[u64],
     skipped: &[Skipped],
-) -> Result<bool, AllocError>
-    ensures { IfOk result (λ kept. IsTrue kept → KeepsCalls (map (λ l. l.now) lines.now) origins.now skipped.now) }
+) -> Result<Option<u64>, AllocError>
+    ensures { IfOk result (λ lost. lost ≡ None → KeepsCalls (map (λ l. l.now) lines.now) origins.now skipped.now) }
 {
     let mut table = BTreeMap::new(alloc);
     for i in 0..lines.len() {
         if !keeps_whole(lines, i, origins, skipped) {
-            return Ok(false);
+            return Ok(Some(i as u64 + 1));
         }
         if !keeps_rest(lines, i, &table, origins, skipped) {
-            return Ok(false);
+            return Ok(Some(i as u64 + 1));
         }
         note_open(&mut table, lines, i)?;
     }
-    Ok(true)
+    Ok(None)
 }
 
 /// The same of the lines of a text.
-pub(crate) fn keeps_text(
+pub(crate) fn lost_line(
     alloc: Global,
     text: &[u8],
     origins: &[u64],
     skipped: &[Skipped],
-) -> Result<bool, AllocError>
-    ensures { IfOk result (λ kept. IsTrue kept → KeepsCalls (lines_of text.now) origins.now skipped.now) }
+) -> Result<Option<u64>, AllocError>
+    ensures { IfOk result (λ lost. lost ≡ None → KeepsCalls (lines_of text.now) origins.now skipped.now) }
 {
     let lines = lines_of(alloc, text)?;
-    keeps_calls(alloc, &lines, origins, skipped)
+    lost_call(alloc, &lines, origins, skipped)
 }

@@ -11,7 +11,7 @@ ghost use Rattle.pass_strace.specs.Translations.{count_lines, is_whole, IsInOrde
 use crate::acting::{Tracing, Waits};
 use crate::facts::{Fact, TOLD, begins_told, fact_lines};
 use crate::fault::{Refusal, TranslationFault};
-use crate::keeping::keeps_text;
+use crate::keeping::lost_line;
 use crate::telling::Telling;
 use pass_descriptor::{Known, Output, Program, Run, Setting};
 use pass_entry::KIND_LIMIT;
@@ -198,8 +198,9 @@ fn checked(
     if lines.len() != origins.len() || !are_in_order(&origins, count) || !is_told(facts, &lines) {
         return Err(refused(&origins, 1, TraceReason::Process));
     }
-    if !keeps_text(alloc, source, &origins, &skipped)? {
-        return Err(refused(&origins, 1, TraceReason::Process));
+    if let Some(line) = lost_line(alloc, source, &origins, &skipped)? {
+        let reason = Refusal::Lost;
+        return Err(TranslationFault::Refused { line, reason });
     }
     Ok(Translated {
         text,

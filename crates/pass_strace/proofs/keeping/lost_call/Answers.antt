@@ -1,7 +1,7 @@
 use Rattle.std.proofs.Common.{rules, arith, below_more}
 use Rattle.std.proofs.lemmas.List.{length-map}
 use Rattle.pass_strace.proofs.Walking.{none_open}
-use Rattle.pass_strace.proofs.keeping.keeps_calls.Goals as goal
+use Rattle.pass_strace.proofs.keeping.lost_call.Goals as goal
 
 pub loop-i-init : goal.loop-i-init
 loop-i-init c = record {

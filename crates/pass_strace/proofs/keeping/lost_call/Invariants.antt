@@ -1,7 +1,7 @@
 use Rattle.std.proofs.Common.{ℕ, ◌<◌, map}
 use Rattle.pass_strace.specs.Calls.{KeepsRest, KeepsWhole}
 use Rattle.pass_strace.specs.Openings.{AreLast}
-use Rattle.pass_strace.proofs.keeping.keeps_calls.Given as goal
+use Rattle.pass_strace.proofs.keeping.lost_call.Given as goal
 
 abbrev pub invariant-loop-i : goal.invariant-loop-i
 invariant-loop-i l = record {

@@ -1,0 +1,13 @@
+pub mod Fields
+pub mod Blocks
+pub mod Laying
+pub mod Lists
+pub mod Walks
+pub mod Putting
+pub mod Alike
+pub mod Appending
+pub mod Shelves
+pub mod Ending
+pub mod Answering
+pub mod Keeps
+pub mod Unique

@@ -1,0 +1,8 @@
+pub mod Batches
+pub mod Goings
+mod Trailing
+mod AsOpened
+mod Numbers
+mod Growing
+mod Consistent
+mod AsTold

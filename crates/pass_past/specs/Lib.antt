@@ -1,0 +1,5 @@
+pub mod Pasts
+pub mod Keepings
+pub mod Trails
+pub mod Walks
+pub mod Laws

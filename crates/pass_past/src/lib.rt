@@ -1,0 +1,12 @@
+//! The versions of files that a session ends or leaves, with their contents, and how an archive keeps them.
+#![tactic(auto)]
+
+mod contents;
+mod keeping;
+pub mod laws;
+mod opening;
+mod phases;
+mod trail;
+
+pub use keeping::{finish, halt, keep};
+pub use phases::keep_next;

@@ -1,6 +1,5 @@
 pub mod Batches
 pub mod Goings
-mod Trailing
 mod AsOpened
 mod Numbers
 mod Growing

@@ -11,7 +11,7 @@ use Rattle.pass_plain.specs.Versions.{nodes_of, is_freeze, version_after}
 use Rattle.pass_plain.specs.Registries.{registry_after}
 use Rattle.pass_past.specs.declared.phases.Walked.{Walked}
 use Rattle.pass_past.specs.Pasts.{file_numbers}
-use Rattle.pass_past.specs.Trails.{IsTrail}
+use Rattle.pass_report.specs.Trails.{IsTrail}
 
 -- the numbers of the files after a history
 abbrev pub AreFiles : Start → List Entry → BTreeSet ℕ → Type 0

@@ -4,9 +4,7 @@
 mod contents;
 mod keeping;
 pub mod laws;
-mod opening;
 mod phases;
-mod trail;
 
 pub use keeping::{finish, halt, keep};
 pub use phases::keep_next;

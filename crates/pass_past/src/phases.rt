@@ -14,11 +14,11 @@ ghost use Rattle.pass_past.specs.Walks.{AreFiles, IsEnding, IsWalked};
 ghost use Rattle.pass_past.specs.Keepings.{IsKeeping, IsHalted};
 
 use crate::contents::{add_files, content, is_file, listed, opened_files};
-use crate::trail::Trail;
 use pass_entry::{Entry, Node, Pnode};
 use pass_leaf::{Old, OldFault};
 use pass_outside::Disk;
 use pass_plain::{Recording, Start, VersionStep};
+use pass_report::Trail;
 use std::alloc::{AllocError, Global};
 use std::collections::BTreeSet;
 

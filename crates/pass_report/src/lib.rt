@@ -21,3 +21,4 @@ mod standing;
 mod trail;
 
 pub use reporting::report;
+pub use trail::Trail;

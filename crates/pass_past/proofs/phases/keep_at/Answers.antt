@@ -13,9 +13,9 @@ use Rattle.pass_report.specs.Reports.{IsLegalFrom}
 use Rattle.pass_report.proofs.Advancing.{next_of, one_further}
 use Rattle.pass_leaf.specs.declared.fault.OldFault.TheVariants as faults
 use Rattle.pass_leaf.specs.Keeping.{FileVersion}
-use Rattle.pass_past.specs.declared.trail.Trail.{Trail}
+use Rattle.pass_report.specs.declared.trail.Trail.{Trail}
 use Rattle.pass_past.specs.Pasts.{ended_by, ended_versions}
-use Rattle.pass_past.specs.Trails.{IsTrail, IsTurn}
+use Rattle.pass_report.specs.Trails.{IsTrail, IsTurn}
 use Rattle.pass_past.specs.Walks.{AreFiles, IsEnding}
 use Rattle.pass_past.specs.Keepings.{Begins, IsKeeping, IsHalted}
 use Rattle.pass_past.proofs.Goings.{ended_take, kept_stops, begins_itself}

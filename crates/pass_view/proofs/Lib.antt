@@ -11,3 +11,6 @@ pub mod Adding
 mod Lines
 mod Drawing
 pub mod Lacking
+mod Rows
+mod Readings
+mod Keys

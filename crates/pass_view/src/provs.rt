@@ -3,7 +3,7 @@ ghost use Rattle.std.specs.Prelude.{◌≡◌, ◌∷◌, [], IfOk, OnOk, option
 ghost use Rattle.std.specs.BTreeSet.{insert_key};
 ghost use Rattle.std.specs.Cmp.Lexicographic.{slice_cmp};
 ghost use Rattle.std.specs.Ordering.{nat_cmp};
-ghost use Rattle.json.specs.Token.{begin_array, begin_object};
+ghost use Rattle.json.specs.Token.{begin_object};
 ghost use Rattle.json.specs.Tree.{json_tokens};
 ghost use Rattle.pass_view.specs.Provs.{Adds, agent, agents, association_of, key_of, link_member, member_tokens, members_in, name_members, node_id, node_member, object_of, own_members, pair_at, part_of, part_word, program_id, programs, programs_of, prov_text, ran, ran_member, related, relation_id, relation_word, relations, same_relation, sections, source_word, system_members, tag_text, tags_json, target_word, text_at, tokens_of};
 
@@ -220,20 +220,24 @@ fn write_own_name(out: &mut Writer, name: &Option<Text>) -> Result<(), AllocErro
 fn write_tags(alloc: Global, out: &mut Writer, tags: &[(Text, Text)]) -> Result<(), AllocError>
     ensures { OnOk result (Adds out.old out.new (member_tokens (codes "pass:attributes", tags_json tags.now))) }
 {
-    begin_list(out, "pass:attributes")?;
+    out.key("pass:attributes")?;
+    write_list(alloc, out, tags)
+}
+
+/// The attributes as a list of texts.
+pub(crate) fn write_list(
+    alloc: Global,
+    out: &mut Writer,
+    tags: &[(Text, Text)],
+) -> Result<(), AllocError>
+    ensures { OnOk result (Adds out.old out.new (json_tokens (tags_json tags.now))) }
+{
+    out.begin_array()?;
     for (attr, value) in tags {
         let text = tag_text(alloc, attr, value)?;
         out.string(text.as_str())?;
     }
     out.end_array()
-}
-
-// An array under a key, which is to be ended.
-fn begin_list(out: &mut Writer, key: &str) -> Result<(), AllocError>
-    ensures { OnOk result (Adds out.old out.new (key_of key.now ∷ begin_array ∷ [])) }
-{
-    out.key(key)?;
-    out.begin_array()
 }
 
 fn tag_text(alloc: Global, attr: &Text, value: &Text) -> Result<String, AllocError>
@@ -315,8 +319,8 @@ impl Relation {
         }
     }
 
-    // What PROV-JSON calls the relations of this kind.
-    fn word(self) -> &'static str
+    /// What PROV-JSON calls the relations of this kind.
+    pub(crate) fn word(self) -> &'static str
         ensures { result.now ≡ relation_word self }
     {
         match self {
@@ -354,8 +358,8 @@ impl Relation {
 
 // Programs
 
-// The program that the node ran, where it is a version of a process that ran one.
-fn ran(shown: &Shown) -> Option<&Text>
+/// The program that the node ran, where it is a version of a process that ran one.
+pub(crate) fn ran(shown: &Shown) -> Option<&Text>
     ensures { option_map (λ t. t.now) result ≡ ran shown.now }
 {
     if is_activity(shown) {

@@ -3,8 +3,9 @@ ghost use Rattle.std.specs.Prelude.{◌≡◌, ◌↔◌, IfOk, Some, Err};
 ghost use Rattle.pass_entry.specs.declared.objects.Node.{Node};
 ghost use Rattle.pass_graph.specs.ListRanks.{HasNode};
 ghost use Rattle.pass_query.specs.declared.fault.QueryFault.{QueryFault};
-ghost use Rattle.pass_view.specs.Texts.{IsViewText, text_in};
+ghost use Rattle.pass_view.specs.Texts.{IsTableText, IsViewText, text_in};
 
+use crate::csvs::{Table, tabulate};
 use crate::dots::{dot, plain};
 use crate::picture::View;
 use crate::provs::prov;
@@ -48,4 +49,19 @@ fn written(alloc: Global, view: View, form: Form) -> Result<Vec<u8>, AllocError>
         Form::Plain => dot(alloc, &plain(view)),
         Form::Prov => prov(alloc, &view),
     }
+}
+
+/// The whole graph as one of its two tables, for a store of this name.
+pub fn table_text(
+    alloc: Global,
+    index: &Index,
+    table: Table,
+    store: &[u8],
+) -> Result<Vec<u8>, QueryFault>
+    ensures text { IfOk result (λ v. IsTableText index.now table store.now v.items) }
+    // No node was asked for that could be missing.
+    ensures there { (n : Node) → ¬ (result ≡ Err (QueryFault.NoObject n)) }
+{
+    let view = select(alloc, index, None)?;
+    Ok(tabulate(alloc, &view, table, store)?)
 }

@@ -1,0 +1,10 @@
+use Rattle.std.proofs.Common.{subst, [], ◌∷◌}
+use Rattle.std.specs.Prelude.{OnOk}
+use Rattle.pass_view.specs.Csvs.{Row, Writes, row_bytes}
+use Rattle.pass_view.proofs.csvs.write_node_columns.Goals as goal
+
+pub returns : goal.returns
+returns c =
+    subst (λ (row : Row). OnOk c.write_columns.result (Writes c.args.out.now c.write_columns.new.out (row_bytes row)))
+    (λ i. c.as_bytes.ensures.value i ∷ c.as_bytes-2.ensures.value i ∷ c.as_bytes-3.ensures.value i ∷ c.as_bytes-4.ensures.value i ∷ c.as_bytes-5.ensures.value i ∷ c.as_bytes-6.ensures.value i ∷ c.as_bytes-7.ensures.value i ∷ c.as_bytes-8.ensures.value i ∷ c.as_bytes-9.ensures.value i ∷ c.as_bytes-10.ensures.value i ∷ c.as_bytes-11.ensures.value i ∷ [])
+    c.write_columns.ensures

@@ -23,12 +23,26 @@ use Rattle.pass_status.specs.declared.status.Status.{Status}
 use Rattle.pass_status.specs.declared.status.Status.TheVariants as status
 use Rattle.pass_status.specs.Statuses.{status_of_opening}
 use Rattle.pass_status.specs.Stores.{store_fault, image_fault}
-use Rattle.pass_ask.specs.Answers.{is_reported}
+use Rattle.pass_ask.specs.Answers.{IsNoDiskFault, is_reported}
 use Rattle.pass_ask.specs.Asked.{IsAskJudged, IsAnswered, IsAnswerTo, IsGiven, IsGraphAnswer, IsLacking, IsLogOf, IsPatternStatus, IsPut, IsQuestionRead, IsNowhere, IsUnknown, HasGiven, HasPatternFault, asked_in}
 use Rattle.pass_ask.specs.Matches.{IsOfShape}
 use Rattle.pass_ask.proofs.Patterns.{same_fault}
 use Rattle.pass_ask.specs.declared.words.Question.{Question}
 use Rattle.pass_ask.specs.declared.words.Question.TheVariants.{Check, Graph, Match, Send}
+
+-- where no device call failed, it is judged as if none had been made
+pub at_once : (asked : Option Question) (old new : Moment) (bytes : List ℕ) (judged : Status) → IsNoDiskFault judged → IsAskJudged asked old new bytes judged → IsAskJudged asked old old bytes judged
+at_once asked old new bytes judged quiet by = record {
+  bad_words = by.bad_words;
+  bad_pattern = by.bad_pattern;
+  disk_fault = λ opened now is. absurd (quiet opened now is);
+  unhidden = λ put rose. absurd (omega (arith, rose));
+  bad_store = by.bad_store;
+  no_object = by.no_object;
+  no_frame = by.no_frame;
+  done = by.done;
+  reads = λ quiet. refl;
+}
 
 -- words that ask nothing
 pub words_judged : (m : Moment) (bytes : List ℕ) → IsAskJudged None m m bytes status.BadWords
@@ -278,37 +292,43 @@ answer_to (Match from pattern form) old bytes text held is says = (held, is, say
 answer_to (Send from) old bytes text held is says = absurd says
 
 -- a log that was read, and what its graph answers
+module _ (q : Question) (put : IsPut (Some q)) (old new : Moment) (bytes : List ℕ) (list : List Record) where
+  pub answered_by : (judged : Status) (text : List ℕ) → IsLogOf bytes list → new.faults ≡ old.faults → new.seen ≡ old.seen → judged ≢ status.NoMemory → IsAnswered list q judged text
+      → IsAskJudged (Some q) old new bytes judged × (judged ≡ status.Done → IsAnswerTo q old bytes text)
+  answered_by judged text of still same known answered = by judged known answered
+    where
+      sound : first_flaw of.held.list ≡ None
+      sound = subst IsWellLogged (sym of.list_is) of.logged
+
+      same_held : (other : Held) → image_of bytes ≡ Ok other → of.held ≡ other
+      same_held other holds = held_is (sym of.image ∙ holds)
+        where
+          held_is : ◌≡◌ {A = Result Held LogFault} (Ok of.held) (Ok other) → of.held ≡ other
+          held_is is = cc
+
+      -- a node that this log hasn't is one that the graph hasn't
+      absent : (node : Node) → IsUnknown q bytes node → IsLacking list q node
+      absent node (other, holds, is) = subst (λ l. IsLacking l q node) of.list_is (subst (λ (h : Held). IsLacking h.list q node) (sym (same_held other holds)) is)
+
+      unknown : (node : Node) → IsLacking list q node → IsUnknown q bytes node
+      unknown node is = (of.held, of.image, subst (λ l. IsLacking l q node) (sym of.list_is) is)
+
+      by : (s : Status) → s ≢ status.NoMemory → IsAnswered list q s text → IsAskJudged (Some q) old new bytes s × (s ≡ status.Done → IsAnswerTo q old bytes text)
+      by status.Done known (none, says) = (
+        done_judged q put old new bytes still same of.held of.image sound (record { node = λ node is. none node (absent node is); place = λ place is. answered_place list q text bytes place says is }),
+        λ done. answer_to q old bytes text of.held of.image (subst (λ l. IsGraphAnswer l q text) (sym of.list_is) says),
+      )
+      by (status.NoObject node) known (is, alone) = (
+        object_judged q put old new bytes still same of.held of.image sound node (unknown node is) (λ other also. alone other (absent other also)),
+        λ done. absurd (cc),
+      )
+      by status.NoMemory known is = absurd (known refl)
+      by _ known is = absurd is
+
 pub answered_judges : (q : Question) → IsPut (Some q) → (old new : Moment) (list : List Record) (judged : Status) (text : List ℕ) → LogHas old (λ bytes. IsLogOf bytes list)
     → new.faults ≡ old.faults → new.seen ≡ old.seen → judged ≢ status.NoMemory → IsAnswered list q judged text → Judges q old new judged text
-answered_judges q put old new list judged text (bytes, told, of) still same known answered = (bytes, told, by judged known answered)
-  where
-    sound : first_flaw of.held.list ≡ None
-    sound = subst IsWellLogged (sym of.list_is) of.logged
-
-    same_held : (other : Held) → image_of bytes ≡ Ok other → of.held ≡ other
-    same_held other holds = held_is (sym of.image ∙ holds)
-      where
-        held_is : ◌≡◌ {A = Result Held LogFault} (Ok of.held) (Ok other) → of.held ≡ other
-        held_is is = cc
-
-    -- a node that this log hasn't is one that the graph hasn't
-    absent : (node : Node) → IsUnknown q bytes node → IsLacking list q node
-    absent node (other, holds, is) = subst (λ l. IsLacking l q node) of.list_is (subst (λ (h : Held). IsLacking h.list q node) (sym (same_held other holds)) is)
-
-    unknown : (node : Node) → IsLacking list q node → IsUnknown q bytes node
-    unknown node is = (of.held, of.image, subst (λ l. IsLacking l q node) (sym of.list_is) is)
-
-    by : (s : Status) → s ≢ status.NoMemory → IsAnswered list q s text → IsAskJudged (Some q) old new bytes s × (s ≡ status.Done → IsAnswerTo q old bytes text)
-    by status.Done known (none, says) = (
-      done_judged q put old new bytes still same of.held of.image sound (record { node = λ node is. none node (absent node is); place = λ place is. answered_place list q text bytes place says is }),
-      λ done. answer_to q old bytes text of.held of.image (subst (λ l. IsGraphAnswer l q text) (sym of.list_is) says),
-    )
-    by (status.NoObject node) known (is, alone) = (
-      object_judged q put old new bytes still same of.held of.image sound node (unknown node is) (λ other also. alone other (absent other also)),
-      λ done. absurd (cc),
-    )
-    by status.NoMemory known is = absurd (known refl)
-    by _ known is = absurd is
+answered_judges q put old new list judged text (bytes, told, of) still same known answered =
+    (bytes, told, answered_by q put old new bytes list judged text of still same known answered)
 
 -- the nodes that a pattern of the text's shape joins
 pub matched_answer : (list : List Record) (text : List ℕ) (shape : Shape) (from : Node) (form : Form) (answer : Result (Vec ℕ Global) QueryFault) → IsOfShape text shape

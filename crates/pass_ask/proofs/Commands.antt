@@ -1,13 +1,13 @@
 -- What the command of the words is, from what was read of them.
 use Rattle.std.proofs.Common.{◌≡◌, ◌∙◌, true, false, refl, sym, ap, subst, List, ℕ}
-use Rattle.std.specs.Prelude.{◌≢◌, Option, Some, None, Result, Ok, Err, IsTrue, is_some, option_and_then}
+use Rattle.std.specs.Prelude.{◌≢◌, Bool, Option, Some, None, Result, Ok, Err, IsTrue, is_some, option_and_then}
 use Rattle.std.specs.Option.{option_map_or}
 use Rattle.pass_status.specs.declared.status.Status.{Status}
 use Rattle.pass_status.specs.declared.status.Status.TheVariants as status
 use Rattle.pass_ask.specs.Asked.{IsPut, IsQuestionRead, asked_in}
-use Rattle.pass_ask.specs.Words.{Reads, Text, command_of, drawn_by, drawn_of, is_gen, is_replay, is_replay_command, is_follow, is_follow_command, is_run, is_run_command, question_in, question_of}
+use Rattle.pass_ask.specs.Words.{Reads, Text, asks_lines, command_of, drawn_by, drawn_of, is_gen, is_replay, is_replay_command, is_follow, is_follow_command, is_run, is_run_command, lines_asked, lines_by, question_in, question_of}
 use Rattle.pass_ask.specs.declared.words.Command.{Command}
-use Rattle.pass_ask.specs.declared.words.Command.TheVariants.{Run, Replay, Gen, Ask, Follow}
+use Rattle.pass_ask.specs.declared.words.Command.TheVariants.{Run, Replay, Gen, Ask, Questions, Follow}
 use Rattle.pass_ask.specs.declared.words.Question.{Question}
 
 -- what stands in a value that was read
@@ -41,6 +41,24 @@ module _ (words : List Text) (r : Result Command Status) (read : Reads r (comman
       by status.BadWords none known = ap (λ (o : Option Command). option_and_then drawn_by o) none
       by status.NoMemory none known = absurd (known refl)
       by _ none known = absurd none
+
+  -- whether these words ask for many questions
+  pub lines_as : (c : Command) → r ≡ Ok c → lines_asked words ≡ lines_by c
+  lines_as c is = ap (λ (o : Option Command). option_and_then lines_by o) (subst (λ (x : Result Command Status). Reads x (command_of words)) is read)
+
+  pub refuses_lines : (s : Status) → r ≡ Err s → s ≢ status.NoMemory → lines_asked words ≡ None
+  refuses_lines s is known = by s (subst (λ (x : Result Command Status). Reads x (command_of words)) is read) known
+    where
+      by : (t : Status) → Reads {X = Command} (Err t) (command_of words) → t ≢ status.NoMemory → lines_asked words ≡ None
+      by status.BadWords none known = ap (λ (o : Option Command). option_and_then lines_by o) none
+      by status.NoMemory none known = absurd (known refl)
+      by _ none known = absurd none
+
+  -- many questions are no other command
+  pub asks_many : (json : Bool) → r ≡ Ok (Questions json) → (¬ (IsTrue (is_run words))) × (¬ (IsTrue (is_follow words))) × (IsTrue (asks_lines words)) × (drawn_of words ≡ None)
+  asks_many json is =
+      let named : command_of words ≡ Some (Questions json) = subst (λ (x : Result Command Status). Reads x (command_of words)) is read in
+      (not_run (Some (Questions json)) named refl, not_follow (Some (Questions json)) named refl, ap is_some (lines_as (Questions json) is), draws_so (Questions json) is)
 
   pub runs_only : (workers : ℕ) → r ≡ Ok (Run workers) → ¬ (IsTrue (is_follow words))
   runs_only workers is = not_follow (Some (Run workers)) (subst (λ (x : Result Command Status). Reads x (command_of words)) is read) refl

@@ -8,4 +8,5 @@ pub mod Shown
 pub mod NamedWords
 pub mod Streams
 pub mod TakenWords
+pub mod Turns
 pub mod Written

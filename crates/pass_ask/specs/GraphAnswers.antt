@@ -12,11 +12,11 @@ use Rattle.pass_recipe.specs.Orders.{IsLeast, IsOrder, nodes_of}
 use Rattle.pass_recipe.specs.Programs.{HasProgram}
 use Rattle.pass_recipe.specs.Texts.{recipe_text}
 use Rattle.pass_recipe.specs.declared.entries.Made.{Made}
-use Rattle.pass_view.specs.Texts.{IsViewText}
+use Rattle.pass_view.specs.Texts.{IsTableText, IsViewText}
 use Rattle.pass_waldo.specs.Lookups.{AreAll}
 use Rattle.pass_waldo.specs.Orders.{node_cmp}
 use Rattle.pass_ask.specs.declared.words.GraphQuestion.{GraphQuestion}
-use Rattle.pass_ask.specs.declared.words.GraphQuestion.TheVariants.{Lineage, Recipe, View, Told}
+use Rattle.pass_ask.specs.declared.words.GraphQuestion.TheVariants.{Lineage, Recipe, View, Csv, Told}
 
 -- the recipe of a node: it and all its ancestors, each after what it came from, in the least of these orders; each with its sources
 -- and its program
@@ -31,6 +31,7 @@ abbrev pub IsGraphText : List Record → GraphQuestion → List ℕ → Type 0
 IsGraphText list (Lineage query form) text = IsAnswerText list query form text
 IsGraphText list (Recipe node) text = (entries : List Made) × IsRecipe list node entries × (text ≡ recipe_text entries)
 IsGraphText list (View form node) text = IsViewText list (option_map (node_meant list) node) form text
+IsGraphText list (Csv table store) text = IsTableText list table store text
 IsGraphText list (Told inquiry form) text = IsInquiryText list inquiry form text
 
 -- the node is the first given one that the graph hasn't
@@ -38,4 +39,5 @@ abbrev pub IsMissing : List Record → GraphQuestion → Node → Type 0
 IsMissing list (Lineage query form) n = IsAbsent list query n
 IsMissing list (Recipe node) n = (n ≡ node) × ¬ (HasNode list node)
 IsMissing list (View form node) n = (option_map (node_meant list) node ≡ Some n) × ¬ (HasNode list n)
+IsMissing list (Csv table store) n = ⊥
 IsMissing list (Told inquiry form) n = IsUnmet list (meant list inquiry) n

@@ -7,6 +7,7 @@ pub mod Laws
 pub mod Line
 pub mod Matches
 pub mod Numbers
+pub mod Questions
 pub mod Shown
 pub mod Telling
 pub mod Words

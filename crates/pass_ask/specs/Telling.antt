@@ -1,5 +1,5 @@
 -- Words that give a node by the name of a file, or ask for an answer with names. This project's own rule.
-use Rattle.std.specs.Prelude.{ℕ, ◌+◌, ◌==◌, ◌&&◌, ◌||◌, Bool, true, false, not, List, [], ◌∷◌, Option, Some, None, codes, drop, length, option_and_then, option_map, take, if◌then◌else◌}
+use Rattle.std.specs.Prelude.{ℕ, ◌+◌, ◌==◌, ◌&&◌, ◌||◌, Bool, not, List, [], ◌∷◌, Option, Some, None, codes, drop, option_and_then, option_map, take, if◌then◌else◌}
 use Rattle.std.specs.Option.{option_map_or}
 use Rattle.pass_entry.specs.Texts.{is_name}
 use Rattle.pass_entry.specs.declared.objects.Node.{Node}

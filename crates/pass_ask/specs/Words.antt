@@ -19,7 +19,7 @@ use Rattle.pass_ask.specs.Numbers.{number_in, node_in, seed_in}
 use Rattle.pass_ask.specs.Telling.{inquiry_in, tells}
 use Rattle.pass_ask.specs.declared.telling.Flags.{Flags}
 use Rattle.pass_ask.specs.declared.words.Command.{Command}
-use Rattle.pass_ask.specs.declared.words.Command.TheVariants.{Run, Replay, Gen, Ask, Follow}
+use Rattle.pass_ask.specs.declared.words.Command.TheVariants.{Run, Replay, Gen, Ask, Questions, Follow}
 use Rattle.pass_ask.specs.declared.words.GraphQuestion.{GraphQuestion}
 use Rattle.pass_ask.specs.declared.words.GraphQuestion.TheVariants.{Lineage, Recipe, Told}
 use Rattle.pass_ask.specs.declared.words.Question.{Question}
@@ -47,7 +47,7 @@ abbrev pub gen_in : Bool → Option Text → List Text → Option Command
 gen_in false workers (number ∷ lines ∷ []) = gen_of (workers_in workers) (seed_in number) (number_in 15 100000 lines)
 gen_in _ _ _ = None
 
--- check and follow, which take no further word
+-- check, questions and follow, which take no further word
 abbrev pub alone_in : Command → Bool → Option Text → List Text → Option Command
 alone_in command false None [] = Some command
 alone_in _ _ _ _ = None
@@ -114,12 +114,13 @@ abbrev pub replay_in : Bool → Option Text → Text → List Text → Option Co
 replay_in json workers name words = if is_text name (codes "run") then alone_in Replay json workers words else None
 
 -- The command without --replay by whether --json is given, what --workers gives, COMMAND and its words. --workers goes with run and gen alone,
--- --json with the queries alone.
+-- --json with the queries and with many of them.
 abbrev pub command_in : Bool → Option Text → Text → List Text → Option Command
 command_in json workers name words =
     if is_text name (codes "run") then run_in json workers words
     else if is_text name (codes "gen") then gen_in json workers words
     else if is_text name (codes "check") then alone_in (Ask Check) json workers words
+    else if is_text name (codes "questions") then alone_in (Questions json) false workers words
     else if is_text name (codes "follow") then alone_in Follow json workers words
     else if is_some workers then None
     else if is_text name (codes "send") then option_map Ask (send_in json words)
@@ -200,8 +201,20 @@ is_follow_command _ = false
 abbrev pub is_follow : List Text → Bool
 is_follow words = option_map_or is_follow_command (command_of words) false
 
+abbrev pub lines_by : Command → Option Bool
+lines_by (Questions json) = Some json
+lines_by _ = None
+
+-- the words are those of questions, and whether each is asked with --json
+abbrev pub lines_asked : List Text → Option Bool
+lines_asked words = option_and_then lines_by (command_of words)
+
+abbrev pub asks_lines : List Text → Bool
+asks_lines words = is_some (lines_asked words)
+
 abbrev pub is_writing : Command → Bool
 is_writing (Ask question) = false
+is_writing (Questions json) = false
 is_writing _ = true
 
 -- the words are those of a command that writes to the store: run, gen or follow

@@ -48,15 +48,19 @@ pub fn ask<K: Sink, D: Disk>(alloc: Global, words: &[String], sink: &mut K, disk
     ask_for(alloc, question, sink, disk)
 }
 
-// The question of a command; that of a run, of a drawn one or of a standby is none.
-fn question_in(command: Result<Command, Status>) -> Result<Question, Status>
+/// The question of a command; that of a run, of a drawn one, of a standby or of many questions is none.
+pub(crate) fn question_in(command: Result<Command, Status>) -> Result<Question, Status>
     ensures question { (words : List (List ℕ)) → Reads command (command_of words) → Reads result (question_of words) }
 {
     match command {
         Ok(Command::Ask(question)) => Ok(question),
-        Ok(Command::Run { .. } | Command::Replay | Command::Gen { .. } | Command::Follow) => Err(
-            Status::BadWords,
-        ),
+        Ok(
+            Command::Run { .. }
+            | Command::Replay
+            | Command::Gen { .. }
+            | Command::Questions { .. }
+            | Command::Follow,
+        ) => Err(Status::BadWords),
         Err(status) => Err(status),
     }
 }

@@ -1,5 +1,5 @@
 //! Follows the log of another store, whose bytes a source gives.
-ghost use Rattle.std.specs.Prelude.{◌≡◌, ◌≢◌, ◌⊎◌, ◌++◌, ◌∷◌, ℕ, [], true, IsTrue, IfOk, IfErr, IsErr, OnOk, length, codes, decimal, string_bytes};
+ghost use Rattle.std.specs.Prelude.{◌≡◌, ◌≢◌, ◌⊎◌, ◌++◌, ◌∷◌, [], true, IsTrue, IfOk, OnOk, codes, decimal, string_bytes};
 ghost use Rattle.pass_ask.specs.Answers.{is_reported};
 ghost use Rattle.pass_ask.specs.Follows.{HasCome, HasFed, HasFollowed, IsFollowedOn, IsToldOf, OfRead, place_line, status_of_standby};
 ghost use Rattle.pass_recover.specs.Later.{IsLater};

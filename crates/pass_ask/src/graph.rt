@@ -1,5 +1,5 @@
 //! What the graph of a log answers.
-ghost use Rattle.std.specs.Prelude.{◌≡◌, ◌↔◌, ◌<◌, Err, IfOk, List, option_map};
+ghost use Rattle.std.specs.Prelude.{◌≡◌, ◌↔◌, ◌<◌, Err, IfOk, option_map};
 ghost use Rattle.pass_entry.specs.declared.objects.Node.{Node};
 ghost use Rattle.pass_query.specs.declared.fault.QueryFault.{QueryFault};
 ghost use Rattle.pass_files.specs.Spelling.{node_meant};
@@ -11,7 +11,7 @@ use pass_entry::Node;
 use pass_files::{Spelled, inquire, node_meant};
 use pass_query::{QueryFault, Steps, answer};
 use pass_recipe::{recipe, to_text};
-use pass_view::view_text;
+use pass_view::{table_text, view_text};
 use pass_waldo::Index;
 use std::alloc::Global;
 use std::marker::Brand;
@@ -34,6 +34,7 @@ pub fn graph_answer(
         GraphQuestion::View { form, node } => {
             view_text(alloc, index, node_shown(index, node), *form)
         }
+        GraphQuestion::Csv { table, store } => table_text(alloc, index, *table, store.as_bytes()),
         GraphQuestion::Told { inquiry, form } => inquire(alloc, index, inquiry, *form),
     }
 }

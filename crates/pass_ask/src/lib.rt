@@ -8,7 +8,9 @@
 //! store area as they read; the text of a question is the definitions' answer over the records of the log. Unless a device
 //! call failed the disk reads as before, and each crash leaves what it might have left before (`answer`, `write_fault`,
 //! `unwritten`, `unopened`, `alone`, `later`). `ask_for` is `ask` over words that were read, and `show` says the same of
-//! the words of `passview`. `writes` tells exactly whether words are those of a command that writes, and want of memory
+//! the words of `passview`. `ask_lines` answers the questions of a source, each a line, over one index: by definition each text is
+//! what its question alone writes, and where memory or the sink fails, those of the first lines were given (`answer`, `starved`,
+//! `laws::answered_alone`). `writes` tells exactly whether words are those of a command that writes, and want of memory
 //! apart.
 //!
 //! `follow` hands a standby what the source gives. Its status is judged by the bytes of the log area and of the stream,
@@ -31,8 +33,10 @@ mod matching;
 mod numbers;
 mod opening;
 mod pattern_text;
+mod questions;
 mod sending;
 mod showing;
+mod store_name;
 mod telling;
 mod words;
 mod writing;
@@ -40,8 +44,12 @@ mod writing;
 pub use asking::{Asked, ask, ask_for};
 pub use following::{Followed, follow};
 pub use judged::Judged;
+pub use numbers::{LAST_NUMBER, node_in, number_in};
+pub use opening::open_index;
 pub use pass_status::Status;
 pub use pattern_text::PatternText;
+pub use questions::ask_lines;
 pub use showing::show;
+pub use store_name::StoreName;
 pub use words::{Command, GraphQuestion, Question, read_words, writes};
 pub use writing::write_answer;

@@ -1,11 +1,12 @@
 //! Patterns of paths, and what they match.
-ghost use Rattle.std.specs.Prelude.{◌≡◌, ◌≢◌, ◌⊎◌, ℕ, List, Ok, Err, IfErr, IfOk, IsTrue, Some};
+ghost use Rattle.std.specs.Prelude.{◌≡◌, ◌≢◌, ℕ, List, Ok, Err, IfErr, IfOk, IsTrue, Some};
 ghost use Rattle.pass_pattern.specs.Patterns.{shape_of};
 ghost use Rattle.pass_recover.specs.Faults.{LogHas};
 ghost use Rattle.pass_recover.specs.Later.{IsLater, IsLeftAlone};
 ghost use Rattle.pass_ask.specs.Answers.{is_reported};
 ghost use Rattle.pass_ask.specs.Asked.{IsAskJudged, IsAnswerTo, IsPatternStatus, IsPut};
 ghost use Rattle.pass_ask.specs.Matches.{IsOfShape};
+ghost use Rattle.pass_ask.specs.Questions.{IsToldOver};
 ghost use Rattle.pass_ask.specs.declared.words.Question.{Question};
 
 use crate::judged::{Judged, refused, told};
@@ -16,6 +17,7 @@ use pass_outside::Disk;
 use pass_pattern::{Pattern, PatternFault, answer, parse_pattern};
 use pass_query::Form;
 use pass_status::{Status, opening_status};
+use pass_waldo::Index;
 use std::alloc::Global;
 
 /// Judges the pattern's text, and then what the graph of the log answers.
@@ -37,6 +39,23 @@ pub fn judge_match<D: Disk>(
 {
     match read_pattern(alloc, text) {
         Ok(pattern) => judge_pattern(alloc, from, &pattern, form, disk),
+        Err(status) => refused(alloc, status),
+    }
+}
+
+/// Judges the pattern's text, and then what the graph of an index answers.
+pub fn match_answer(
+    alloc: Global,
+    index: &Index,
+    from: Node,
+    text: &PatternText,
+    form: Form,
+) -> Judged
+    ensures over { IsToldOver index.now (Some (Question.Match from text.now form)) result.status result.text.items }
+    ensures unwritten { result.status ≢ Status.WriteFault }
+{
+    match read_pattern(alloc, text) {
+        Ok(pattern) => told(alloc, answer(alloc, index, from, &pattern, form)),
         Err(status) => refused(alloc, status),
     }
 }

@@ -7,7 +7,7 @@ ghost use Rattle.pass_ask.specs.Numbers.{is_number_to, last_number, number_in, n
 use pass_entry::{NUMBER_LIMIT, Node, Pnode};
 
 /// The greatest number of an object, and of a version.
-pub(crate) const LAST_NUMBER: u64 = NUMBER_LIMIT - 1;
+pub const LAST_NUMBER: u64 = NUMBER_LIMIT - 1;
 
 fn are_digits(word: &[u8]) -> bool
     ensures { result ≡ list_all is_digit word.now }

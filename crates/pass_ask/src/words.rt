@@ -11,6 +11,7 @@ ghost use Rattle.pass_ask.specs.declared.words.Command.TheVariants.{Ask};
 use crate::line::command_line;
 use crate::numbers::{node_in, number_in, seed_in};
 use crate::pattern_text::PatternText;
+use crate::store_name::StoreName;
 use crate::telling::{Flags, inquiry_in, tells};
 use clap::error::ErrorKind;
 use clap::{ArgMatches, Error};
@@ -18,6 +19,7 @@ use pass_entry::{Node, Text, TextFault};
 use pass_files::{Inquiry, Spelled};
 use pass_query::{Form, Query};
 use pass_status::Status;
+use pass_view::Table;
 use std::alloc::{AllocError, Global};
 
 /// How many workers take the turns where the words don't say it.
@@ -48,6 +50,11 @@ pub enum GraphQuestion {
     View {
         form: pass_view::Form,
         node: Option<Spelled>,
+    },
+    /// The whole graph as one of its tables, for a store of this name; no word of passd asks for it.
+    Csv {
+        table: Table,
+        store: StoreName,
     },
     /// The same as a lineage, with names, and which files a node came from or went into.
     Told {
@@ -90,6 +97,10 @@ pub enum Command {
     },
     /// To answer a question.
     Ask(Question),
+    /// To answer the questions of the source, each a line; each with `--json` where that is given.
+    Questions {
+        json: bool,
+    },
     /// To keep what comes of another store's log.
     Follow,
 }
@@ -99,7 +110,7 @@ pub fn writes(alloc: Global, words: &[String]) -> Result<bool, AllocError>
     ensures { IfOk result (λ alone. alone ≡ writes (map string_bytes words.now)) }
 {
     match read_words(alloc, words) {
-        Ok(Command::Ask(_)) => Ok(false),
+        Ok(Command::Ask(_) | Command::Questions { .. }) => Ok(false),
         Ok(Command::Run { .. } | Command::Replay | Command::Gen { .. } | Command::Follow) => Ok(
             true,
         ),
@@ -273,6 +284,9 @@ fn command_in(
     }
     if name == b"check".as_slice() {
         return or_bad(alone_in(Command::Ask(Question::Check), json, workers, words));
+    }
+    if name == b"questions".as_slice() {
+        return or_bad(alone_in(Command::Questions { json }, false, workers, words));
     }
     if name == b"follow".as_slice() {
         return or_bad(alone_in(Command::Follow, json, workers, words));

@@ -1,6 +1,6 @@
 //! Writes the text of what was judged.
 ghost use Rattle.std.specs.Prelude.{◌≡◌, ◌≢◌, ◌↔◌, ◌⊎◌, ◌++◌, IsTrue, OnErr, OnOk};
-ghost use Rattle.pass_outside.specs.Faults.{FailsByCount, HasRisen};
+ghost use Rattle.pass_outside.specs.Faults.{FailsByCount, HasRisen, HasStayed};
 ghost use Rattle.pass_status.specs.Writing.{IsPartOfText};
 ghost use Rattle.pass_ask.specs.Answers.{is_reported, text_with};
 
@@ -15,6 +15,7 @@ pub fn write_answer<K: Sink>(alloc: Global, sink: &mut K, status: Status, report
     ensures whole { result ≢ Status.WriteFault → result ≢ Status.NoMemory → IsTrue K.tells → K.taken sink.new ≡ K.taken sink.old ++ text_with status report.now }
     ensures part { result ≡ Status.WriteFault → IsTrue K.tells → IsPartOfText (text_with status report.now) (K.taken sink.old) (K.taken sink.new) }
     ensures fault { result ≢ Status.NoMemory → (result ≡ Status.WriteFault ↔ HasRisen (K.fault_count sink.old) (K.fault_count sink.new)) }
+    ensures stays { result ≢ Status.WriteFault → result ≢ Status.NoMemory → HasStayed (K.fault_count sink.old) (K.fault_count sink.new) }
     ensures starved { status ≡ Status.NoMemory → result ≡ Status.NoMemory }
     ensures refused { result ≡ Status.NoMemory → ¬ IsTrue (is_reported status) }
     ensures unwritten { result ≡ Status.NoMemory → sink.new ≡ sink.old }
@@ -36,6 +37,7 @@ fn written<K: Sink>(sink: &mut K, text: &[u8], status: Status) -> Status
     ensures whole { result ≢ Status.WriteFault → IsTrue K.tells → K.taken sink.new ≡ K.taken sink.old ++ text.now }
     ensures part { result ≡ Status.WriteFault → IsTrue K.tells → IsPartOfText text.now (K.taken sink.old) (K.taken sink.new) }
     ensures fault { result ≡ Status.WriteFault ↔ HasRisen (K.fault_count sink.old) (K.fault_count sink.new) }
+    ensures stays { result ≢ Status.WriteFault → HasStayed (K.fault_count sink.old) (K.fault_count sink.new) }
 {
     match write_all(sink, text) {
         Ok(()) => status,

@@ -1,5 +1,5 @@
 //! The call that the program makes.
-ghost use Rattle.std.specs.Prelude.{ℕ, ◌≡◌, ◌≢◌, ◌↔◌, ◌⊎◌, ◌≤◌, Err, IsTrue, Some, map, string_bytes};
+ghost use Rattle.std.specs.Prelude.{ℕ, Bool, ◌≡◌, ◌≢◌, ◌↔◌, ◌⊎◌, ◌≤◌, Err, IsTrue, Some, map, string_bytes};
 ghost use Rattle.pass_outside.specs.Faults.{HasRisen};
 ghost use Rattle.pass_run.specs.Orders.{IsOrder};
 ghost use Rattle.pass_run.specs.Stored.{IsBackedBy, IsLater, IsLeftAlone};
@@ -7,11 +7,14 @@ ghost use Rattle.pass_cli.specs.Answers.{OfBytes, IsReadInTime, IsAnswer, IsNoth
 ghost use Rattle.pass_ask.specs.Asked.{IsAsked, IsPut, IsQuestionRead, asked_in};
 ghost use Rattle.pass_ask.specs.Follows.{IsFollowAnswer, IsFollowedOn, OfRead};
 ghost use Rattle.pass_cli.specs.Drawn.{IsGenAnswer, drawn_bytes};
-ghost use Rattle.pass_ask.specs.Words.{drawn_of, is_follow, is_gen, is_replay, is_run, question_of};
+ghost use Rattle.pass_ask.specs.Questions.{AreAsked, AreCut};
+ghost use Rattle.pass_ask.specs.Words.{asks_lines, drawn_of, is_follow, is_gen, is_replay, is_run, lines_asked, question_of};
 
 use crate::drawing::judge_drawn;
 use crate::verdict::judge;
-use pass_ask::{Asked, Command, Followed, Question, ask_for, follow, read_words, write_answer};
+use pass_ask::{
+    Asked, Command, Followed, Question, ask_for, ask_lines, follow, read_words, write_answer,
+};
 use pass_entry::{Entry, Record, Synced};
 use pass_outside::{Disk, Gate, Sink, Source};
 use pass_plain::Start;
@@ -68,19 +71,27 @@ pub fn pass_main<R: Threads + Wait + Sync, S: Source, K: Sink, D: Disk + Send, G
         (record { tells = K.tells; before = K.taken sink.old; after = K.taken sink.new }) disk result.disk (outcome_of result) result.status }
     ensures drawn_recorded { (number lines : ℕ) → drawn_of (map string_bytes words.now) ≡ Some (number, lines)
         → IsUnrecorded (D.view disk) (D.view result.disk) (drawn_bytes number lines) (outcome_of result) ⊎ IsRecorded (D.view disk) (D.view result.disk) (drawn_bytes number lines) (outcome_of result) }
+    // Questions that come as lines are answered in their order, each as it would be alone.
+    ensures questions { (json : Bool) → lines_asked (map string_bytes words.now) ≡ Some json → result.status ≢ Status.NoMemory
+        → AreAsked json S.tells (S.left source.old) (S.left source.new) (S.fault_count source.old) (S.fault_count source.new) (D.view disk) (D.view result.disk)
+        (record { tells = K.tells; before = K.taken sink.old; after = K.taken sink.new }) result.status }
+    ensures cut { (json : Bool) → lines_asked (map string_bytes words.now) ≡ Some json → result.status ≡ Status.NoMemory
+        → AreCut json S.tells (S.left source.old) (D.view disk) (record { tells = K.tells; before = K.taken sink.old; after = K.taken sink.new }) }
     // Every other command is answered as by `ask`, and records nothing.
-    ensures asked { ¬ IsTrue (is_run (map string_bytes words.now)) → ¬ IsTrue (is_follow (map string_bytes words.now)) → ¬ IsTrue (is_gen (map string_bytes words.now)) → result.status ≢ Status.NoMemory → IsAsked (question_of (map string_bytes words.now)) (D.view disk) (D.view result.disk)
+    ensures asked { ¬ IsTrue (is_run (map string_bytes words.now)) → ¬ IsTrue (is_follow (map string_bytes words.now)) → ¬ IsTrue (is_gen (map string_bytes words.now)) → ¬ IsTrue (asks_lines (map string_bytes words.now)) → result.status ≢ Status.NoMemory → IsAsked (question_of (map string_bytes words.now)) (D.view disk) (D.view result.disk)
         (record { tells = K.tells; before = K.taken sink.old; after = K.taken sink.new }) result.status }
     ensures unrecorded { ¬ IsTrue (is_run (map string_bytes words.now)) → ¬ IsTrue (is_gen (map string_bytes words.now)) → IsNothing (outcome_of result) }
     ensures alone { ¬ IsTrue (is_run (map string_bytes words.now)) → ¬ IsTrue (is_follow (map string_bytes words.now)) → ¬ IsTrue (is_gen (map string_bytes words.now)) → IsLeftAlone (D.view disk) (D.view result.disk) }
-    ensures unopened { ¬ IsTrue (is_run (map string_bytes words.now)) → ¬ IsTrue (is_follow (map string_bytes words.now)) → ¬ IsTrue (is_gen (map string_bytes words.now)) → ¬ IsPut (question_of (map string_bytes words.now)) → result.disk ≡ disk }
+    ensures unopened { ¬ IsTrue (is_run (map string_bytes words.now)) → ¬ IsTrue (is_follow (map string_bytes words.now)) → ¬ IsTrue (is_gen (map string_bytes words.now)) → ¬ IsTrue (asks_lines (map string_bytes words.now)) → ¬ IsPut (question_of (map string_bytes words.now)) → result.disk ≡ disk }
     // What the disk tells stays, and its counts never fall.
     ensures later { IsLater (D.view disk) (D.view result.disk) }
     ensures write_fault { result.status ≢ Status.NoMemory → (result.status ≡ Status.WriteFault
         ↔ HasRisen (K.fault_count sink.old) (K.fault_count sink.new)) }
-    ensures untaken { result.status ≡ Status.NoMemory → sink.new ≡ sink.old }
-    // Only a run and a standby read the source.
-    ensures unread { ¬ IsTrue (is_run (map string_bytes words.now)) → ¬ IsTrue (is_follow (map string_bytes words.now)) → source.new ≡ source.old }
+    // Where memory was refused, the sink didn't fail, and only answers to many questions may have begun.
+    ensures unfailed { result.status ≡ Status.NoMemory → K.fault_count sink.new ≡ K.fault_count sink.old }
+    ensures untaken { ¬ IsTrue (asks_lines (map string_bytes words.now)) → result.status ≡ Status.NoMemory → sink.new ≡ sink.old }
+    // Only a run, a standby and questions that come as lines read the source.
+    ensures unread { ¬ IsTrue (is_run (map string_bytes words.now)) → ¬ IsTrue (is_follow (map string_bytes words.now)) → ¬ IsTrue (asks_lines (map string_bytes words.now)) → source.new ≡ source.old }
     // The source is read to its end, or to where its bytes are seen to be too long for a trace.
     ensures stops { IsTrue S.tells → IsTrue (is_run (map string_bytes words.now)) → result.status ≢ Status.NoMemory → ¬ HasRisen (S.fault_count source.old) (S.fault_count source.new)
         → IsReadInTime (S.left source.old) (S.left source.new) }
@@ -104,6 +115,7 @@ pub fn pass_main<R: Threads + Wait + Sync, S: Source, K: Sink, D: Disk + Send, G
             },
         ) => gen_words(rt, alloc, workers, number, lines, sink, disk, gate),
         Ok(Command::Ask(question)) => answered(alloc, Ok(question), sink, disk),
+        Ok(Command::Questions { json }) => lines_words(alloc, json, source, sink, disk),
         Ok(Command::Follow) => follow_words(rt, alloc, source, sink, disk),
         Err(status) => answered(alloc, Err(status), sink, disk),
     }
@@ -217,6 +229,28 @@ fn follow_words<R: Wait, S: Source, K: Sink, D: Disk>(
     let Followed { judged, disk } = follow(rt, alloc, source, disk);
     let status = write_answer(alloc, sink, judged.status, &judged.text);
     asked(alloc, Asked { status, disk })
+}
+
+// Answers the questions that the source gives.
+fn lines_words<S: Source, K: Sink, D: Disk>(
+    alloc: Global,
+    json: bool,
+    source: &mut S,
+    sink: &mut K,
+    disk: D,
+) -> Ended<D>
+    ensures answer { result.status ≢ Status.NoMemory → AreAsked json S.tells (S.left source.old) (S.left source.new) (S.fault_count source.old) (S.fault_count source.new)
+        (D.view disk) (D.view result.disk) (record { tells = K.tells; before = K.taken sink.old; after = K.taken sink.new }) result.status }
+    ensures starved { result.status ≡ Status.NoMemory → AreCut json S.tells (S.left source.old) (D.view disk) (record { tells = K.tells; before = K.taken sink.old; after = K.taken sink.new }) }
+    ensures write_fault { result.status ≢ Status.NoMemory → (result.status ≡ Status.WriteFault
+        ↔ HasRisen (K.fault_count sink.old) (K.fault_count sink.new)) }
+    ensures unfailed { result.status ≡ Status.NoMemory → K.fault_count sink.new ≡ K.fault_count sink.old }
+    ensures nothing { IsNothing (outcome_of result) }
+    ensures backed { IsBackedBy result.history.items result.syncs.items }
+    ensures alone { IsLeftAlone (D.view disk) (D.view result.disk) }
+    ensures later { IsLater (D.view disk) (D.view result.disk) }
+{
+    asked(alloc, ask_lines(alloc, json, source, sink, disk))
 }
 
 // Answers what was read, where that is a question or no command.

@@ -23,9 +23,7 @@ fn advice_on(status: Status) -> Option<&'static str> {
         Status::Stuck => Some(
             "the run is stuck: the report's lines `waiting` say which processes wait, and where",
         ),
-        Status::ReadFault => Some(
-            "standard input can't be read: give the trace by `<` or by a pipe",
-        ),
+        Status::ReadFault => Some("standard input can't be read: give it by `<` or by a pipe"),
         Status::BadTrace { .. } => Some(
             "standard input is no trace: it has one call a line, as `1 creat 3 a`; passtrace makes one of what strace wrote",
         ),

@@ -13,12 +13,13 @@ pub const HELP: &str = "passd DIR COMMAND: a file store that records which data 
   named NAME               lists the files that ever had the name, each at its current version
   recipe NODE              lists what the version came from, in an order in which it can be made again
   match NODE PATTERN       follows paths of the pattern
+  questions                answers the questions on standard input, each a line as ancestors 8.1, in their order
   send FROM                writes the log from this place on
   follow                   keeps the log that comes on standard input
 
   --replay                 with run, without --workers: makes each call where its line stands, or as soon behind it as it is ready
   --workers N              with run and gen: 1 to 64 threads (4 if not given)
-  --json                   with ancestors, descendants, inputs, outputs, path, named and match
+  --json                   with ancestors, descendants, inputs, outputs, path, named and match; with questions: with each
   --names                  with ancestors, descendants and path: tells of each node its kind, its name or what it ran, or
                            the attributes of an app object
   --data                   with inputs and outputs: only flows of data count

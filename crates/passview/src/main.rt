@@ -1,5 +1,6 @@
 //! Shows the graph of the store of a folder. The first argument is the folder, and the others say what is to be shown and how:
-//! `dot` or `prov`, and a node behind it for what that node came from. `--plain` behind `dot` leaves out the system's files.
+//! `dot` or `prov`, and a node behind it for what that node came from. `--plain` behind `dot` leaves out the system's files. `csv`
+//! writes one of two tables.
 //!
 //! The answer goes to standard output, and why there is none to standard error. The text of either is a clause of
 //! `pass_ask::show`; where it goes is tested.
@@ -29,7 +30,7 @@ fn main(rt: HostRuntime) -> ExitCode {
     let mut answer = MemSink::new(rt.alloc(), Vec::new(rt.alloc()));
     let [folder, words @ ..] = arguments.as_slice() else {
         // A call without a folder has no words either.
-        let ended = show(rt.alloc(), &[], &mut answer, NoDisk::new());
+        let ended = show(rt.alloc(), "", &[], &mut answer, NoDisk::new());
         return ExitCode::from(handed_on(&rt, ended.status, &answer));
     };
     // The folder is opened before the words are judged, beside others that read.
@@ -39,7 +40,7 @@ fn main(rt: HostRuntime) -> ExitCode {
             if let Some(note) = disk.note() {
                 let _told = eprintln!(rt; "passview: {folder}: {note}");
             }
-            let ended = show(rt.alloc(), words, &mut answer, disk);
+            let ended = show(rt.alloc(), folder, words, &mut answer, disk);
             ExitCode::from(handed_on(&rt, ended.status, &answer))
         }
         Err(fault) => ExitCode::from(unopened(&rt, folder, fault)),

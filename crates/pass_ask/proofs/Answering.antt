@@ -15,6 +15,8 @@ use Rattle.pass_pattern.specs.declared.fault.PatternFault.{PatternFault}
 use Rattle.pass_query.specs.declared.fault.QueryFault.{QueryFault}
 use Rattle.pass_query.specs.declared.fault.QueryFault.TheVariants as query
 use Rattle.pass_query.specs.declared.question.Form.{Form}
+use Rattle.pass_range.specs.Tables.{AreUnmatched}
+use Rattle.pass_range.specs.declared.range.Range.{Range}
 use Rattle.pass_recover.specs.declared.fault.OpenFault.{OpenFault}
 use Rattle.pass_recover.specs.declared.fault.OpenFault.TheVariants.{DiskFault, BadFrame, BadRecord, Flaw, NoMemory}
 use Rattle.pass_recover.specs.Faults.{LogHas, IsCauseOf}
@@ -24,6 +26,7 @@ use Rattle.pass_status.specs.declared.status.Status.TheVariants as status
 use Rattle.pass_status.specs.Statuses.{status_of_opening}
 use Rattle.pass_status.specs.Stores.{store_fault, image_fault}
 use Rattle.pass_ask.specs.Answers.{IsNoDiskFault, is_reported}
+use Rattle.pass_ask.specs.Checks.{check_text}
 use Rattle.pass_ask.specs.Asked.{IsAskJudged, IsAnswered, IsAnswerTo, IsGiven, IsGraphAnswer, IsLacking, IsLogOf, IsPatternStatus, IsPut, IsQuestionRead, IsNowhere, IsUnknown, HasGiven, HasPatternFault, asked_in}
 use Rattle.pass_ask.specs.Matches.{IsOfShape}
 use Rattle.pass_ask.proofs.Patterns.{same_fault}
@@ -329,6 +332,34 @@ pub answered_judges : (q : Question) → IsPut (Some q) → (old new : Moment) (
     → new.faults ≡ old.faults → new.seen ≡ old.seen → judged ≢ status.NoMemory → IsAnswered list q judged text → Judges q old new judged text
 answered_judges q put old new list judged text (bytes, told, of) still same known answered =
     (bytes, told, answered_by q put old new bytes list judged text of still same known answered)
+
+-- its records are well logged
+pub logged_of : (m : Moment) (list : List Record) → LogHas m (λ bytes. IsLogOf bytes list) → IsWellLogged list
+logged_of m list (bytes, told, of) = of.logged
+
+-- a store that was surveyed, and what is said of its records and ranges
+pub surveyed_judges : (old new : Moment) (list said : List Record) (unmatched told : List Range) (judged : Status) (text : List ℕ) → LogHas old (λ bytes. IsLogOf bytes list)
+    → (IsTrue old.tells → AreUnmatched list old.seen.store unmatched) → new.faults ≡ old.faults → new.seen ≡ old.seen → judged ≢ status.NoMemory → said ≡ list → told ≡ unmatched
+    → ((judged ≡ status.Done) × (text ≡ check_text said told)) ⊎ (judged ≡ status.NoMemory) → Judges Check old new judged text
+surveyed_judges old new list said unmatched told judged text read found still same known said_is told_is (inr starved) = absurd (known starved)
+surveyed_judges old new list said unmatched told judged text (bytes, tells, of) found still same known said_is told_is (inl (done, is)) = (
+  bytes,
+  tells,
+  (
+    subst (λ (s : Status). IsAskJudged (Some Check) old new bytes s) (sym done)
+        (done_judged Check (λ why is. is) old new bytes still same of.held of.image (subst IsWellLogged (sym of.list_is) of.logged)
+        (record { node = λ node unknown. unknown.2; place = λ place is. is })),
+    λ judged. (
+      of.held,
+      of.image,
+      (
+        unmatched,
+        subst (λ l. IsTrue old.tells → AreUnmatched l old.seen.store unmatched) (sym of.list_is) found,
+        is ∙ ap (λ l. check_text l told) (said_is ∙ sym of.list_is) ∙ ap (λ u. check_text of.held.list u) told_is,
+      ),
+    ),
+  ),
+)
 
 -- the nodes that a pattern of the text's shape joins
 pub matched_answer : (list : List Record) (text : List ℕ) (shape : Shape) (from : Node) (form : Form) (answer : Result (Vec ℕ Global) QueryFault) → IsOfShape text shape

@@ -13,14 +13,13 @@ use crate::graph::graph_answer;
 use crate::judged::{Judged, refused, told};
 use crate::listing::check_answer;
 use crate::matching::judge_match;
-use crate::opening::open_index;
+use crate::opening::{open_index, survey};
 use crate::sending::judge_send;
 use crate::words::{Command, GraphQuestion, Question, read_words};
 use crate::writing::write_answer;
 use pass_entry::Record;
 use pass_outside::{Disk, Sink};
 use pass_range::Range;
-use pass_recover::recover;
 use pass_status::{Status, opening_status};
 use std::alloc::{AllocError, Global};
 
@@ -124,14 +123,14 @@ fn judge_store<D: Disk>(alloc: Global, disk: &mut D) -> Judged
     ensures later { IsLater (D.view disk.old) (D.view disk.new) }
 {
     let opened = disk.faults();
-    match recover(alloc, disk) {
-        Ok(opening) => judge_opening(alloc, &opening.image.list, &opening.unmatched),
+    match survey(alloc, disk) {
+        Ok(found) => judge_survey(alloc, &found.list, &found.unmatched),
         Err(fault) => refused(alloc, opening_status(fault, opened, disk.faults())),
     }
 }
 
 // What is said of a store that opened.
-fn judge_opening(alloc: Global, list: &[Record], unmatched: &[Range]) -> Judged
+fn judge_survey(alloc: Global, list: &[Record], unmatched: &[Range]) -> Judged
     ensures { ((result.status ≡ Status.Done) × (result.text.items ≡ check_text list.now unmatched.now)) ⊎ (result.status ≡ Status.NoMemory) }
 {
     match check_answer(alloc, list, unmatched) {

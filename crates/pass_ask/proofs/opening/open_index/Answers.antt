@@ -1,29 +1,14 @@
-use Rattle.std.proofs.Common.{◌∙◌, sym, ap, subst}
-use Rattle.std.specs.Prelude.{IsTrue}
-use Rattle.pass_log.specs.LogImage.{held_in}
-use Rattle.pass_outside.specs.Areas.{Image}
-use Rattle.pass_outside.specs.Runs.{adds_both}
-use Rattle.pass_plain.specs.WellLogged.{IsWellLogged}
+use Rattle.std.proofs.Common.{sym, subst}
+use Rattle.std.specs.Prelude.{List}
+use Rattle.pass_entry.specs.declared.record.Record.{Record}
+use Rattle.pass_recover.specs.Faults.{LogHas}
+use Rattle.pass_ask.specs.Asked.{IsLogOf}
+use Rattle.pass_ask.proofs.Answering.{logged_of}
 use Rattle.pass_ask.proofs.opening.open_index.Goals as goal
+
+pub of-requires-clause-logged : goal.of-requires-clause-logged
+of-requires-clause-logged g c = logged_of (g.D.Disk.view c.args.disk.now) c.in_ok-log.log.list.items c.in_ok-log.ensures.read
 
 pub returns-clause-read : goal.returns-clause-read
 returns-clause-read g c =
-    let (bytes, told, read) = c.in-Ok.ensures.image in (
-      bytes,
-      λ tells. told (subst IsTrue (sym c.sync_both.ensures.run.tells) tells) ∙ ap (λ (i : Image). i.log) c.in_ok-sync_both.ensures.content,
-      record {
-        held = held_in c.in-Ok.image;
-        image = read.holds;
-        list_is = sym c.in_ok-index.ensures;
-        logged = subst IsWellLogged (c.deref.ensures.value ∙ sym c.in_ok-index.ensures) c.in_ok-logged.ensures.ok;
-      },
-    )
-
-pub returns-clause-crash : goal.returns-clause-crash
-returns-clause-crash g c = λ i left. c.sync_both.ensures.crash i (c.read_image.ensures.crash i left)
-
-pub returns-clause-run : goal.returns-clause-run
-returns-clause-run g c =
-    let old = g.D.Disk.view c.args.disk.now in
-    adds_both old.may_leave old (g.D.Disk.view c.sync_both.new.disk) (g.D.Disk.view c.read_image.new.disk) c.sync_both.ensures.run.adds c.read_image.ensures.run
-    (λ i x. x) (λ i x. c.sync_both.ensures.crash i x)
+    subst (λ (l : List Record). LogHas (g.D.Disk.view c.args.disk.now) (λ bytes. IsLogOf bytes l)) (sym c.in_ok-index.ensures) c.in_ok-log.ensures.read

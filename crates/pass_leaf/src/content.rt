@@ -20,8 +20,8 @@ pub(crate) fn put(content: &mut [u8], at: usize, bytes: &[u8])
 // The greatest size of a content that is made, in bytes. No file is as large.
 const LARGEST: u64 = 1 << 28;
 
-// Puts the bytes of blocks over those of a content of the leaf's size.
-fn put_blocks(content: &mut [u8], leaf: &Leaf)
+/// Puts the leaf's blocks over a content of the leaf's size.
+pub fn put_blocks(content: &mut [u8], leaf: &Leaf)
     requires { length content.old ≡ leaf.now.size }
     ensures { content.new ≡ fold with_block_of content.old leaf.now.blocks }
 {

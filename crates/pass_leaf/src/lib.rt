@@ -16,7 +16,7 @@ mod tail;
 mod walk;
 mod writing;
 
-pub use content::lay;
+pub use content::{lay, put_blocks};
 pub use fault::OldFault;
 pub use leaf::{Leaf, LeafBlock};
 pub use leaves::{Leaves, read_leaves};

@@ -1,0 +1,5 @@
+mod Stepping
+mod Coming
+mod Coursing
+mod Finding
+mod Blocks

@@ -1,7 +1,8 @@
 -- Where the archive's device failed, and which words were refused.
-use Rattle.std.proofs.Common.{◌≡◌, ◌⊎◌, ◌∙◌, ℕ, Bool, true, false, List, inl, inr, ⊎_elim, refl, sym, ap, subst}
+use Rattle.std.proofs.Common.{◌≡◌, ◌⊎◌, ◌∙◌, ℕ, Bool, true, false, List, [], ◌∷◌, inl, inr, ⊎_elim, refl, sym, ap, subst}
 use Rattle.std.specs.Prelude.{◌≢◌}
 use Rattle.pass_entry.specs.declared.entry.Entry.{Entry}
+use Rattle.pass_entry.specs.declared.record.Record.{Record}
 use Rattle.pass_entry.specs.declared.objects.Node.{Node}
 use Rattle.pass_entry.specs.declared.record.Record.{Record}
 use Rattle.pass_outside.specs.Moments.{Moment, IsDeviceWork}
@@ -28,10 +29,13 @@ use Rattle.pass_past.proofs.Goings.{work_both}
 use Rattle.pass_old.specs.declared.status.OldStatus.{OldStatus}
 use Rattle.pass_old.specs.declared.status.OldStatus.TheVariants as old_status
 use Rattle.pass_old.specs.declared.words.OldQuestion.{OldQuestion}
-use Rattle.pass_old.specs.Answers.{IsRunAnswer, IsQuestionAnswer}
+use Rattle.pass_old.specs.declared.words.LogQuestion.{LogQuestion}
+use Rattle.pass_old.specs.Consults.{IsConsulted, IsJudgedByLog, IsToldBothAs}
+use Rattle.pass_old.specs.Answers.{IsRunAnswer, IsQuestionAnswer, IsConsultAnswer}
 use Rattle.pass_old.specs.Questions.{IsToldAs, IsJudgedBy}
-use Rattle.pass_old.specs.Runs.{IsOpened, IsKept, IsSomeKept, IsKeptAs, HasNoHistory, IsLost, HasRunOver, IsOldRun}
+use Rattle.pass_old.specs.Runs.{IsOpened, IsKept, IsSomeKept, IsKeptAs, HasNothing, IsLost, HasRunOver, IsOldRun}
 use Rattle.pass_old.specs.Statuses.{status_of_archive}
+use Rattle.pass_old.specs.Tars.{IsTarAnswer, IsTarJudged, IsTarTold, tar_status}
 
 abbrev nothing : Node
 nothing = record { pnode = 0; version = 0 }
@@ -88,7 +92,7 @@ module _ {D A : Type 0} (view : D → Moment) (archive_view : A → Moment) (byt
   Works now = IsDeviceWork (archive_view archive) (archive_view now) Fails
 
   past_work : (first : Archive A) → IsOpened archive_view archive first
-      → (HasNoHistory history × IsLost view archive_view old new first archived judged) ⊎ HasRunOver view archive_view bytes before after old new first archived start history judged report
+      → (HasNothing start history × IsLost view archive_view old new first archived judged) ⊎ HasRunOver view archive_view bytes before after old new first archived start history judged report
       → Works archived
   past_work first opened (inl (none, lost)) =
       subst Works (sym lost.archive.disk) (work_as (archive_view archive) (archive_view first.disk) ⊥ Fails
@@ -177,7 +181,7 @@ module _ {D A : Type 0} (view : D → Moment) (archive_view : A → Moment) (byt
       (λ (s : IsSomeKept archive_view first r.last r.recovered_start history judged). archive_words s.fault (sym (ap refuses_words (s.is nothing)) ∙ is)) l.kept
 
   past_words : (first : Archive A)
-      → (HasNoHistory history × IsLost view archive_view old new first archived judged) ⊎ HasRunOver view archive_view bytes before after old new first archived start history judged report → ⊥
+      → (HasNothing start history × IsLost view archive_view old new first archived judged) ⊎ HasRunOver view archive_view bytes before after old new first archived start history judged report → ⊥
   past_words first (inl (none, lost)) = opening_words (view old).faults (view new).faults lost.fault (same_words (status_of_opening (view old).faults (view new).faults lost.fault) lost.is)
   past_words first (inr r) = over_words first r r.kept
 
@@ -211,3 +215,49 @@ judged_words before question text judged (inr t) is = told_words t.leaves questi
 
 pub question_words : (before after : Moment) (question : OldQuestion) (sink : SinkSeen) (answered : OldStatus) → answered ≡ old_status.Same status.BadWords → IsQuestionAnswer before after question sink answered → ⊥
 question_words before after question sink answered is q = judged_words before question q.text q.judged q.by (refused_words answered q.judged is q.written.stands)
+
+-- nor those of a question to an archive and a log
+
+told_both_words : (list : List Record) (leaves : List Leaf) (question : LogQuestion) (s : OldStatus) (text : List ℕ) → IsToldBothAs question s text list leaves → refuses_words s ≡ true → ⊥
+told_both_words list leaves question (old_status.Same status.BadWords) text told is = told
+told_both_words list leaves question _ text told is = absurd (cc)
+
+logged_words : (before after : Moment) (leaves : List Leaf) (Told : List Record → List Leaf → Type 0) (judged : OldStatus) → ((list : List Record) (all : List Leaf) → Told list all → refuses_words judged ≡ true → ⊥)
+    → IsJudgedByLog before after leaves Told judged → refuses_words judged ≡ true → ⊥
+logged_words before after leaves Told judged never (inl u) is = opening_words before.faults after.faults u.fault (sym (ap refuses_words u.is) ∙ is)
+logged_words before after leaves Told judged never (inr r) is = never r.list leaves r.told is
+
+consulted_words : {D : Type 0} (view : D → Moment) (archive : Moment) (disk disk_then : D) (Told : List Record → List Leaf → Type 0) (judged : OldStatus)
+    → ((list : List Record) (all : List Leaf) → Told list all → refuses_words judged ≡ true → ⊥) → IsConsulted view archive disk disk_then Told judged → refuses_words judged ≡ true → ⊥
+consulted_words view archive disk disk_then Told judged never (inl (same, u)) is = archive_words u.fault (sym (ap refuses_words (u.is nothing)) ∙ is)
+consulted_words view archive disk disk_then Told judged never (inr r) is = logged_words (view disk) (view disk_then) r.leaves Told judged never r.by is
+
+module _ {D A : Type 0} (view : D → Moment) (archive_view : A → Moment) (disk disk_then : D) (archive archived : A) (question : LogQuestion) (sink : SinkSeen) (answered : OldStatus)
+    (q : IsConsultAnswer view archive_view disk disk_then archive archived question sink answered) where
+  pub consult_work : answered ≢ old_status.Same status.WriteFault → IsDeviceWork (archive_view archive) (archive_view archived) (answered ≡ old_status.ArchiveFault)
+  consult_work taken = as_answered (archive_view archive) (archive_view archived) answered q.judged taken q.written.stands q.work
+
+  pub consult_words : answered ≡ old_status.Same status.BadWords → ⊥
+  consult_words is =
+      consulted_words view (archive_view archive) disk disk_then (IsToldBothAs question q.judged q.text) q.judged (λ list leaves told. told_both_words list leaves question q.judged q.text told) q.by
+      (refused_words answered q.judged is q.written.stands)
+
+-- nor those of a tar
+
+tar_status_words : (lacks : List Node) → refuses_words (tar_status lacks) ≡ true → ⊥
+tar_status_words [] is = cc is
+tar_status_words (node ∷ rest) is = cc is
+
+told_tar_words : (node : Node) (tar : List ℕ) (lacks : List Node) (judged : OldStatus) (list : List Record) (leaves : List Leaf) → IsTarTold node tar lacks judged list leaves → refuses_words judged ≡ true → ⊥
+told_tar_words node tar lacks judged list leaves (inl m) is = tar_status_words lacks (sym (ap refuses_words m.is) ∙ is)
+told_tar_words node tar lacks judged list leaves (inr n) is = let z : false ≡ true = sym (ap refuses_words n.is) ∙ is in cc
+
+module _ {D A : Type 0} (view : D → Moment) (archive_view : A → Moment) (disk disk_then : D) (archive archived : A) (node : Node) (sink : SinkSeen) (answered : OldStatus) (handed : List Node)
+    (q : IsTarAnswer (IsTarJudged view archive_view disk disk_then archive archived node) sink answered handed) where
+  pub tar_work : answered ≢ old_status.Same status.WriteFault → IsDeviceWork (archive_view archive) (archive_view archived) (answered ≡ old_status.ArchiveFault)
+  tar_work taken = as_answered (archive_view archive) (archive_view archived) answered q.judged taken q.written.stands q.by.work
+
+  pub tar_refused : answered ≡ old_status.Same status.BadWords → ⊥
+  tar_refused is =
+      consulted_words view (archive_view archive) disk disk_then (IsTarTold node q.tar q.lacks q.judged) q.judged (told_tar_words node q.tar q.lacks q.judged) q.by.by
+      (refused_words answered q.judged is q.written.stands)

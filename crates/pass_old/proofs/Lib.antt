@@ -6,3 +6,6 @@ mod Telling
 mod Parting
 mod Listed
 mod Worded
+mod Consulted
+mod Pruned
+mod Laden

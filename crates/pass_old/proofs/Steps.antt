@@ -1,7 +1,7 @@
 -- The steps of a run over an archive.
-use Rattle.std.proofs.Common.{refl, arith, ◌≡◌, ◌⊎◌, ◌∙◌, ◌+◌, ◌<◌, ◌≤◌, ◌^◌, ℕ, List, inl, inr, sym, ap, subst}
+use Rattle.std.proofs.Common.{refl, arith, ◌≡◌, ◌⊎◌, ◌∙◌, ℕ, List, inl, inr, sym, ap, subst}
 use Rattle.std.specs.Prelude.{◌≢◌}
-use Rattle.pass_outside.specs.Moments.{Moment, Adds, IsDeviceWork}
+use Rattle.pass_outside.specs.Moments.{Moment, IsDeviceWork}
 use Rattle.pass_recover.specs.declared.fault.OpenFault.{OpenFault}
 use Rattle.pass_recover.specs.declared.fault.OpenFault.TheVariants as store
 use Rattle.pass_recover.specs.Faults.{IsCauseOf}
@@ -70,6 +70,10 @@ later_none m = record { tells = refl; faults = omega arith; calls = omega arith 
 
 pub later_at : {D : Type 0} (view : D → Moment) (old new : D) → new ≡ old → IsLater (view old) (view new)
 later_at view old new same = subst (λ d. IsLater (view old) (view d)) (sym same) (later_none (view old))
+
+-- a disk that is as it was is left alone
+pub left_at : {D : Type 0} (view : D → Moment) (old new : D) → new ≡ old → IsLeftAlone (view old) (view new)
+left_at view old new same = subst (λ d. IsLeftAlone (view old) (view d)) (sym same) (record { crash = λ c may. may; adds = record { later = omega arith; nothing_else = λ t c low left. inl left } })
 
 pub later_work : (old new : Moment) (failed : Type 0) → IsDeviceWork old new failed → IsLater old new
 later_work old new failed w = record { tells = w.tells; faults = w.rises; calls = w.later }

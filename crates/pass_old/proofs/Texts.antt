@@ -1,5 +1,5 @@
 -- What is written of what was judged.
-use Rattle.std.proofs.Common.{◌≡◌, ◌∙◌, ◌⊎◌, ◌↔◌, ◌<◌, ◌++◌, ◌∷◌, List, length, drop, arith, ℕ, inl, inr, ⊎_elim, sym, ap}
+use Rattle.std.proofs.Common.{◌≡◌, ◌∙◌, ◌⊎◌, List, ℕ, inl, inr, sym, ap}
 use Rattle.std.specs.Prelude.{◌≢◌, Option, Some, None}
 use Rattle.std.specs.Option.{option_map_or}
 use Rattle.pass_entry.proofs.Lists.{some_is}
@@ -45,14 +45,3 @@ pub unlike_only : (answered judged : OldStatus) → answered ≡ old_status.Unli
 unlike_only answered judged is (inl e) = sym e ∙ is
 unlike_only answered judged is (inr (inl e)) = let z : old_status.Same status.WriteFault ≡ old_status.Unlike = sym e ∙ is in absurd (cc)
 unlike_only answered judged is (inr (inr e)) = let z : old_status.Same status.NoMemory ≡ old_status.Unlike = sym e ∙ is in absurd (cc)
-
-some_front : (x : ℕ) (xs : List ℕ) → 0 < length (x ∷ xs)
-some_front x xs = omega arith
-
--- a status's own text has bytes
-pub own_some : (j : OldStatus) → same_of j ≡ None → 0 < length (old_text j)
-own_some (old_status.Same s) none = absurd (cc)
-own_some (old_status.NoVersion node) none = some_front 102 (drop 1 (old_text (old_status.NoVersion node)))
-own_some (old_status.BadArchive at) none = some_front 102 (drop 1 (old_text (old_status.BadArchive at)))
-own_some old_status.ArchiveFault none = some_front 102 (drop 1 (old_text old_status.ArchiveFault))
-own_some old_status.Unlike none = some_front 102 (drop 1 (old_text old_status.Unlike))

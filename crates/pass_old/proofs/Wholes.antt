@@ -1,6 +1,6 @@
 -- What a run's answer says of what was kept.
-use Rattle.std.proofs.Common.{◌≡◌, ◌⊎◌, ◌∙◌, ◌+◌, ◌<◌, ◌≤◌, ◌^◌, ℕ, Bool, true, false, List, inl, inr, ⊎_elim, refl, sym, ap, subst, arith}
-use Rattle.std.specs.Prelude.{◌≢◌, IsTrue, Ok}
+use Rattle.std.proofs.Common.{◌≡◌, ◌⊎◌, ◌∙◌, ℕ, Bool, true, false, List, inl, inr, ⊎_elim, sym, ap, subst, arith}
+use Rattle.std.specs.Prelude.{◌≢◌, IsTrue}
 use Rattle.pass_entry.specs.declared.entry.Entry.{Entry}
 use Rattle.pass_entry.specs.declared.objects.Node.{Node}
 use Rattle.pass_entry.specs.declared.record.Record.{Record}
@@ -31,7 +31,7 @@ use Rattle.pass_old.specs.declared.status.OldStatus.{OldStatus}
 use Rattle.pass_old.specs.declared.status.OldStatus.TheVariants as old_status
 use Rattle.pass_old.specs.Answers.{IsRunAnswer}
 use Rattle.pass_old.specs.Retracings.{IsLike}
-use Rattle.pass_old.specs.Runs.{IsOpened, IsRecovered, IsNotKept, IsUnlike, IsLikeRun, IsKept, IsSomeKept, IsKeptAs, IsHandedOut, HasNoHistory, IsLost, HasRunOver, IsOldRun, IsStoredStart, HasAll}
+use Rattle.pass_old.specs.Runs.{IsOpened, IsRecovered, IsNotKept, IsKept, IsSomeKept, IsKeptAs, IsHandedOut, HasNothing, IsLost, HasRunOver, IsOldRun, IsStoredStart, HasAll}
 use Rattle.pass_old.specs.Statuses.{status_of_archive}
 
 abbrev pub is_ended : OldStatus → Bool
@@ -101,7 +101,7 @@ module _ {A : Type 0} (view : A → Moment) (archive archived : A) (first last :
 
 module _ {D A : Type 0} (view : D → Moment) (archive_view : A → Moment) (bytes : List ℕ) (before after : ℕ) (old new : D) (archive archived : A) (start : Start) (history : List Entry) (judged : OldStatus) (report : List ℕ) (is : is_ended judged ≡ true) where
   past_opening : (first : Archive A) → IsOpened archive_view archive first
-      → (HasNoHistory history × IsLost view archive_view old new first archived judged) ⊎ HasRunOver view archive_view bytes before after old new first archived start history judged report
+      → (HasNothing start history × IsLost view archive_view old new first archived judged) ⊎ HasRunOver view archive_view bytes before after old new first archived start history judged report
       → (s : Start) × IsStoredStart (view old) s × HasAll archive_view archive archived s history
   past_opening first opened (inl (none, lost)) = absurd (opening_unended (view old).faults (view new).faults lost.fault (sym (ap is_ended lost.is) ∙ is))
   past_opening first opened (inr r) =
@@ -173,7 +173,7 @@ module _ (law : SameToldLaw) {D A : Type 0} (view : D → Moment) (archive_view 
   by_kept first r (inr (inr l)) = not_like r.ended l.kept
 
   behind_opening : (first : Archive A)
-      → (HasNoHistory history × IsLost view archive_view old new first archived judged) ⊎ HasRunOver view archive_view bytes before after old new first archived start history judged report → ⊥
+      → (HasNothing start history × IsLost view archive_view old new first archived judged) ⊎ HasRunOver view archive_view bytes before after old new first archived start history judged report → ⊥
   behind_opening first (inl (none, lost)) = same_like (status_of_opening (view old).faults (view new).faults lost.fault) (sym (ap is_unlike lost.is) ∙ is)
   behind_opening first (inr r) = by_kept first r r.kept
 

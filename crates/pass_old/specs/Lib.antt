@@ -3,6 +3,9 @@ pub mod Words
 pub mod Diffs
 pub mod Listings
 pub mod Questions
+pub mod Consults
 pub mod Retracings
 pub mod Runs
 pub mod Answers
+pub mod Prunes
+pub mod Tars

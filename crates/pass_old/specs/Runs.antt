@@ -21,6 +21,7 @@ use Rattle.pass_trace.specs.Traces.{trace_of}
 use Rattle.pass_status.specs.declared.status.Status.{Status}
 use Rattle.pass_status.specs.declared.status.Status.TheVariants as status
 use Rattle.pass_status.specs.Statuses.{status_of_opening}
+use Rattle.pass_run.specs.Ends.{IsEmptyStart}
 use Rattle.pass_run.specs.Stored.{IsEnd}
 use Rattle.pass_cli.specs.Answers.{Outcome, IsTraced, IsRefusal, HasRun, IsUnrecorded, IsRecorded}
 use Rattle.pass_leaf.specs.declared.fault.OldFault.{OldFault}
@@ -160,21 +161,21 @@ pub record HasRunOver {D A : Type 0} (view : D → Moment) (archive_view : A →
   pub kept : IsKeptAs archive_view first last list out.list recovered_start (objects_of (trace_of bytes)) history ended judged
   pub archive : IsHandedOut archive_view last archived
 
--- nothing was run: no history is handed out
-abbrev pub HasNoHistory : List Entry → Type 0
-HasNoHistory history = history ≡ []
+-- nothing was run: no history is handed out, and an empty start
+abbrev pub HasNothing : Start → List Entry → Type 0
+HasNothing start history = (history ≡ []) × IsEmptyStart start
 
 -- the archive has been opened, and then the store refused, or the trace run
 pub record IsPastOpening {D A : Type 0} (view : D → Moment) (archive_view : A → Moment) (bytes : List ℕ) (before after : ℕ) (old new : D) (archive archived : A) (start : Start) (history : List Entry) (judged : OldStatus) (report : List ℕ) : Type 0 where
   pub traced : IsTraced bytes before after
   pub first : Archive A
   pub opened : IsOpened archive_view archive first
-  pub run : (HasNoHistory history × IsLost view archive_view old new first archived judged) ⊎ HasRunOver view archive_view bytes before after old new first archived start history judged report
+  pub run : (HasNothing start history × IsLost view archive_view old new first archived judged) ⊎ HasRunOver view archive_view bytes before after old new first archived start history judged report
 
 abbrev pub IsOldRun : {D A : Type 0} → (D → Moment) → (A → Moment) → List ℕ → ℕ → ℕ → D → D → A → A → Start → List Entry → OldStatus → List ℕ → Type 0
 IsOldRun view archive_view bytes before after old new archive archived start history judged report =
-    (HasNoHistory history × IsRefused bytes before after old new archive archived judged)
-    ⊎ ((HasNoHistory history × IsShut archive_view bytes before after old new archive archived judged)
+    (HasNothing start history × IsRefused bytes before after old new archive archived judged)
+    ⊎ ((HasNothing start history × IsShut archive_view bytes before after old new archive archived judged)
     ⊎ IsPastOpening view archive_view bytes before after old new archive archived start history judged report)
 
 -- The start is what the store had: the records of its log area tell it, and its files have the bytes of the store area.

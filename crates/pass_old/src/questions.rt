@@ -34,8 +34,8 @@ pub(crate) fn refused(alloc: Global, status: OldStatus) -> OldJudged
     }
 }
 
-// What is done, with its text.
-fn done(text: Vec<u8>) -> OldJudged
+/// What is done, with its text.
+pub(crate) fn done(text: Vec<u8>) -> OldJudged
     ensures status { result.status ≡ OldStatus.Same Status.Done }
     ensures text { result.text.items ≡ text.items }
 {
@@ -111,6 +111,7 @@ pub(crate) fn judge_question<A: Disk>(
     ensures judged { IsJudgedBy (A.view archive.old) question result.text.items result.status }
     ensures work { IsDeviceWork (A.view archive.old) (A.view archive.new) (result.status ≡ OldStatus.ArchiveFault) }
     ensures alone { IsLeftAlone (A.view archive.old) (A.view archive.new) }
+    ensures reads { result.status ≢ OldStatus.ArchiveFault → (A.view archive.new).seen ≡ (A.view archive.old).seen }
     ensures no_write { result.status ≢ OldStatus.Same Status.WriteFault }
     ensures like { result.status ≢ OldStatus.Unlike }
 {

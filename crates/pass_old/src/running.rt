@@ -10,7 +10,7 @@ ghost use Rattle.pass_run.specs.Ends.{IsEmptyStart, IsTrace};
 ghost use Rattle.pass_run.specs.Stored.{IsEnd};
 ghost use Rattle.pass_cli.specs.Answers.{OfBytes, IsTraced, IsReadInTime};
 ghost use Rattle.pass_leaf.specs.Archives.{Archive};
-ghost use Rattle.pass_old.specs.Runs.{IsKept, IsSomeKept, IsKeptAs, IsHandedOut, HasNoHistory, IsLost, HasRunOver, IsOldRun};
+ghost use Rattle.pass_old.specs.Runs.{IsKept, IsSomeKept, IsKeptAs, IsHandedOut, HasNothing, IsLost, HasRunOver, IsOldRun};
 
 use crate::questions::unread;
 use crate::reading::read_trace;
@@ -110,7 +110,7 @@ fn run_kept<R: Threads + Wait + Sync, D: Disk + Send, A: Disk, G: Gate + Sync>(
     requires healthy { (A.view old.disk).faults ≤ old.opened }
     requires begun { old.gathered ≡ [] }
     ensures run { (bytes : List ℕ) (before after : ℕ) → IsTraced bytes before after → trace.now.lines.items ≡ trace_of bytes
-        → (HasNoHistory result.history.items × IsLost D.view A.view disk result.disk old result.archive result.status)
+        → (HasNothing result.start result.history.items × IsLost D.view A.view disk result.disk old result.archive result.status)
         ⊎ HasRunOver D.view A.view bytes before after disk result.disk old result.archive result.start result.history.items result.status result.report.items }
     ensures later { IsLater (D.view disk) (D.view result.disk) }
     ensures archive_later { IsLater (A.view old.disk) (A.view result.archive) }

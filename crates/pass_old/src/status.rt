@@ -20,6 +20,14 @@ pub enum OldStatus {
     ArchiveFault,
     /// What was run isn't what the store tells: nothing was kept.
     Unlike,
+    /// A tar was written of what is kept: some versions aren't, of which this is the first.
+    Lacks(Node),
+    /// The fresh archive has a version already.
+    NotFresh,
+    /// The fresh archive has a bad frame at this place, in bytes; or it is full, and ends there.
+    BadFresh { at: u64 },
+    /// A call of the fresh archive's disk failed.
+    FreshFault,
 }
 
 impl OldStatus {
@@ -32,10 +40,13 @@ impl OldStatus {
     {
         match self {
             OldStatus::Same(status) => status.number(),
-            OldStatus::NoVersion(_) => 15,
+            OldStatus::NoVersion(_) | OldStatus::Lacks(_) => 15,
             OldStatus::BadArchive { .. } => 16,
             OldStatus::ArchiveFault => 20,
             OldStatus::Unlike => 22,
+            OldStatus::NotFresh => 23,
+            OldStatus::BadFresh { .. } => 24,
+            OldStatus::FreshFault => 25,
         }
     }
 
@@ -49,6 +60,10 @@ impl OldStatus {
             OldStatus::BadArchive { at } => format!(in alloc; "fault archive {at}\n"),
             OldStatus::ArchiveFault => String::from_str(alloc, "fault archive\n"),
             OldStatus::Unlike => String::from_str(alloc, "fault unlike\n"),
+            OldStatus::Lacks(_) => Ok(String::new(alloc)),
+            OldStatus::NotFresh => String::from_str(alloc, "fault used\n"),
+            OldStatus::BadFresh { at } => format!(in alloc; "fault fresh {at}\n"),
+            OldStatus::FreshFault => String::from_str(alloc, "fault fresh\n"),
         }
     }
 }

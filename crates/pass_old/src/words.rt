@@ -1,10 +1,13 @@
 //! The commands of the program, and how its words name them.
-ghost use Rattle.std.specs.Prelude.{ℕ, ◌≡◌, ◌≤◌, ◌∷◌, [], Option, Some, None, IfSome, map, option_map, string_bytes, codes};
+ghost use Rattle.std.specs.Prelude.{ℕ, ◌≡◌, ◌≤◌, ◌∷◌, [], true, IfOk, IsErr, Some, map, string_bytes};
+ghost use Rattle.pass_entry.specs.Texts.{is_name};
 ghost use Rattle.pass_trace.specs.Words.{is_text as is_text_of};
-ghost use Rattle.pass_old.specs.Words.{command_of, diff_of, writes as writes_of};
+ghost use Rattle.pass_ask.specs.Numbers.{last_number, number_in as number_of};
+ghost use Rattle.pass_old.specs.Words.{IsNamed, called as called_of, command_of, diff_of, file_of, is_run as is_run_of, named_of, writes as writes_of};
 
-use crate::numbers::{LAST_NUMBER, node_in, number_in};
-use pass_entry::{Node, Pnode};
+use pass_ask::{LAST_NUMBER, node_in, number_in};
+use pass_entry::{Node, Pnode, Text, TextFault};
+use std::alloc::{AllocError, Global};
 
 /// How many workers take the turns where the words don't say it.
 const WORKERS: u32 = 4;
@@ -13,12 +16,16 @@ const WORKERS: u32 = 4;
 const MOST_WORKERS: u64 = 64;
 
 /// What the program's words ask for.
-#[derive(Clone, Copy)]
+#[derive(Drop)]
 pub enum OldCommand {
     /// To run the trace of the source, and to keep the versions of its files.
     Run { workers: u32 },
     /// To answer a question to the archive.
     Ask(OldQuestion),
+    /// To answer a question to the archive and the store's log.
+    Consult(LogQuestion),
+    /// To write the tar of what a node came from.
+    Tar(Node),
 }
 
 /// What may be asked of an archive.
@@ -30,6 +37,15 @@ pub enum OldQuestion {
     Versions(Pnode),
     /// Where two versions of a file differ.
     Diff { from: Node, to: Node },
+}
+
+/// What may be asked of an archive and of a store's log.
+#[derive(Drop)]
+pub enum LogQuestion {
+    /// The versions of the files that ever had the name.
+    Named(Text),
+    /// Whether the log bears out what the archive has.
+    Check,
 }
 
 fn is_text(word: &[u8], text: &[u8]) -> bool
@@ -44,23 +60,60 @@ fn alone(name: &[u8]) -> Option<OldCommand>
 {
     if is_text(name, b"run") {
         Some(OldCommand::Run { workers: WORKERS })
+    } else if is_text(name, b"check") {
+        Some(OldCommand::Consult(LogQuestion::Check))
     } else {
         None
     }
 }
 
+// The word without the `@` that may end a name.
+fn called(word: &[u8]) -> &[u8]
+    ensures { result.now ≡ called_of word.now }
+{
+    if !word.is_empty() && word[word.len() - 1] == b'@' {
+        &word[..word.len() - 1]
+    } else {
+        word
+    }
+}
+
+// The versions of the files that ever had the name.
+fn named(alloc: Global, name: &[u8]) -> Result<Option<OldCommand>, AllocError>
+    ensures named { IfOk result (λ command. command ≡ named_of name.now) }
+    ensures refused { IsErr result → is_name name.now ≡ true }
+{
+    match Text::name(alloc, name) {
+        Ok(name) => Ok(Some(OldCommand::Consult(LogQuestion::Named(name)))),
+        Err(TextFault::NoMemory) => Err(AllocError),
+        Err(TextFault::BadLength | TextFault::BadByte) => Ok(None),
+    }
+}
+
+// The versions of the file that the word gives, by its number or a name.
+fn versions(alloc: Global, word: &[u8]) -> Result<Option<OldCommand>, AllocError>
+    ensures file { IfOk result (λ command. command ≡ file_of (number_of 1 last_number word.now) word.now) }
+    ensures refused { IsErr result → IsNamed (file_of (number_of 1 last_number word.now) word.now) }
+{
+    match number_in(word, 1, LAST_NUMBER) {
+        Some(pnode) => Ok(Some(OldCommand::Ask(OldQuestion::Versions(Pnode(pnode))))),
+        None => named(alloc, called(word)),
+    }
+}
+
 // The command with one further word.
-fn with_word(name: &[u8], word: &[u8]) -> Option<OldCommand>
-    ensures { result ≡ command_of (name.now ∷ word.now ∷ []) }
+fn with_word(alloc: Global, name: &[u8], word: &[u8]) -> Result<Option<OldCommand>, AllocError>
+    ensures command { IfOk result (λ command. command ≡ command_of (name.now ∷ word.now ∷ [])) }
+    ensures refused { IsErr result → IsNamed (command_of (name.now ∷ word.now ∷ [])) }
 {
     if is_text(name, b"cat") {
-        node_in(word).map(|node| OldCommand::Ask(OldQuestion::Cat(node)))
+        Ok(node_in(word).map(|node| OldCommand::Ask(OldQuestion::Cat(node))))
     } else if is_text(name, b"versions") {
-        number_in(word, 1, LAST_NUMBER).map(|pnode| OldCommand::Ask(OldQuestion::Versions(Pnode(
-            pnode,
-        ))))
+        versions(alloc, word)
+    } else if is_text(name, b"tar") {
+        Ok(node_in(word).map(OldCommand::Tar))
     } else {
-        None
+        Ok(None)
     }
 }
 
@@ -93,32 +146,47 @@ fn with_words(name: &[u8], first: &[u8], second: &[u8]) -> Option<OldCommand>
 }
 
 // The command of the words, if they are those of one.
-fn command_in(words: &[String]) -> Option<OldCommand>
-    ensures { result ≡ command_of (map string_bytes words.now) }
+fn command_in(alloc: Global, words: &[String]) -> Result<Option<OldCommand>, AllocError>
+    ensures command { IfOk result (λ command. command ≡ command_of (map string_bytes words.now)) }
+    ensures refused { IsErr result → IsNamed (command_of (map string_bytes words.now)) }
 {
     match words {
-        [] => None,
-        [name] => alone(name.as_bytes()),
-        [name, word] => with_word(name.as_bytes(), word.as_bytes()),
-        [name, first, second] => with_words(name.as_bytes(), first.as_bytes(), second.as_bytes()),
-        [_, _, _, _, ..] => None,
+        [] => Ok(None),
+        [name] => Ok(alone(name.as_bytes())),
+        [name, word] => with_word(alloc, name.as_bytes(), word.as_bytes()),
+        [name, first, second] => {
+            Ok(with_words(name.as_bytes(), first.as_bytes(), second.as_bytes()))
+        }
+        [_, _, _, _, ..] => Ok(None),
     }
 }
 
-/// The command of the words behind the two folders, if they are those of one.
-pub fn read_words(words: &[String]) -> Option<OldCommand>
-    ensures command { result ≡ command_of (map string_bytes words.now) }
-    ensures workers { (n : ℕ) → result ≡ Some (OldCommand.Run n) → (1 ≤ n) × (n ≤ 64) }
+/// The command of the words behind the two folders, if they are those of one. Only a name needs memory.
+pub fn read_words(alloc: Global, words: &[String]) -> Result<Option<OldCommand>, AllocError>
+    ensures command { IfOk result (λ command. command ≡ command_of (map string_bytes words.now)) }
+    ensures workers { (n : ℕ) → IfOk result (λ command. command ≡ Some (OldCommand.Run n) → (1 ≤ n) × (n ≤ 64)) }
+    ensures refused { IsErr result → IsNamed (command_of (map string_bytes words.now)) }
 {
-    command_in(words)
+    command_in(alloc, words)
+}
+
+fn is_run(command: Option<OldCommand>) -> bool
+    ensures { result ≡ is_run_of command }
+{
+    matches!(command, Some(OldCommand::Run { .. }))
 }
 
 /// The words are those of a command that writes: only a run does.
 pub fn writes(words: &[String]) -> bool
     ensures { result ≡ writes_of (map string_bytes words.now) }
 {
-    match read_words(words) {
-        Some(OldCommand::Run { .. }) => true,
-        Some(OldCommand::Ask(_)) | None => false,
+    match words {
+        [] => false,
+        [name] => is_text(name.as_bytes(), b"run"),
+        [_, _] => false,
+        [name, first, second] => {
+            is_run(with_words(name.as_bytes(), first.as_bytes(), second.as_bytes()))
+        }
+        [_, _, _, _, ..] => false,
     }
 }

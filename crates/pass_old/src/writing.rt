@@ -7,8 +7,8 @@ ghost use Rattle.pass_old.specs.Statuses.{old_text};
 
 use crate::status::OldStatus;
 use pass_ask::write_answer;
-use pass_outside::{Failed, Sink};
-use pass_status::{Status, write_text};
+use pass_outside::Sink;
+use pass_status::Status;
 use std::alloc::{AllocError, Global};
 
 // The status of a run or a question, where it is one of these.
@@ -21,7 +21,7 @@ fn same(judged: &OldStatus) -> Option<Status>
     }
 }
 
-// Writes a status's own text.
+// Writes a status's own text, as an answer: so a sink that fails is seen where there is none, too.
 fn write_own<K: Sink>(alloc: Global, sink: &mut K, judged: OldStatus) -> OldStatus
     requires { same_of judged ≡ None }
     ensures stands { (result ≡ judged) ⊎ ((result ≡ OldStatus.Same Status.WriteFault) ⊎ (result ≡ OldStatus.Same Status.NoMemory)) }
@@ -34,9 +34,9 @@ fn write_own<K: Sink>(alloc: Global, sink: &mut K, judged: OldStatus) -> OldStat
         Ok(own) => own,
         Err(AllocError) => return OldStatus::Same(Status::NoMemory),
     };
-    match write_text(sink, own.as_str().as_bytes()) {
-        Ok(()) => judged,
-        Err(Failed) => OldStatus::Same(Status::WriteFault),
+    match write_answer(alloc, sink, Status::Done, own.as_str().as_bytes()) {
+        Status::WriteFault => OldStatus::Same(Status::WriteFault),
+        _ => judged,
     }
 }
 

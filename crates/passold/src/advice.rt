@@ -16,15 +16,36 @@ pub fn tell_note(rt: &HostRuntime, folder: &str, note: Option<Note>) {
     };
 }
 
-/// Says what to do about a status.
+/// Says what to do about a status, by the folder of the archive that it is about.
 pub fn tell_advice(rt: &HostRuntime, folder: &str, status: OldStatus) {
-    if status == OldStatus::Same(Status::BadWords) {
-        let _told = eprintln!(rt; "passold: passold --help lists the commands");
-        return;
-    }
-    if let Some(advice) = advice_on(status) {
-        let _told = eprintln!(rt; "passold: {folder}: {advice}");
-    }
+    let _told = match status {
+        OldStatus::Same(Status::BadWords) => {
+            eprintln!(rt; "passold: passold --help lists the commands")
+        }
+        OldStatus::Same(Status::NoObject(node)) if node.pnode.0 == 0 => {
+            eprintln!(rt;
+                "passold: no file of the store ever had that name: a name is a path below the folder of the run, or absolute"
+            )
+        }
+        OldStatus::Same(Status::NoObject(_)) => {
+            eprintln!(rt;
+                "passold: the store has no such version: `passd DIR named NAME` lists those of a file"
+            )
+        }
+        _ => match advice_on(status) {
+            Some(advice) => eprintln!(rt; "passold: {folder}: {advice}"),
+            None => Ok(()),
+        },
+    };
+}
+
+/// Says what to do about a pruning's status.
+pub fn tell_fresh_advice(rt: &HostRuntime, archive: &str, fresh: &str, status: OldStatus) {
+    let folder = match status {
+        OldStatus::NotFresh | OldStatus::BadFresh { .. } | OldStatus::FreshFault => fresh,
+        _ => archive,
+    };
+    tell_advice(rt, folder, status);
 }
 
 fn advice_on(status: OldStatus) -> Option<&'static str> {
@@ -38,6 +59,14 @@ fn advice_on(status: OldStatus) -> Option<&'static str> {
         ),
         OldStatus::ArchiveFault => Some(
             "its files can't be read or written: see whether there is room; what was kept before stands",
+        ),
+        OldStatus::Lacks(_) => Some("the tar has the other versions"),
+        OldStatus::NotFresh => Some("it has versions already: name a folder that is new"),
+        OldStatus::BadFresh { .. } => Some(
+            "its `log` is damaged, full or no archive's: name a folder that is new",
+        ),
+        OldStatus::FreshFault => Some(
+            "its files can't be read or written: see whether there is room, and name another folder: what it has is a beginning",
         ),
         OldStatus::Unlike => Some(
             "the store isn't what was recovered as the run began: nothing was kept",

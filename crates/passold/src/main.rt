@@ -2,8 +2,8 @@
 //! the others are the words of the command; a trace comes on standard input, and the answer goes to standard output. Standard error
 //! has what helps.
 //!
-//! All that is promised is a clause of `pass_old::old_main`, and that only a run opens the folders to write is one of `open`. The
-//! opening itself, exit 11, and what is said on standard error are tested.
+//! All that is promised is a clause of `pass_old::old_main` or `pass_old::prune_main`, and that only a run opens the two folders to
+//! write is one of `open`. The opening itself, exit 11, and what is said on standard error are tested.
 #![tactic(auto)]
 
 mod advice;
@@ -13,11 +13,11 @@ ghost use Rattle.std.specs.Prelude.{◌≡◌, IfOk, map, string_bytes};
 ghost use Rattle.pass_host.specs.Host.{may_write};
 ghost use Rattle.pass_old.specs.Words.{writes};
 
-use crate::advice::{tell_advice, tell_note};
+use crate::advice::{tell_advice, tell_fresh_advice, tell_note};
 use crate::help::HELP;
 use pass_help::{Request, VERSION, asked};
 use pass_host::{HostDisk, HostFault, HostSink, HostSource};
-use pass_old::{old_main, writes};
+use pass_old::{PruneEnded, old_main, prune_main, third_folder, writes};
 use pass_outside::OpenGate;
 use std::fs::File;
 use std::process::ExitCode;
@@ -45,16 +45,15 @@ fn main(rt: HostRuntime) -> ExitCode {
     let [store, archive, words @ ..] = arguments.as_slice() else {
         return ExitCode::from(without_folders(&rt));
     };
-    // The folders are opened before the words are judged, the store's first.
-    let disk = match open(&rt, store.as_str(), words) {
-        Ok(disk) => disk,
-        Err(fault) => return ExitCode::from(unopened(&rt, store.as_str(), fault)),
-    };
-    let kept = match open(&rt, archive.as_str(), words) {
-        Ok(kept) => kept,
-        Err(fault) => return ExitCode::from(unopened(&rt, archive.as_str(), fault)),
+    let (disk, kept) = match open_both(&rt, store.as_str(), archive.as_str(), words) {
+        Ok(disks) => disks,
+        Err(number) => return ExitCode::from(number),
     };
     tell_note(&rt, archive.as_str(), kept.note());
+    if let Some(fresh) = third_folder(words) {
+        let number = pruned(&rt, words, archive.as_str(), fresh.as_str(), disk, kept);
+        return ExitCode::from(number);
+    }
     let mut source = HostSource::new(rt.reader());
     let mut sink = HostSink::new(io::writer(&rt));
     let ended = old_main(
@@ -67,8 +66,48 @@ fn main(rt: HostRuntime) -> ExitCode {
         kept,
         &OpenGate,
     );
+    for node in &ended.lacking {
+        let _told = eprintln!(rt; "passold: {archive}: {node} isn't kept");
+    }
     tell_advice(&rt, archive.as_str(), ended.status);
     ExitCode::from(ended.status.number())
+}
+
+// Opens both folders before the words are judged, the store's first; or says why it can't, and with which exit status.
+fn open_both(
+    rt: &HostRuntime,
+    store: &str,
+    archive: &str,
+    words: &[String],
+) -> Result<(HostDisk<File>, HostDisk<File>), u8> {
+    let disk = match open(rt, store, words) {
+        Ok(disk) => disk,
+        Err(fault) => return Err(unopened(rt, store, fault)),
+    };
+    match open(rt, archive, words) {
+        Ok(kept) => Ok((disk, kept)),
+        Err(fault) => Err(unopened(rt, archive, fault)),
+    }
+}
+
+// Puts the chosen versions into the archive of a third folder, which is opened last, alone and to be written.
+fn pruned(
+    rt: &HostRuntime,
+    words: &[String],
+    archive: &str,
+    fresh: &str,
+    disk: HostDisk<File>,
+    kept: HostDisk<File>,
+) -> u8 {
+    let opened = match HostDisk::open(rt, rt.alloc(), fresh) {
+        Ok(opened) => opened,
+        Err(fault) => return unopened(rt, fresh, fault),
+    };
+    tell_note(rt, fresh, opened.note());
+    let mut sink = HostSink::new(io::writer(rt));
+    let PruneEnded { status, .. } = prune_main(rt.alloc(), words, &mut sink, disk, kept, opened);
+    tell_fresh_advice(rt, archive, fresh, status);
+    status.number()
 }
 
 // Opens a folder alone and to be written for words that run a trace, and for all others to be read, beside others.

@@ -1,4 +1,4 @@
-use Rattle.std.proofs.Common.{◌≡◌, ◌≤◌, ◌<◌, ◌++◌, ◌∷◌, [], List, length, refl, sym, subst, arith}
+use Rattle.std.proofs.Common.{List, refl, sym, subst, arith}
 use Rattle.pass_old.specs.declared.diffing.ByteRange.{ByteRange}
 use Rattle.pass_old.proofs.Parting.{IsSoFar, none_found, one_more, all_found}
 use Rattle.pass_old.proofs.diffing.differences.Goals as goal

@@ -1,4 +1,4 @@
-use Rattle.std.proofs.Common.{◌≡◌, ◌++◌, take}
+use Rattle.std.proofs.Common.{◌≡◌, take}
 use Rattle.std.specs.Prelude.{string_bytes}
 use Rattle.pass_old.specs.Diffs.{range_lines}
 use Rattle.pass_old.proofs.diffing.range_text.Given as goal

@@ -1,4 +1,4 @@
-use Rattle.std.proofs.Common.{◌≡◌, ◌∙◌, refl, arith}
+use Rattle.std.proofs.Common.{arith}
 use Rattle.std.specs.Prelude.{string_bytes}
 use Rattle.pass_old.proofs.Listed.{next_lines, next_content, all_lines}
 use Rattle.pass_old.proofs.listing.version_text.Goals as goal

@@ -1,4 +1,5 @@
 use Rattle.std.proofs.Common.{◌≡◌, ◌∙◌, ◌++◌, ℕ, List, sym, ap, subst}
+use Rattle.pass_recover.specs.Later.{IsLeftAlone}
 use Rattle.pass_status.specs.declared.status.Status.TheVariants as status
 use Rattle.pass_status.specs.Writing.{IsPartOfText}
 use Rattle.pass_ask.specs.Answers.{SinkSeen}
@@ -23,7 +24,7 @@ returns-clause-asked g c = λ known_end.
       text = j.result.text.items;
       by = j.ensures.judged;
       work = j.ensures.work;
-      alone = j.ensures.alone;
+      reads = j.ensures.reads;
       written = record {
         stands = stands_as c.write_old-status.result j.result.status known w.stands;
         whole = λ whole tells. w.whole whole known tells ∙ ap (λ (t : List ℕ). taken c.args.sink.now ++ old_text_with j.result.status t) c.deref.ensures.value;
@@ -41,3 +42,6 @@ returns-clause-archive_later g c =
     let view = g.A.Disk.view in
     let j = c.judge_question-judged in
     later_as view c.args.archive j.new.archive c.unrun.result.archive c.unrun.ensures.archive (later_work (view c.args.archive) (view j.new.archive) _ j.ensures.work)
+
+pub returns-clause-alone : goal.returns-clause-alone
+returns-clause-alone g c = subst (λ a. IsLeftAlone (g.A.Disk.view c.args.archive) (g.A.Disk.view a)) (sym c.unrun.ensures.archive) c.judge_question-judged.ensures.alone

@@ -1,4 +1,4 @@
-use Rattle.std.proofs.Common.{◌≡◌, ◌∙◌, ◌++◌, ℕ, List, ap, subst}
+use Rattle.std.proofs.Common.{◌∙◌, ◌++◌, ℕ, List, ap, subst}
 use Rattle.pass_status.specs.Writing.{IsPartOfText}
 use Rattle.pass_old.specs.Answers.{old_text_with}
 use Rattle.pass_old.proofs.Texts.{stands_as}

@@ -1,4 +1,4 @@
-use Rattle.std.proofs.Common.{◌≡◌, ◌∙◌, refl, ap}
+use Rattle.std.proofs.Common.{◌∙◌, refl, ap}
 use Rattle.std.specs.Prelude.{Err}
 use Rattle.pass_old.specs.declared.words.OldQuestion.TheVariants.{Cat}
 use Rattle.pass_old.proofs.Telling.{told_done, told_refused}

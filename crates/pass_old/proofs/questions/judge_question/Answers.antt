@@ -1,5 +1,7 @@
-use Rattle.std.proofs.Common.{◌≡◌, ◌∙◌, inl, inr, sym, ap}
+use Rattle.std.proofs.Common.{◌∙◌, inl, inr, sym, ap}
 use Rattle.pass_entry.specs.declared.objects.Node.{Node}
+use Rattle.pass_leaf.specs.declared.fault.OldFault.{OldFault}
+use Rattle.pass_old.specs.Statuses.{status_of_archive}
 use Rattle.pass_old.proofs.Telling.{told_not, work_told, work_untold, archive_never}
 use Rattle.pass_old.proofs.Steps.{unopened_node}
 use Rattle.pass_old.proofs.questions.judge_question.Goals as goal
@@ -37,3 +39,13 @@ returns-in-Err-clause-no_write g c = λ is. c.unread.ensures.no_write (sym c.ref
 
 pub returns-in-Err-clause-like : goal.returns-in-Err-clause-like
 returns-in-Err-clause-like g c = λ is. archive_never c.in-Err.fault nothing (sym (c.refused.ensures.status ∙ c.unread.ensures.status nothing) ∙ is)
+
+pub returns-in-Ok-clause-reads : goal.returns-in-Ok-clause-reads
+returns-in-Ok-clause-reads g c = λ _. c.in-Ok.ensures.content
+
+pub returns-in-Err-clause-reads : goal.returns-in-Err-clause-reads
+returns-in-Err-clause-reads g c = λ other.
+    elim c.in-Err.ensures.refused [
+      | inl is ↦ absurd (other (c.refused.ensures.status ∙ c.unread.ensures.status nothing ∙ ap (λ (f : OldFault). status_of_archive f nothing) is))
+      | inr same ↦ same
+    ]

@@ -1,4 +1,4 @@
-use Rattle.std.proofs.Common.{◌≡◌, ◌∙◌, ℕ, refl, ap}
+use Rattle.std.proofs.Common.{◌∙◌, ℕ, refl, ap}
 use Rattle.std.specs.Prelude.{Vec}
 use Rattle.std.specs.declared.alloc.Global.{Global}
 use Rattle.pass_old.specs.declared.words.OldQuestion.TheVariants.{Versions}

@@ -14,7 +14,7 @@ pub returns-in-Err-clause-run : goal.returns-in-Err-clause-run
 returns-in-Err-clause-run g c =
     let (bytes, told, refusal) = c.in-Err.ensures.read in
     let e = c.unrun.ensures in
-    (bytes, told, inl (e.history, record { refusal = c.in-Err.status; is = e.status; cause = refusal; disk = e.disk; archive_is = e.archive }))
+    (bytes, told, inl ((e.history, e.start), record { refusal = c.in-Err.status; is = e.status; cause = refusal; disk = e.disk; archive_is = e.archive }))
 
 pub returns-in-Err-clause-no_write : goal.returns-in-Err-clause-no_write
 returns-in-Err-clause-no_write g c = λ is.
@@ -72,7 +72,7 @@ returns-clause-run g c =
       bytes,
       told,
       inr (inl (
-        u.history,
+        (u.history, u.start),
         record {
           traced = traced;
           fault = c.in-Err-open.fault;

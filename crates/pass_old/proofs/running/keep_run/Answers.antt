@@ -1,8 +1,7 @@
-use Rattle.std.proofs.Common.{◌≡◌, ◌∙◌, ◌↔◌, ◌+◌, ◌<◌, ◌≤◌, ◌^◌, ℕ, Bool, IsTrue, List, length, inl, inr, refl, sym, ap, subst, arith}
+use Rattle.std.proofs.Common.{◌≡◌, ◌∙◌, ◌↔◌, ◌≤◌, ℕ, Bool, IsTrue, List, length, inl, inr, refl, sym, ap, subst, arith}
 use Rattle.pass_entry.specs.declared.entry.Entry.{Entry}
 use Rattle.pass_entry.specs.declared.record.Record.{Record}
 use Rattle.pass_plain.specs.declared.start.Start.{Start}
-use Rattle.pass_plain.specs.Legal.{session_of}
 use Rattle.pass_trace.specs.TraceLines.{objects_of}
 use Rattle.pass_trace.specs.declared.trace.TraceLine.{TraceLine}
 use Rattle.pass_run.proofs.Ruled.{few_lines}

@@ -1,4 +1,4 @@
-use Rattle.std.proofs.Common.{◌≡◌, ◌∙◌, inl, inr, refl, ap, subst}
+use Rattle.std.proofs.Common.{◌≡◌, inl, inr, refl}
 use Rattle.pass_leaf.specs.declared.fault.OldFault.TheVariants as faults
 use Rattle.pass_old.proofs.Steps.{stop_node, later_work}
 use Rattle.pass_old.proofs.running.kept_as.Goals as goal

@@ -1,5 +1,5 @@
-use Rattle.std.proofs.Common.{◌≡◌, ◌⊎◌, ◌∙◌, ◌+◌, ◌<◌, ◌≤◌, ◌^◌, ℕ, List, inl, inr, refl, sym, ap, subst, arith}
-use Rattle.std.specs.Prelude.{◌≢◌, Option, Some, None}
+use Rattle.std.proofs.Common.{◌≡◌, ◌⊎◌, ◌∙◌, ℕ, List, inl, inr, refl, sym, ap, subst}
+use Rattle.std.specs.Prelude.{Option, Some, None}
 use Rattle.pass_entry.specs.declared.entry.Entry.{Entry}
 use Rattle.pass_trace.specs.TraceLines.{objects_of}
 use Rattle.pass_trace.specs.Traces.{trace_of}
@@ -13,7 +13,6 @@ use Rattle.pass_recover.specs.Faults.{LogHas}
 use Rattle.pass_run.specs.Stored.{session_fault, IsStoreJudged, IsOfDisk}
 use Rattle.pass_cli.specs.Answers.{outcome_of_run, HasRun, IsUnrecorded, IsRecorded}
 use Rattle.pass_cli.proofs.Judging.{ran_run}
-use Rattle.pass_old.specs.declared.status.OldStatus.{OldStatus}
 use Rattle.pass_old.specs.declared.status.OldStatus.TheVariants as old_status
 use Rattle.pass_old.specs.Runs.{IsKeptAs}
 use Rattle.pass_old.proofs.Steps.{opening_writes, recorded_of, handed_out, lost_as, later_at, later_both, later_as}
@@ -100,7 +99,7 @@ returns-in-Err-clause-run g c = λ bytes before after traced same.
     let status_is = c.opening_status-status.ensures ∙ ap (λ (n : ℕ). status_of_opening n c.faults.result c.in-Err.fault) c.faults-faults.ensures
     ∙ ap (λ (n : ℕ). status_of_opening (view c.args.disk).faults n c.in-Err.fault) c.faults.ensures in
     inl (
-      u.history,
+      (u.history, u.start),
       lost_as view g.A.Disk.view c.args.disk c.recover.new.disk c.unrun.result.disk c.args.old c.unrun.result.archive c.in-Err.fault c.unrun.result.status u.disk
           (u.status ∙ ap (λ (s : Status). old_status.Same s) status_is) o.fault (record { crash = o.crash; adds = o.run }) o.since
           (handed_out g.A.Disk.view c.args.old c.unrun.result.archive (u.archive ∙ c.into_disk.ensures.disk) c.into_disk.ensures.leaves),

@@ -15,3 +15,4 @@ mod verdict;
 
 pub use main_call::{Ended, pass_main};
 pub use pass_ask::{Status, ask, writes};
+pub use reading::read_trace;

@@ -1,5 +1,5 @@
 //! Judges what is to be answered of a run, before any of it is written.
-ghost use Rattle.std.specs.Prelude.{◌≡◌, ◌≢◌, ◌⊎◌, ◌≤◌, IsTrue};
+ghost use Rattle.std.specs.Prelude.{◌≡◌, ◌≢◌, ◌⊎◌, IsTrue};
 ghost use Rattle.pass_outside.specs.Faults.{HasRisen};
 ghost use Rattle.pass_run.specs.Orders.{IsOrder};
 ghost use Rattle.pass_run.specs.Stored.{IsBackedBy, IsLater};

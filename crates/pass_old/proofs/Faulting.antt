@@ -109,24 +109,24 @@ module _ {D A : Type 0} (view : D → Moment) (archive_view : A → Moment) (byt
   run_work (inr (inr p)) = past_work p.first p.opened p.run
 
 -- a status that stands is the one that was judged
-abbrev Stands : OldStatus → OldStatus → Type 0
+abbrev pub Stands : OldStatus → OldStatus → Type 0
 Stands answered judged = (answered ≡ judged) ⊎ (answered ≡ old_status.Same status.WriteFault)
 
-as_answered : (before after : Moment) (answered judged : OldStatus) → answered ≢ old_status.Same status.WriteFault → Stands answered judged
-    → IsDeviceWork before after (judged ≡ old_status.ArchiveFault) → IsDeviceWork before after (answered ≡ old_status.ArchiveFault)
-as_answered before after answered judged taken (inl same) work = subst (λ (j : OldStatus). IsDeviceWork before after (j ≡ old_status.ArchiveFault)) (sym same) work
-as_answered before after answered judged taken (inr failed) work = absurd (taken failed)
+pub work_answered : (before after : Moment) (answered judged s : OldStatus) → answered ≢ old_status.Same status.WriteFault → Stands answered judged
+    → IsDeviceWork before after (judged ≡ s) → IsDeviceWork before after (answered ≡ s)
+work_answered before after answered judged s taken (inl same) work = subst (λ (j : OldStatus). IsDeviceWork before after (j ≡ s)) (sym same) work
+work_answered before after answered judged s taken (inr failed) work = absurd (taken failed)
 
 pub answer_work : {D A : Type 0} (view : D → Moment) (archive_view : A → Moment) (bytes : List ℕ) (before after : ℕ) (sink : SinkSeen) (old new : D) (archive archived : A) (start : Start) (history : List Entry) (answered : OldStatus)
     → IsRunAnswer view archive_view bytes before after sink old new archive archived start history answered → answered ≢ old_status.Same status.NoMemory → answered ≢ old_status.Same status.WriteFault
     → IsDeviceWork (archive_view archive) (archive_view archived) (answered ≡ old_status.ArchiveFault)
 answer_work view archive_view bytes before after sink old new archive archived start history answered r known taken =
-    as_answered (archive_view archive) (archive_view archived) answered r.judged taken (r.written known).stands
+    work_answered (archive_view archive) (archive_view archived) answered r.judged old_status.ArchiveFault taken (r.written known).stands
     (run_work view archive_view bytes before after old new archive archived start history r.judged r.report r.by)
 
 pub question_work : (before after : Moment) (question : OldQuestion) (sink : SinkSeen) (answered : OldStatus) → IsQuestionAnswer before after question sink answered → answered ≢ old_status.Same status.WriteFault
     → IsDeviceWork before after (answered ≡ old_status.ArchiveFault)
-question_work before after question sink answered q taken = as_answered before after answered q.judged taken q.written.stands q.work
+question_work before after question sink answered q taken = work_answered before after answered q.judged old_status.ArchiveFault taken q.written.stands q.work
 
 pub words_work : (before after : Moment) (answered : OldStatus) → before ≡ after → Stands answered (old_status.Same status.BadWords) → answered ≢ old_status.Same status.WriteFault
     → IsDeviceWork before after (answered ≡ old_status.ArchiveFault)
@@ -235,7 +235,7 @@ consulted_words view archive disk disk_then Told judged never (inr r) is = logge
 module _ {D A : Type 0} (view : D → Moment) (archive_view : A → Moment) (disk disk_then : D) (archive archived : A) (question : LogQuestion) (sink : SinkSeen) (answered : OldStatus)
     (q : IsConsultAnswer view archive_view disk disk_then archive archived question sink answered) where
   pub consult_work : answered ≢ old_status.Same status.WriteFault → IsDeviceWork (archive_view archive) (archive_view archived) (answered ≡ old_status.ArchiveFault)
-  consult_work taken = as_answered (archive_view archive) (archive_view archived) answered q.judged taken q.written.stands q.work
+  consult_work taken = work_answered (archive_view archive) (archive_view archived) answered q.judged old_status.ArchiveFault taken q.written.stands q.work
 
   pub consult_words : answered ≡ old_status.Same status.BadWords → ⊥
   consult_words is =
@@ -255,7 +255,7 @@ told_tar_words node tar lacks judged list leaves (inr n) is = let z : false ≡ 
 module _ {D A : Type 0} (view : D → Moment) (archive_view : A → Moment) (disk disk_then : D) (archive archived : A) (node : Node) (sink : SinkSeen) (answered : OldStatus) (handed : List Node)
     (q : IsTarAnswer (IsTarJudged view archive_view disk disk_then archive archived node) sink answered handed) where
   pub tar_work : answered ≢ old_status.Same status.WriteFault → IsDeviceWork (archive_view archive) (archive_view archived) (answered ≡ old_status.ArchiveFault)
-  tar_work taken = as_answered (archive_view archive) (archive_view archived) answered q.judged taken q.written.stands q.by.work
+  tar_work taken = work_answered (archive_view archive) (archive_view archived) answered q.judged old_status.ArchiveFault taken q.written.stands q.by.work
 
   pub tar_refused : answered ≡ old_status.Same status.BadWords → ⊥
   tar_refused is =

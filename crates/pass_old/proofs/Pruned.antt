@@ -30,6 +30,7 @@ use Rattle.pass_old.specs.declared.status.OldStatus.TheVariants as old_status
 use Rattle.pass_old.specs.Consults.{IsReadLog}
 use Rattle.pass_old.specs.Prunes.{are_nodes, folder_of, kept_line, prune_of, status_of_fresh, status_of_prune, IsFreshFault, IsPrunedAs, IsPruneTold, IsPrunedByLog, IsPrunedOf, IsPruning, IsPruneAnswer, IsWholePruning}
 use Rattle.pass_old.specs.Statuses.{status_of_archive}
+use Rattle.pass_old.proofs.Faulting.{work_answered}
 
 abbrev pub nothing : Node
 nothing = record { pnode = 0; version = 0 }
@@ -201,11 +202,6 @@ module _ {D F : Type 0} (view : D → Moment) (fresh_view : F → Moment) (archi
 pub judged_as : (answered judged s : OldStatus) → s ≢ old_status.Same status.WriteFault → answered ≡ s → (answered ≡ judged) ⊎ (answered ≡ old_status.Same status.WriteFault) → judged ≡ s
 judged_as answered judged s other is (inl same) = sym same ∙ is
 judged_as answered judged s other is (inr failed) = absurd (other (sym is ∙ failed))
-
-work_answered : (before after : Moment) (answered judged s : OldStatus) → answered ≢ old_status.Same status.WriteFault → (answered ≡ judged) ⊎ (answered ≡ old_status.Same status.WriteFault)
-    → IsDeviceWork before after (judged ≡ s) → IsDeviceWork before after (answered ≡ s)
-work_answered before after answered judged s taken (inl same) work = subst (λ (j : OldStatus). IsDeviceWork before after (j ≡ s)) (sym same) work
-work_answered before after answered judged s taken (inr failed) work = absurd (taken failed)
 
 module _ {D A F : Type 0} (view : D → Moment) (archive_view : A → Moment) (fresh_view : F → Moment) (disk disk_then : D) (archive archived : A) (fresh after : F) (named : List Node) (sink : SinkSeen) (answered : OldStatus)
     (a : IsPruneAnswer view archive_view fresh_view disk disk_then archive archived fresh after named sink answered) where

@@ -3,11 +3,9 @@ use Rattle.std.specs.Prelude.{ℕ, ◌≡◌, ◌≢◌, ◌⊎◌, ◌+◌, ◌
 use Rattle.pass_entry.specs.declared.entry.Entry.{Entry}
 use Rattle.pass_entry.specs.declared.objects.Node.{Node}
 use Rattle.pass_entry.specs.declared.record.Record.{Record}
-use Rattle.pass_log.specs.Frames.{frames_of}
-use Rattle.pass_log.specs.Log.{LeavesStore}
 use Rattle.pass_log.specs.Records.{Held, image_of}
 use Rattle.pass_outside.specs.Areas.{Image}
-use Rattle.pass_outside.specs.Moments.{Moment, Adds, IsDeviceWork}
+use Rattle.pass_outside.specs.Moments.{Moment}
 use Rattle.pass_plain.specs.declared.start.Start.{Start}
 use Rattle.pass_plain.specs.Legal.{session_of}
 use Rattle.pass_plain.specs.Sound.{IsSound}
@@ -29,31 +27,14 @@ use Rattle.pass_leaf.specs.declared.fault.OldFault.TheVariants as faults
 use Rattle.pass_leaf.specs.Contents.{content_of, last_version}
 use Rattle.pass_leaf.specs.Keeping.{FileVersion}
 use Rattle.pass_leaf.specs.Laws.{IsAmong}
-use Rattle.pass_leaf.specs.Archives.{Archive, IsArchiveOn, IsUnopened, LeavesThem}
+use Rattle.pass_leaf.specs.Archives.{Archive}
 use Rattle.pass_past.specs.Pasts.{versions_of}
 use Rattle.pass_past.specs.Keepings.{HasKept, HasStopped}
+pub use Rattle.pass_prune.specs.Openings.{IsOpened, IsUnopenedArchive, IsHandedOut}
 use Rattle.pass_old.specs.declared.status.OldStatus.{OldStatus}
 use Rattle.pass_old.specs.declared.status.OldStatus.TheVariants as old_status
 use Rattle.pass_old.specs.Retracings.{IsLike}
 use Rattle.pass_old.specs.Statuses.{status_of_archive}
-
--- The archive was opened, and has these leaves. A crash since then leaves what it might have left before, or the frames as they were.
-pub record IsOpened {A : Type 0} (view : A → Moment) (before : A) (first : Archive A) : Type 0 where
-  pub leaves : IsArchiveOn (view before) first.leaves first.end
-  pub counted : first.opened ≡ (view first.disk).faults
-  pub work : IsDeviceWork (view before) (view first.disk) ⊥
-  pub moments : IsTrue (view before).tells → Adds (view before) (view first.disk) (λ c. (view before).may_leave c ⊎ (frames_of c.log ≡ frames_of (view before).seen.log))
-  pub store : LeavesStore (view before) (view first.disk)
-
--- It didn't open, and no leaf was written; nothing at all, unless a device call failed.
-pub record IsUnopenedArchive (before after : Moment) (fault : OldFault) : Type 0 where
-  pub cause : IsUnopened before fault
-  pub reads : (fault ≡ faults.DiskFault) ⊎ (after.seen ≡ before.seen)
-  pub crash : (fault ≡ faults.DiskFault) ⊎ ((c : Image) → after.may_leave c → before.may_leave c)
-  pub alone : (fault ≡ faults.DiskFault) ⊎ Adds before after before.may_leave
-  pub work : IsDeviceWork before after (fault ≡ faults.DiskFault)
-  pub moments : IsTrue before.tells → Adds before after (λ c. before.may_leave c ⊎ (frames_of c.log ≡ frames_of before.seen.log))
-  pub store : LeavesStore before after
 
 -- The store was recovered, and not written to: these are the records of its log area, and the start is the one that they tell, with the
 -- bytes of the store area. A session may begin with it.
@@ -129,11 +110,6 @@ pub record IsShut {D A : Type 0} (view : A → Moment) (bytes : List ℕ) (befor
   pub is : (node : Node) → judged ≡ status_of_archive fault node
   pub unopened : IsUnopenedArchive (view archive) (view archived) fault
   pub disk : new ≡ old
-
--- The archive has been opened, and is handed out with these leaves, of which each crash leaves all.
-pub record IsHandedOut {A : Type 0} (view : A → Moment) (last : Archive A) (archived : A) : Type 0 where
-  pub disk : archived ≡ last.disk
-  pub leaves : LeavesThem (view archived) last.opened last.leaves last.end
 
 -- The store was refused. It wasn't written to, and nothing was kept.
 pub record IsLost {D A : Type 0} (view : D → Moment) (archive_view : A → Moment) (old new : D) (first : Archive A) (archived : A) (judged : OldStatus) : Type 0 where

@@ -8,7 +8,6 @@ mod listing;
 mod main_call;
 mod pruning;
 mod questions;
-mod reading;
 mod retracing;
 mod running;
 mod status;

@@ -13,9 +13,9 @@ ghost use Rattle.pass_leaf.specs.Archives.{Archive};
 ghost use Rattle.pass_old.specs.Runs.{IsKept, IsSomeKept, IsKeptAs, IsHandedOut, HasNothing, IsLost, HasRunOver, IsOldRun};
 
 use crate::questions::unread;
-use crate::reading::read_trace;
 use crate::retracing::is_like;
 use crate::status::OldStatus;
+use pass_cli::read_trace;
 use pass_entry::{Entry, Record};
 use pass_leaf::Old;
 use pass_outside::{Disk, Gate, Source};

@@ -49,7 +49,7 @@ returns-in-Ok-open-clause-run g c =
       inr (inr (record {
         traced = traced;
         first = c.in-Ok-open.old;
-        opened = record { leaves = e.leaves; counted = e.opened; work = e.work; moments = e.any_moment; store = e.store };
+        opened = record { leaves = e.leaves; none_gathered = e.gathered; counted = e.opened; work = e.work; moments = e.any_moment; store = e.store };
         run = c.run_kept.ensures.run bytes _ _ traced same;
       })),
     )

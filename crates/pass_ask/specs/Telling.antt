@@ -1,5 +1,5 @@
 -- Words that give a node by the name of a file, or ask for an answer with names. This project's own rule.
-use Rattle.std.specs.Prelude.{ℕ, ◌+◌, ◌==◌, ◌&&◌, ◌||◌, Bool, not, List, [], ◌∷◌, Option, Some, None, codes, drop, option_and_then, option_map, take, if◌then◌else◌}
+use Rattle.std.specs.Prelude.{ℕ, ◌+◌, ◌==◌, ◌&&◌, ◌||◌, Bool, true, false, not, List, [], ◌∷◌, Option, Some, None, codes, drop, option_and_then, option_map, take, if◌then◌else◌}
 use Rattle.std.specs.Option.{option_map_or}
 use Rattle.pass_entry.specs.Texts.{is_name}
 use Rattle.pass_entry.specs.declared.objects.Node.{Node}
@@ -45,6 +45,11 @@ spelled_as word None = called_at word (last_at word)
 -- P.V, NAME, NAME@ or NAME@V. A word that reads as P.V is one; a name that reads otherwise is written with an `@` behind it.
 unfoldable pub spelled_in : List ℕ → Option Spelled
 spelled_in word = spelled_as word (node_in word)
+
+-- a name gives the node
+abbrev pub is_called : Option Spelled → Bool
+is_called (Some (Called name version)) = true
+is_called _ = false
 
 -- Questions
 

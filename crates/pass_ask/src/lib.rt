@@ -51,5 +51,6 @@ pub use pattern_text::PatternText;
 pub use questions::ask_lines;
 pub use showing::show;
 pub use store_name::StoreName;
+pub use telling::spelled_in;
 pub use words::{Command, GraphQuestion, Question, read_words, writes};
 pub use writing::write_answer;

@@ -1,6 +1,6 @@
 //! Words that give a node by the name of a file, or ask for an answer with names.
-ghost use Rattle.std.specs.Prelude.{◌≡◌, ◌<◌, [], ◌∷◌, IfSome, Option, length, map, option_map};
-ghost use Rattle.pass_ask.specs.Telling.{called, called_at, called_by, choice_of, inputs_in, inquiry_in, last_at, lineage_on, named_in, outputs_in, spelled_in, tells, told_path_of, told_path_on};
+ghost use Rattle.std.specs.Prelude.{◌≡◌, ◌<◌, [], ◌∷◌, true, Err, IfSome, Option, length, map, option_map};
+ghost use Rattle.pass_ask.specs.Telling.{called, called_at, called_by, choice_of, inputs_in, inquiry_in, is_called, last_at, lineage_on, named_in, outputs_in, spelled_in, tells, told_path_of, told_path_on};
 ghost use Rattle.pass_files.specs.declared.inquiry.Inquiry.{Inquiry};
 ghost use Rattle.pass_files.specs.declared.spelled.Spelled.{Spelled};
 ghost use Rattle.pass_ask.specs.Words.{Reads};
@@ -181,10 +181,11 @@ fn path_from(from: Spelled, to: Result<Spelled, Status>) -> Result<Inquiry, Stat
 
 // NODE
 
-/// The node that the word gives, by its numbers or by a name.
+/// The node that the word gives, by its numbers or by a name. Only a name needs memory.
 #[tactic(auto, unfolding(crate::specs::Telling::spelled_in))]
 pub fn spelled_in(alloc: Global, word: &[u8]) -> Result<Spelled, Status>
-    ensures { Reads result (spelled_in word.now) }
+    ensures node { Reads result (spelled_in word.now) }
+    ensures starved { result ≡ Err Status.NoMemory → is_called (spelled_in word.now) ≡ true }
 {
     match node_in(word) {
         Some(node) => Ok(Spelled::Numbered(node)),
@@ -207,7 +208,8 @@ fn last_at(word: &[u8]) -> Option<usize>
 
 fn called_at(alloc: Global, word: &[u8], place: Option<usize>) -> Result<Spelled, Status>
     requires { IfSome place (λ at. at < length word.now) }
-    ensures { Reads result (called_at word.now place) }
+    ensures node { Reads result (called_at word.now place) }
+    ensures starved { result ≡ Err Status.NoMemory → is_called (called_at word.now place) ≡ true }
 {
     match place {
         Some(at) => called_by(alloc, word, &word[..at], &word[at + 1..]),
@@ -216,7 +218,8 @@ fn called_at(alloc: Global, word: &[u8], place: Option<usize>) -> Result<Spelled
 }
 
 fn called_by(alloc: Global, word: &[u8], name: &[u8], behind: &[u8]) -> Result<Spelled, Status>
-    ensures { Reads result (called_by word.now name.now behind.now) }
+    ensures node { Reads result (called_by word.now name.now behind.now) }
+    ensures starved { result ≡ Err Status.NoMemory → is_called (called_by word.now name.now behind.now) ≡ true }
 {
     if behind.is_empty() {
         return called(alloc, name, None);
@@ -228,7 +231,8 @@ fn called_by(alloc: Global, word: &[u8], name: &[u8], behind: &[u8]) -> Result<S
 }
 
 fn called(alloc: Global, name: &[u8], version: Option<u64>) -> Result<Spelled, Status>
-    ensures { Reads result (called name.now version) }
+    ensures node { Reads result (called name.now version) }
+    ensures starved { result ≡ Err Status.NoMemory → is_called (called name.now version) ≡ true }
 {
     match Text::name(alloc, name) {
         Ok(name) => Ok(Spelled::Called { name, version }),

@@ -17,6 +17,7 @@ use Rattle.pass_status.specs.Statuses.{status_of_opening}
 use Rattle.pass_run.specs.Stored.{IsEnd}
 use Rattle.pass_ask.specs.Answers.{SinkSeen}
 use Rattle.pass_cli.specs.Answers.{IsRefusal, ends_run}
+use Rattle.pass_files.specs.declared.spelled.Spelled.{Spelled}
 use Rattle.pass_leaf.specs.declared.fault.OldFault.{OldFault}
 use Rattle.pass_leaf.specs.declared.fault.OldFault.TheVariants as faults
 use Rattle.pass_leaf.specs.Leaves.{Leaf}
@@ -248,11 +249,11 @@ tar_status_words : (lacks : List Node) → refuses_words (tar_status lacks) ≡ 
 tar_status_words [] is = cc is
 tar_status_words (node ∷ rest) is = cc is
 
-told_tar_words : (node : Node) (tar : List ℕ) (lacks : List Node) (judged : OldStatus) (list : List Record) (leaves : List Leaf) → IsTarTold node tar lacks judged list leaves → refuses_words judged ≡ true → ⊥
+told_tar_words : (node : Spelled) (tar : List ℕ) (lacks : List Node) (judged : OldStatus) (list : List Record) (leaves : List Leaf) → IsTarTold node tar lacks judged list leaves → refuses_words judged ≡ true → ⊥
 told_tar_words node tar lacks judged list leaves (inl m) is = tar_status_words lacks (sym (ap refuses_words m.is) ∙ is)
 told_tar_words node tar lacks judged list leaves (inr n) is = let z : false ≡ true = sym (ap refuses_words n.is) ∙ is in cc
 
-module _ {D A : Type 0} (view : D → Moment) (archive_view : A → Moment) (disk disk_then : D) (archive archived : A) (node : Node) (sink : SinkSeen) (answered : OldStatus) (handed : List Node)
+module _ {D A : Type 0} (view : D → Moment) (archive_view : A → Moment) (disk disk_then : D) (archive archived : A) (node : Spelled) (sink : SinkSeen) (answered : OldStatus) (handed : List Node)
     (q : IsTarAnswer (IsTarJudged view archive_view disk disk_then archive archived node) sink answered handed) where
   pub tar_work : answered ≢ old_status.Same status.WriteFault → IsDeviceWork (archive_view archive) (archive_view archived) (answered ≡ old_status.ArchiveFault)
   tar_work taken = work_answered (archive_view archive) (archive_view archived) answered q.judged old_status.ArchiveFault taken q.written.stands q.by.work

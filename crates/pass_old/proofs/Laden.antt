@@ -6,6 +6,8 @@ use Rattle.pass_entry.specs.declared.record.Record.{Record}
 use Rattle.pass_outside.specs.Faults.{HasRisen, HasStayed}
 use Rattle.pass_outside.specs.Moments.{Moment}
 use Rattle.pass_graph.specs.ListRanks.{HasNode}
+use Rattle.pass_files.specs.declared.spelled.Spelled.{Spelled}
+use Rattle.pass_files.specs.Spelling.{node_meant}
 use Rattle.pass_leaf.specs.declared.fault.OldFault.{OldFault}
 use Rattle.pass_leaf.specs.declared.fault.OldFault.TheVariants as faults
 use Rattle.pass_leaf.specs.Leaves.{Leaf}
@@ -20,7 +22,7 @@ use Rattle.pass_old.specs.declared.status.OldStatus.TheVariants as old_status
 use Rattle.pass_old.specs.Answers.{IsTaken, IsWritten, old_text_with}
 use Rattle.pass_old.specs.Consults.{IsJudgedByLog}
 use Rattle.pass_old.specs.Statuses.{status_of_archive}
-use Rattle.pass_old.specs.Tars.{IsTarAnswer, IsTarTold, tar_status, tar_text}
+use Rattle.pass_old.specs.Tars.{IsTarAnswer, IsTarOfNode, IsTarTold, tar_status, tar_text}
 
 -- a tar that was made is answered by its own status
 
@@ -46,7 +48,7 @@ made_done [] s is other = refl
 made_done (node ∷ rest) s is other = absurd (other node is)
 
 pub made : (list : List Record) (leaves : List Leaf) (node : Node) (tar : List ℕ) (lacks : List Node) (sink : SinkSeen) (answered : OldStatus) → answered ≡ tar_status lacks → ((HasNode list node → ⊥) → ⊥) → IsTarOf list leaves node tar lacks
-    → (IsTrue sink.tells → sink.after ≡ sink.before ++ tar) → IsTarAnswer (λ (t : List ℕ) (l : List Node) (j : OldStatus). IsTarTold node t l j list leaves) sink answered lacks
+    → (IsTrue sink.tells → sink.after ≡ sink.before ++ tar) → IsTarAnswer (λ (t : List ℕ) (l : List Node) (j : OldStatus). IsTarOfNode node t l j list leaves) sink answered lacks
 made list leaves node tar lacks sink answered is there of taken = record {
   judged = tar_status lacks;
   tar = tar;
@@ -63,7 +65,7 @@ made list leaves node tar lacks sink answered is there of taken = record {
 -- one of which the sink took a beginning
 pub broken : (list : List Record) (leaves : List Leaf) (node : Node) (tar : List ℕ) (lacks handed : List Node) (sink : SinkSeen) (answered : OldStatus) → answered ≡ old_status.Same status.WriteFault
     → ((HasNode list node → ⊥) → ⊥) → IsTarOf list leaves node tar lacks → (IsTrue sink.tells → IsPartOfText tar sink.before sink.after)
-    → IsTarAnswer (λ (t : List ℕ) (l : List Node) (j : OldStatus). IsTarTold node t l j list leaves) sink answered handed
+    → IsTarAnswer (λ (t : List ℕ) (l : List Node) (j : OldStatus). IsTarOfNode node t l j list leaves) sink answered handed
 broken list leaves node tar lacks handed sink answered is there of taken = record {
   judged = tar_status lacks;
   tar = tar;
@@ -115,11 +117,11 @@ judged_as P Q sink answered handed more a = record { judged = a.judged; tar = a.
 
 -- a tar that was judged by the log isn't refused by the archive's device
 
-told_not_archive : (node : Node) (tar : List ℕ) (lacks : List Node) (judged : OldStatus) (list : List Record) (leaves : List Leaf) → IsTarTold node tar lacks judged list leaves → judged ≢ old_status.ArchiveFault
+told_not_archive : (node : Spelled) (tar : List ℕ) (lacks : List Node) (judged : OldStatus) (list : List Record) (leaves : List Leaf) → IsTarTold node tar lacks judged list leaves → judged ≢ old_status.ArchiveFault
 told_not_archive node tar lacks judged list leaves (inl m) same = made_not lacks judged old_status.ArchiveFault m.is refl same
-told_not_archive node tar lacks judged list leaves (inr n) same = let z : old_status.Same (status.NoObject node) ≡ old_status.ArchiveFault = sym n.is ∙ same in cc
+told_not_archive node tar lacks judged list leaves (inr n) same = let z : old_status.Same (status.NoObject (node_meant list node)) ≡ old_status.ArchiveFault = sym n.is ∙ same in cc
 
-pub logged_not_archive : (before after : Moment) (leaves : List Leaf) (node : Node) (tar : List ℕ) (lacks : List Node) (judged : OldStatus) → IsJudgedByLog before after leaves (IsTarTold node tar lacks judged) judged
+pub logged_not_archive : (before after : Moment) (leaves : List Leaf) (node : Spelled) (tar : List ℕ) (lacks : List Node) (judged : OldStatus) → IsJudgedByLog before after leaves (IsTarTold node tar lacks judged) judged
     → judged ≢ old_status.ArchiveFault
 logged_not_archive before after leaves node tar lacks judged (inl u) same = let z : ◌≡◌ {A = OldStatus} (old_status.Same _) old_status.ArchiveFault = sym u.is ∙ same in cc
 logged_not_archive before after leaves node tar lacks judged (inr r) same = told_not_archive node tar lacks judged r.list leaves r.told same

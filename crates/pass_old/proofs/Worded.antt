@@ -6,8 +6,10 @@ use Rattle.std.specs.declared.alloc.AllocError.{AllocError}
 use Rattle.std.proofs.lemmas.Bool.Decides.{nat_tests}
 use Rattle.pass_entry.specs.declared.objects.Node.{Node}
 use Rattle.pass_entry.specs.Texts.{is_name}
+use Rattle.pass_files.specs.declared.spelled.Spelled.{Spelled}
 use Rattle.pass_trace.specs.Words.{is_number, is_text, value_of}
 use Rattle.pass_ask.specs.Numbers.{number_in, node_in, last_number}
+use Rattle.pass_ask.specs.Telling.{spelled_in}
 use Rattle.pass_entry.proofs.Lists.{some_is}
 use Rattle.pass_old.specs.declared.words.OldCommand.{OldCommand}
 use Rattle.pass_old.specs.declared.words.OldCommand.TheVariants.{Run, Ask, Consult, Tar}
@@ -27,9 +29,6 @@ named_not_run asked n named is = subst IsNamed is named
 pub named_not_asked : (asked : Option OldCommand) (q : OldQuestion) → IsNamed asked → asked ≡ Some (Ask q) → ⊥
 named_not_asked asked q named is = subst IsNamed is named
 
-pub named_not_tar : (asked : Option OldCommand) (node : Node) → IsNamed asked → asked ≡ Some (Tar node) → ⊥
-named_not_tar asked node named is = subst IsNamed is named
-
 pub named_not_none : (asked : Option OldCommand) → IsNamed asked → asked ≡ None → ⊥
 named_not_none asked named is = subst IsNamed is named
 
@@ -48,13 +47,13 @@ run_consult workers question is = cc
 pub ask_consult : (question : OldQuestion) (other : LogQuestion) → Ask question ≡ Consult other → ⊥
 ask_consult question other is = cc
 
-pub run_tar : (workers : ℕ) (node : Node) → Run workers ≡ Tar node → ⊥
+pub run_tar : (workers : ℕ) (node : Spelled) → Run workers ≡ Tar node → ⊥
 run_tar workers node is = cc
 
-pub ask_tar : (question : OldQuestion) (node : Node) → Ask question ≡ Tar node → ⊥
+pub ask_tar : (question : OldQuestion) (node : Spelled) → Ask question ≡ Tar node → ⊥
 ask_tar question node is = cc
 
-pub consult_tar : (question : LogQuestion) (node : Node) → Consult question ≡ Tar node → ⊥
+pub consult_tar : (question : LogQuestion) (node : Spelled) → Consult question ≡ Tar node → ⊥
 consult_tar question node is = cc
 
 pub one_question : (asked : Option OldCommand) (one other : OldQuestion) → asked ≡ Some (Ask one) → asked ≡ Some (Ask other) → one ≡ other
@@ -63,7 +62,7 @@ one_question asked one other first second = let z : Ask one ≡ Ask other = some
 pub one_consulted : (asked : Option OldCommand) (one other : LogQuestion) → asked ≡ Some (Consult one) → asked ≡ Some (Consult other) → one ≡ other
 one_consulted asked one other first second = let z : Consult one ≡ Consult other = some_is (Consult one) (Consult other) (sym first ∙ second) in cc
 
-pub one_tar : (asked : Option OldCommand) (one other : Node) → asked ≡ Some (Tar one) → asked ≡ Some (Tar other) → one ≡ other
+pub one_tar : (asked : Option OldCommand) (one other : Spelled) → asked ≡ Some (Tar one) → asked ≡ Some (Tar other) → one ≡ other
 one_tar asked one other first second = let z : Tar one ≡ Tar other = some_is (Tar one) (Tar other) (sym first ∙ second) in cc
 
 -- how many workers a command names
@@ -111,16 +110,16 @@ versions_in : (file : Option ℕ) (word : List ℕ) (n : ℕ) → file_of file w
 versions_in None word n is = named_in (is_name (called word)) (called word) n is
 versions_in (Some file) word n is = no_ask (Versions file) n is
 
-tar_in : (node : Option Node) (n : ℕ) → option_map Tar node ≡ Some (Run n) → ⊥
+tar_in : (node : Option Spelled) (n : ℕ) → option_map Tar node ≡ Some (Run n) → ⊥
 tar_in None n is = no_run n is
 tar_in (Some node) n is = let z : Tar node ≡ Run n = some_is (Tar node) (Run n) is in cc
 
-asks_one : (a b c : Bool) (node : Option Node) (file : Option ℕ) (word : List ℕ) (n : ℕ)
-    → (if a then option_map (λ node. Ask (Cat node)) node else if b then file_of file word else if c then option_map Tar node else None) ≡ Some (Run n) → ⊥
-asks_one true b c asked file word n is = cat_in asked n is
-asks_one false true c asked file word n is = versions_in file word n is
-asks_one false false true asked file word n is = tar_in asked n is
-asks_one false false false asked file word n is = no_run n is
+asks_one : (a b c : Bool) (node : Option Node) (file : Option ℕ) (word : List ℕ) (came : Option Spelled) (n : ℕ)
+    → (if a then option_map (λ node. Ask (Cat node)) node else if b then file_of file word else if c then option_map Tar came else None) ≡ Some (Run n) → ⊥
+asks_one true b c asked file word came n is = cat_in asked n is
+asks_one false true c asked file word came n is = versions_in file word n is
+asks_one false false true asked file word came n is = tar_in came n is
+asks_one false false false asked file word came n is = no_run n is
 
 two_nodes : (b : Bool) (from to : Node) (n : ℕ) → (if b then Some (Ask (Diff from to)) else None) ≡ Some (Run n) → ⊥
 two_nodes true from to n is = no_ask (Diff from to) n is
@@ -146,7 +145,7 @@ with_two false false c from to word n is = absurd (no_run n is)
 pub workers_in : (words : List (List ℕ)) (n : ℕ) → command_of words ≡ Some (Run n) → (1 ≤ n) × (n ≤ 64)
 workers_in [] n is = absurd (no_run n is)
 workers_in (name ∷ []) n is = alone_in (is_text name (codes "run")) (is_text name (codes "check")) n is
-workers_in (name ∷ word ∷ []) n is = absurd (asks_one (is_text name (codes "cat")) (is_text name (codes "versions")) (is_text name (codes "tar")) (node_in word) (number_in 1 last_number word) word n is)
+workers_in (name ∷ word ∷ []) n is = absurd (asks_one (is_text name (codes "cat")) (is_text name (codes "versions")) (is_text name (codes "tar")) (node_in word) (number_in 1 last_number word) word (spelled_in word) n is)
 workers_in (name ∷ first ∷ second ∷ []) n is = with_two (is_text name (codes "diff")) (is_text name (codes "run")) (is_text first (codes "--workers")) (node_in first) (node_in second) second n is
 workers_in (name ∷ first ∷ second ∷ third ∷ words) n is = absurd (no_run n is)
 
@@ -188,21 +187,21 @@ node_writes : (node : Option Node) → is_run (option_map (λ node. Ask (Cat nod
 node_writes (Some node) = refl
 node_writes None = refl
 
-tar_writes : (node : Option Node) → is_run (option_map Tar node) ≡ false
+tar_writes : (node : Option Spelled) → is_run (option_map Tar node) ≡ false
 tar_writes (Some node) = refl
 tar_writes None = refl
 
-two_write : (a b c : Bool) (node : Option Node) (file : Option ℕ) (word : List ℕ)
-    → is_run (if a then option_map (λ node. Ask (Cat node)) node else if b then file_of file word else if c then option_map Tar node else None) ≡ false
-two_write true b c asked file word = node_writes asked
-two_write false true c asked file word = file_writes file word
-two_write false false true asked file word = tar_writes asked
-two_write false false false asked file word = refl
+two_write : (a b c : Bool) (node : Option Node) (file : Option ℕ) (word : List ℕ) (came : Option Spelled)
+    → is_run (if a then option_map (λ node. Ask (Cat node)) node else if b then file_of file word else if c then option_map Tar came else None) ≡ false
+two_write true b c asked file word came = node_writes asked
+two_write false true c asked file word came = file_writes file word
+two_write false false true asked file word came = tar_writes came
+two_write false false false asked file word came = refl
 
 pub writes_two : (words : List (List ℕ)) → 2 ≤ length words → length words < 3 → is_run (command_of words) ≡ false
 writes_two [] some few = absurd (omega (arith, some))
 writes_two (name ∷ []) some few = absurd (omega (arith, some))
-writes_two (name ∷ word ∷ []) some few = two_write (is_text name (codes "cat")) (is_text name (codes "versions")) (is_text name (codes "tar")) (node_in word) (number_in 1 last_number word) word
+writes_two (name ∷ word ∷ []) some few = two_write (is_text name (codes "cat")) (is_text name (codes "versions")) (is_text name (codes "tar")) (node_in word) (number_in 1 last_number word) word (spelled_in word)
 writes_two (name ∷ word ∷ other ∷ words) some few = absurd (omega (arith, few))
 
 pub writes_more : (words : List (List ℕ)) → 4 ≤ length words → is_run (command_of words) ≡ false

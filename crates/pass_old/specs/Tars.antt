@@ -4,6 +4,8 @@ use Rattle.pass_entry.specs.declared.objects.Node.{Node}
 use Rattle.pass_entry.specs.declared.record.Record.{Record}
 use Rattle.pass_outside.specs.Moments.{Moment, IsDeviceWork}
 use Rattle.pass_graph.specs.ListRanks.{HasNode}
+use Rattle.pass_files.specs.declared.spelled.Spelled.{Spelled}
+use Rattle.pass_files.specs.Spelling.{node_meant}
 use Rattle.pass_leaf.specs.Leaves.{Leaf}
 use Rattle.pass_status.specs.declared.status.Status.TheVariants as status
 use Rattle.pass_ask.specs.Answers.{SinkSeen}
@@ -30,12 +32,16 @@ pub record IsNoNode (list : List Record) (node : Node) (lacks : List Node) (judg
   pub lacks_none : lacks ≡ []
   pub is : judged ≡ old.Same (status.NoObject node)
 
-abbrev pub IsTarTold : Node → List ℕ → List Node → OldStatus → List Record → List Leaf → Type 0
-IsTarTold node tar lacks judged list leaves = IsTarMade list leaves node tar lacks judged ⊎ IsNoNode list node lacks judged
+abbrev pub IsTarOfNode : Node → List ℕ → List Node → OldStatus → List Record → List Leaf → Type 0
+IsTarOfNode node tar lacks judged list leaves = IsTarMade list leaves node tar lacks judged ⊎ IsNoNode list node lacks judged
+
+-- the node is the one that its numbers give, or that the records mean by the name
+abbrev pub IsTarTold : Spelled → List ℕ → List Node → OldStatus → List Record → List Leaf → Type 0
+IsTarTold spelled tar lacks judged list leaves = IsTarOfNode (node_meant list spelled) tar lacks judged list leaves
 
 -- The archive comes first, then the store's log. A call of the archive's device failed exactly where that is judged; unless one did
 -- the archive reads as before.
-pub record IsTarJudged {D A : Type 0} (view : D → Moment) (archive_view : A → Moment) (disk disk_then : D) (archive archived : A) (node : Node) (tar : List ℕ) (lacks : List Node) (judged : OldStatus) : Type 0 where
+pub record IsTarJudged {D A : Type 0} (view : D → Moment) (archive_view : A → Moment) (disk disk_then : D) (archive archived : A) (node : Spelled) (tar : List ℕ) (lacks : List Node) (judged : OldStatus) : Type 0 where
   pub by : IsConsulted view (archive_view archive) disk disk_then (IsTarTold node tar lacks judged) judged
   pub work : IsDeviceWork (archive_view archive) (archive_view archived) (judged ≡ old.ArchiveFault)
   pub reads : judged ≢ old.ArchiveFault → (archive_view archived).seen ≡ (archive_view archive).seen

@@ -1,6 +1,7 @@
 //! The call that the program makes.
 ghost use Rattle.std.specs.Prelude.{ℕ, ◌≤◌, ◌≡◌, ◌≢◌, ◌⊎◌, ◌↔◌, List, [], Some, None, IsTrue, map, string_bytes};
 ghost use Rattle.pass_entry.specs.declared.objects.Node.{Node as AnyNode};
+ghost use Rattle.pass_files.specs.declared.spelled.Spelled.{Spelled as AnySpelled};
 ghost use Rattle.pass_outside.specs.Faults.{HasRisen};
 ghost use Rattle.pass_outside.specs.Moments.{IsDeviceWork};
 ghost use Rattle.pass_plain.specs.declared.start.Start.{Start as AnyStart};
@@ -21,6 +22,7 @@ use crate::tarring::{Tarred, tar};
 use crate::words::{LogQuestion, OldCommand, OldQuestion, read_words};
 use crate::writing::write_old;
 use pass_entry::{Entry, Node};
+use pass_files::Spelled;
 use pass_outside::{Disk, Gate, Sink, Source};
 use pass_past::laws::same_told;
 use pass_plain::Start;
@@ -81,7 +83,7 @@ pub fn old_main<
     ensures consulted { (question : AnyLogQuestion) → command_of (map string_bytes words.now) ≡ Some (OldCommand.Consult question) → result.status ≢ OldStatus.Same Status.NoMemory
         → IsConsultAnswer D.view A.view disk result.disk archive result.archive question (record { tells = K.tells; before = K.taken sink.old; after = K.taken sink.new }) result.status }
     // A tar is written by the archive and the store's log.
-    ensures tarred { (node : AnyNode) → command_of (map string_bytes words.now) ≡ Some (OldCommand.Tar node) → result.status ≢ OldStatus.Same Status.NoMemory
+    ensures tarred { (node : AnySpelled) → command_of (map string_bytes words.now) ≡ Some (OldCommand.Tar node) → result.status ≢ OldStatus.Same Status.NoMemory
         → IsTarAnswer (IsTarJudged D.view A.view disk result.disk archive result.archive node)
         (record { tells = K.tells; before = K.taken sink.old; after = K.taken sink.new }) result.status result.lacking.items }
     // Versions that lack are handed out with that status alone.
@@ -118,7 +120,7 @@ pub fn old_main<
         Some(OldCommand::Consult(question)) => {
             consult_words(alloc, &question, sink, disk, archive)
         }
-        Some(OldCommand::Tar(node)) => tar_words(alloc, node, sink, disk, archive),
+        Some(OldCommand::Tar(node)) => tar_words(alloc, &node, sink, disk, archive),
         None => {
             let status = write_old(alloc, sink, OldStatus::Same(Status::BadWords), &[]);
             unrun(alloc, status, disk, archive)
@@ -230,13 +232,13 @@ fn consult_words<K: Sink, D: Disk, A: Disk>(
 // Writes the tar of what a node came from.
 fn tar_words<K: Sink, D: Disk, A: Disk>(
     alloc: Global,
-    node: Node,
+    node: &Spelled,
     sink: &mut K,
     disk: D,
     archive: A,
 ) -> OldEnded<D, A>
     ensures tarred { result.status ≢ OldStatus.Same Status.NoMemory
-        → IsTarAnswer (IsTarJudged D.view A.view disk result.disk archive result.archive node)
+        → IsTarAnswer (IsTarJudged D.view A.view disk result.disk archive result.archive node.now)
         (record { tells = K.tells; before = K.taken sink.old; after = K.taken sink.new }) result.status result.lacking.items }
     ensures like { result.status ≢ OldStatus.Unlike }
     ensures lacking { ((n : AnyNode) → result.status ≢ OldStatus.Lacks n) → result.lacking.items ≡ [] }

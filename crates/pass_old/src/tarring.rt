@@ -6,13 +6,14 @@ ghost use Rattle.pass_recover.specs.Later.{IsLater, IsLeftAlone};
 ghost use Rattle.pass_old.specs.declared.status.OldStatus.{OldStatus as AnyStatus};
 ghost use Rattle.pass_old.specs.Answers.{IsWritten};
 ghost use Rattle.pass_old.specs.Consults.{IsJudgedByLog};
-ghost use Rattle.pass_old.specs.Tars.{IsTarAnswer, IsTarJudged, IsTarTold, tar_status};
+ghost use Rattle.pass_old.specs.Tars.{IsTarAnswer, IsTarJudged, IsTarOfNode, IsTarTold, tar_status};
 
 use crate::questions::unread;
 use crate::status::OldStatus;
 use crate::writing::write_old;
 use pass_ask::open_index;
 use pass_entry::Node;
+use pass_files::{Spelled, node_meant};
 use pass_inputs::{TarFault, write_tar};
 use pass_leaf::{Leaves, read_leaves};
 use pass_outside::{Disk, Sink};
@@ -71,7 +72,7 @@ fn write_versions<K: Sink>(
     sink: &mut K,
 ) -> Tarred
     ensures answer { result.status ≢ OldStatus.Same Status.NoMemory
-        → IsTarAnswer (λ (tar : List ℕ) (lacks : List AnyNode) (judged : AnyStatus). IsTarTold node tar lacks judged index.now leaves.now)
+        → IsTarAnswer (λ (tar : List ℕ) (lacks : List AnyNode) (judged : AnyStatus). IsTarOfNode node tar lacks judged index.now leaves.now)
         (record { tells = K.tells; before = K.taken sink.old; after = K.taken sink.new }) result.status result.lacking.items }
     ensures fault { result.status ≢ OldStatus.Same Status.NoMemory → (result.status ≡ OldStatus.Same Status.WriteFault ↔ HasRisen (K.fault_count sink.old) (K.fault_count sink.new)) }
     ensures unwritten { result.status ≡ OldStatus.Same Status.NoMemory → sink.new ≡ sink.old }
@@ -95,12 +96,12 @@ fn write_versions<K: Sink>(
 fn write_by_log<K: Sink, D: Disk>(
     alloc: Global,
     leaves: &Leaves,
-    node: Node,
+    node: &Spelled,
     sink: &mut K,
     disk: &mut D,
 ) -> Tarred
     ensures answer { result.status ≢ OldStatus.Same Status.NoMemory
-        → IsTarAnswer (λ (tar : List ℕ) (lacks : List AnyNode) (judged : AnyStatus). IsJudgedByLog (D.view disk.old) (D.view disk.new) leaves.now (IsTarTold node tar lacks judged) judged)
+        → IsTarAnswer (λ (tar : List ℕ) (lacks : List AnyNode) (judged : AnyStatus). IsJudgedByLog (D.view disk.old) (D.view disk.new) leaves.now (IsTarTold node.now tar lacks judged) judged)
         (record { tells = K.tells; before = K.taken sink.old; after = K.taken sink.new }) result.status result.lacking.items }
     ensures alone { IsLeftAlone (D.view disk.old) (D.view disk.new) }
     ensures later { IsLater (D.view disk.old) (D.view disk.new) }
@@ -111,7 +112,7 @@ fn write_by_log<K: Sink, D: Disk>(
 {
     let opened = disk.faults();
     match open_index(alloc, disk) {
-        Ok(index) => write_versions(alloc, &index, leaves, node, sink),
+        Ok(index) => write_versions(alloc, &index, leaves, node_meant(&index, node), sink),
         Err(fault) => {
             let status = opening_status(fault, opened, disk.faults());
             refuse(alloc, sink, OldStatus::Same(status))
@@ -123,13 +124,13 @@ fn write_by_log<K: Sink, D: Disk>(
 /// archive. The archive is read first. Nothing is written to either disk.
 pub(crate) fn tar<K: Sink, D: Disk, A: Disk>(
     alloc: Global,
-    node: Node,
+    node: &Spelled,
     sink: &mut K,
     disk: &mut D,
     archive: &mut A,
 ) -> Tarred
     ensures answer { result.status ≢ OldStatus.Same Status.NoMemory
-        → IsTarAnswer (IsTarJudged D.view A.view disk.old disk.new archive.old archive.new node)
+        → IsTarAnswer (IsTarJudged D.view A.view disk.old disk.new archive.old archive.new node.now)
         (record { tells = K.tells; before = K.taken sink.old; after = K.taken sink.new }) result.status result.lacking.items }
     ensures alone { IsLeftAlone (A.view archive.old) (A.view archive.new) }
     ensures later { IsLater (A.view archive.old) (A.view archive.new) }

@@ -1,12 +1,15 @@
 //! The commands of the program, and how its words name them.
-ghost use Rattle.std.specs.Prelude.{ℕ, ◌≡◌, ◌≤◌, ◌∷◌, [], true, IfOk, IsErr, Some, map, string_bytes};
+ghost use Rattle.std.specs.Prelude.{ℕ, ◌≡◌, ◌≤◌, ◌∷◌, [], true, IfOk, IsErr, Some, map, option_map, string_bytes};
 ghost use Rattle.pass_entry.specs.Texts.{is_name};
 ghost use Rattle.pass_trace.specs.Words.{is_text as is_text_of};
 ghost use Rattle.pass_ask.specs.Numbers.{last_number, number_in as number_of};
+ghost use Rattle.pass_ask.specs.Telling.{spelled_in as spelled_of};
 ghost use Rattle.pass_old.specs.Words.{IsNamed, called as called_of, command_of, diff_of, file_of, is_run as is_run_of, named_of, writes as writes_of};
 
-use pass_ask::{LAST_NUMBER, node_in, number_in};
+use pass_ask::{LAST_NUMBER, node_in, number_in, spelled_in};
 use pass_entry::{Node, Pnode, Text, TextFault};
+use pass_files::Spelled;
+use pass_status::Status;
 use std::alloc::{AllocError, Global};
 
 /// How many workers take the turns where the words don't say it.
@@ -25,7 +28,7 @@ pub enum OldCommand {
     /// To answer a question to the archive and the store's log.
     Consult(LogQuestion),
     /// To write the tar of what a node came from.
-    Tar(Node),
+    Tar(Spelled),
 }
 
 /// What may be asked of an archive.
@@ -101,6 +104,18 @@ fn versions(alloc: Global, word: &[u8]) -> Result<Option<OldCommand>, AllocError
     }
 }
 
+// The tar of what the node came from that the word gives.
+fn tar_of(alloc: Global, word: &[u8]) -> Result<Option<OldCommand>, AllocError>
+    ensures node { IfOk result (λ command. command ≡ option_map OldCommand.Tar (spelled_of word.now)) }
+    ensures refused { IsErr result → IsNamed (option_map OldCommand.Tar (spelled_of word.now)) }
+{
+    match spelled_in(alloc, word) {
+        Ok(node) => Ok(Some(OldCommand::Tar(node))),
+        Err(Status::NoMemory) => Err(AllocError),
+        Err(_) => Ok(None),
+    }
+}
+
 // The command with one further word.
 fn with_word(alloc: Global, name: &[u8], word: &[u8]) -> Result<Option<OldCommand>, AllocError>
     ensures command { IfOk result (λ command. command ≡ command_of (name.now ∷ word.now ∷ [])) }
@@ -111,7 +126,7 @@ fn with_word(alloc: Global, name: &[u8], word: &[u8]) -> Result<Option<OldComman
     } else if is_text(name, b"versions") {
         versions(alloc, word)
     } else if is_text(name, b"tar") {
-        Ok(node_in(word).map(OldCommand::Tar))
+        tar_of(alloc, word)
     } else {
         Ok(None)
     }

@@ -1,6 +1,6 @@
 use Rattle.std.proofs.Common.{◌≡◌, ◌⊎◌, ◌∙◌, refl, sym, ap, subst}
 use Rattle.std.specs.Prelude.{map, string_bytes}
-use Rattle.pass_entry.specs.declared.objects.Node.{Node}
+use Rattle.pass_files.specs.declared.spelled.Spelled.{Spelled}
 use Rattle.pass_ask.specs.Answers.{SinkSeen}
 use Rattle.pass_status.specs.declared.status.Status.TheVariants as status
 use Rattle.pass_old.specs.declared.status.OldStatus.{OldStatus}
@@ -15,7 +15,7 @@ use Rattle.pass_old.proofs.Steps.{later_at, left_at}
 use Rattle.pass_old.proofs.Texts.{stands_as, unlike_only}
 use Rattle.pass_old.proofs.Faulting.{answer_work, question_work, consult_work, words_work, answer_words, question_words, consult_words, tar_refused, tar_work}
 use Rattle.pass_old.proofs.Wholes.{answer_kept, answer_like}
-use Rattle.pass_old.proofs.Worded.{is_command, none_asked, other_asked, run_ask, run_consult, run_tar, ask_consult, ask_tar, consult_tar, named_not_none, named_not_run, named_not_asked, named_not_tar, one_question, one_consulted, one_tar}
+use Rattle.pass_old.proofs.Worded.{is_command, none_asked, other_asked, run_ask, run_consult, run_tar, ask_consult, ask_tar, consult_tar, named_not_none, named_not_run, named_not_asked, one_question, one_consulted, one_tar}
 use Rattle.pass_old.proofs.main_call.old_main.Goals as goal
 
 pub returns-in-Err-clause-bad_words : goal.returns-in-Err-clause-bad_words
@@ -40,7 +40,7 @@ pub returns-in-Err-clause-consulted : goal.returns-in-Err-clause-consulted
 returns-in-Err-clause-consulted g c = λ question is known. absurd (known c.unrun.ensures.status)
 
 pub returns-in-Err-clause-tarred : goal.returns-in-Err-clause-tarred
-returns-in-Err-clause-tarred g c = λ node is. absurd (named_not_tar (command_of (map string_bytes c.args.words.now)) node (c.in-Err.ensures.refused refl) is)
+returns-in-Err-clause-tarred g c = λ node is known. absurd (known c.unrun.ensures.status)
 
 pub returns-in-Err-clause-unrun : goal.returns-in-Err-clause-unrun
 returns-in-Err-clause-unrun g c = λ other. (record { nothing = c.unrun.ensures.nothing; disk = left_at g.D.Disk.view c.args.disk c.unrun.result.disk c.unrun.ensures.disk; kept = left_at g.A.Disk.view c.args.archive c.unrun.result.archive c.unrun.ensures.archive }, refl)
@@ -266,7 +266,7 @@ returns-in-Some-Tar-clause-tarred g c = λ node is known.
     let taken = g.K.Sink.taken in
     let sink : SinkSeen = record { tells = g.K.Sink.tells; before = taken c.args.sink.now; after = taken c.tar_words.new.sink } in
     let same = one_tar (command_of (map string_bytes c.args.words.now)) c.in-Some-Tar.node node (is_command c.in-Ok.command (command_of (map string_bytes c.args.words.now)) c.in-Some-Tar.field-0 (Tar c.in-Some-Tar.node) c.in-Ok.ensures.command c.in-Some-Tar.is c.in-Some-Tar.field-0-is) is in
-    subst (λ (n : Node). IsTarAnswer (IsTarJudged g.D.Disk.view g.A.Disk.view c.args.disk r.disk c.args.archive r.archive n) sink r.status r.lacking.items) same (c.tar_words.ensures.tarred known)
+    subst (λ (n : Spelled). IsTarAnswer (IsTarJudged g.D.Disk.view g.A.Disk.view c.args.disk r.disk c.args.archive r.archive n) sink r.status r.lacking.items) same (c.tar_words.ensures.tarred known)
 
 pub returns-in-Some-Tar-clause-unrun : goal.returns-in-Some-Tar-clause-unrun
 returns-in-Some-Tar-clause-unrun g c = λ other. (record { nothing = c.tar_words.ensures.nothing; disk = c.tar_words.ensures.store_alone; kept = c.tar_words.ensures.alone }, refl)

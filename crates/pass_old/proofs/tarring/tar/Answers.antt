@@ -23,11 +23,11 @@ returns-in-Ok-clause-answer g c = λ known.
     let before = view c.args.disk.now in
     let after = view w.new.disk in
     let sink : SinkSeen = record { tells = g.K.Sink.tells; before = taken c.args.sink.now; after = taken w.new.sink } in
-    judged_as (λ (t : List ℕ) (l : List Node) (j : OldStatus). IsJudgedByLog before after c.in-Ok.leaves (IsTarTold c.args.node t l j) j)
-    (IsTarJudged view archive_view c.args.disk.now w.new.disk c.args.archive.now c.read_leaves.new.disk c.args.node) sink w.result.status w.result.lacking.items
+    judged_as (λ (t : List ℕ) (l : List Node) (j : OldStatus). IsJudgedByLog before after c.in-Ok.leaves (IsTarTold c.args.node.now t l j) j)
+    (IsTarJudged view archive_view c.args.disk.now w.new.disk c.args.archive.now c.read_leaves.new.disk c.args.node.now) sink w.result.status w.result.lacking.items
     (λ t l j by. record {
       by = inr (record { leaves = c.in-Ok.leaves; end = c.in-Ok.ensures.leaves.0; is = c.in-Ok.ensures.leaves.1; by = by });
-      work = work_told (archive_view c.args.archive.now) (archive_view c.read_leaves.new.disk) c.in-Ok.leaves j (logged_not_archive before after c.in-Ok.leaves c.args.node t l j by) c.in-Ok.ensures.work;
+      work = work_told (archive_view c.args.archive.now) (archive_view c.read_leaves.new.disk) c.in-Ok.leaves j (logged_not_archive before after c.in-Ok.leaves c.args.node.now t l j by) c.in-Ok.ensures.work;
       reads = λ _. c.in-Ok.ensures.content;
     }) (w.ensures.answer known)
 
@@ -48,7 +48,7 @@ returns-in-Err-clause-answer g c = λ known.
     let r = c.refuse in
     let judged = c.unread.result in
     let sink : SinkSeen = record { tells = g.K.Sink.tells; before = taken c.args.sink.now; after = taken r.new.sink } in
-    refusal (IsTarJudged view archive_view c.args.disk.now c.args.disk.now c.args.archive.now c.read_leaves.new.disk c.args.node) judged sink r.result.status r.result.lacking.items
+    refusal (IsTarJudged view archive_view c.args.disk.now c.args.disk.now c.args.archive.now c.read_leaves.new.disk c.args.node.now) judged sink r.result.status r.result.lacking.items
     (record {
       by = inl (refl, record { fault = c.in-Err.fault; is = c.unread.ensures.status; cause = c.in-Err.ensures.cause });
       work = work_untold (archive_view c.args.archive.now) (archive_view c.read_leaves.new.disk) c.in-Err.fault nothing judged c.in-Err.ensures.cause (c.unread.ensures.status nothing) c.in-Err.ensures.work;

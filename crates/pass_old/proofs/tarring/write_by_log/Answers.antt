@@ -1,4 +1,4 @@
-use Rattle.std.proofs.Common.{◌≡◌, ◌∙◌, ℕ, List, inl, inr, refl, ap}
+use Rattle.std.proofs.Common.{◌≡◌, ◌∙◌, ℕ, List, inl, inr, refl, ap, subst}
 use Rattle.pass_entry.proofs.Variants.{err_inside}
 use Rattle.pass_entry.specs.declared.objects.Node.{Node}
 use Rattle.pass_recover.specs.declared.fault.OpenFault.TheVariants.{DiskFault}
@@ -8,7 +8,7 @@ use Rattle.pass_ask.specs.Answers.{SinkSeen}
 use Rattle.pass_old.specs.declared.status.OldStatus.{OldStatus}
 use Rattle.pass_old.specs.declared.status.OldStatus.TheVariants as old_status
 use Rattle.pass_old.specs.Consults.{IsJudgedByLog}
-use Rattle.pass_old.specs.Tars.{IsTarTold}
+use Rattle.pass_old.specs.Tars.{IsTarOfNode, IsTarTold}
 use Rattle.pass_old.proofs.Laden.{judged_as, refusal}
 use Rattle.pass_old.proofs.Steps.{opening_writes}
 use Rattle.pass_old.proofs.tarring.write_by_log.Goals as goal
@@ -19,13 +19,13 @@ returns-in-Ok-clause-answer g c = λ known.
     let view = g.D.Disk.view in
     let w = c.write_versions in
     let sink : SinkSeen = record { tells = g.K.Sink.tells; before = taken c.args.sink.now; after = taken w.new.sink } in
-    judged_as (λ (t : List ℕ) (l : List Node) (j : OldStatus). IsTarTold c.args.node t l j c.in-Ok.index c.args.leaves.now)
-    (λ (t : List ℕ) (l : List Node) (j : OldStatus). IsJudgedByLog (view c.args.disk.now) (view c.open_index.new.disk) c.args.leaves.now (IsTarTold c.args.node t l j) j)
+    judged_as (λ (t : List ℕ) (l : List Node) (j : OldStatus). IsTarOfNode c.node_meant.result t l j c.in-Ok.index c.args.leaves.now)
+    (λ (t : List ℕ) (l : List Node) (j : OldStatus). IsJudgedByLog (view c.args.disk.now) (view c.open_index.new.disk) c.args.leaves.now (IsTarTold c.args.node.now t l j) j)
     sink w.result.status w.result.lacking.items
     (λ t l j told. inr (record {
       list = c.in-Ok.index;
       logged = c.in-Ok.ensures.read;
-      told = told;
+      told = subst (λ (n : Node). IsTarOfNode n t l j c.in-Ok.index c.args.leaves.now) c.node_meant.ensures told;
       still = record { faults = c.in-Ok.ensures.no_fault (λ err. absurd (cc)); seen = c.in-Ok.ensures.stays (λ err. absurd (cc)) };
     })) (w.ensures.answer known)
 
@@ -39,7 +39,7 @@ returns-in-Err-clause-answer g c = λ known.
     let r = c.refuse in
     let judged = old_status.Same c.opening_status-status.result in
     let sink : SinkSeen = record { tells = g.K.Sink.tells; before = taken c.args.sink.now; after = taken r.new.sink } in
-    refusal (λ (t : List ℕ) (l : List Node) (j : OldStatus). IsJudgedByLog (view c.args.disk.now) (view c.open_index.new.disk) c.args.leaves.now (IsTarTold c.args.node t l j) j)
+    refusal (λ (t : List ℕ) (l : List Node) (j : OldStatus). IsJudgedByLog (view c.args.disk.now) (view c.open_index.new.disk) c.args.leaves.now (IsTarTold c.args.node.now t l j) j)
     judged sink r.result.status r.result.lacking.items
     (inl (record {
       fault = c.in-Err.fault;

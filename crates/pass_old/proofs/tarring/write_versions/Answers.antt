@@ -8,7 +8,7 @@ use Rattle.pass_old.specs.declared.status.OldStatus.{OldStatus}
 use Rattle.pass_old.specs.declared.status.OldStatus.TheVariants as old_status
 use Rattle.pass_inputs.specs.declared.fault.TarFault.TheVariants as tar_faults
 use Rattle.pass_old.specs.Answers.{IsWritten}
-use Rattle.pass_old.specs.Tars.{IsTarTold, tar_status}
+use Rattle.pass_old.specs.Tars.{IsTarOfNode, tar_status}
 use Rattle.pass_old.proofs.Laden.{broken, err_stays, made, made_done, made_not, not_risen, refusal}
 use Rattle.pass_old.proofs.tarring.write_versions.Given.{Over}
 use Rattle.pass_old.proofs.tarring.write_versions.Goals as goal
@@ -51,7 +51,7 @@ returns-in-Err-NoObject-clause-answer g c = λ known.
     let judged = old_status.Same (status.NoObject c.in-Err-NoObject.absent) in
     let absent = (c.write_tar.ensures.absent c.in-Err-NoObject.absent).0 (refused g c) in
     let sink : SinkSeen = record { tells = g.K.Sink.tells; before = taken c.args.sink.now; after = taken r.new.sink } in
-    refusal (λ (t : List ℕ) (l : List Node) (j : OldStatus). IsTarTold c.args.node t l j c.args.index.now c.args.leaves.now) judged sink r.result.status r.result.lacking.items
+    refusal (λ (t : List ℕ) (l : List Node) (j : OldStatus). IsTarOfNode c.args.node t l j c.args.index.now c.args.leaves.now) judged sink r.result.status r.result.lacking.items
     (inr (record { none = absent.1; lacks_none = refl; is = ap (λ (n : Node). old_status.Same (status.NoObject n)) absent.0 })) refl
     (subst (λ (before : List ℕ). IsWritten (record { tells = g.K.Sink.tells; before = before; after = taken r.new.sink }) judged r.result.status []) (ap taken (untouched g c)) (r.ensures.written known))
     r.ensures.lacking

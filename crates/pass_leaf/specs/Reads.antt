@@ -1,21 +1,22 @@
 -- What the readers of leaves and archives tell, and what an open archive keeps.
-use Rattle.std.specs.Prelude.{ℕ, ◌*◌, ◌<◌, ◌≤◌, ◌≡◌, ◌⊎◌, ◌↔◌, ◌^◌, List, [], ◌∷◌, ◌++◌, length, map, drop, IsTrue, IfSome, Vec}
+use Rattle.std.specs.Prelude.{ℕ, ◌*◌, ◌<◌, ◌≤◌, ◌≡◌, ◌⊎◌, ◌↔◌, ◌^◌, List, [], ◌∷◌, ◌++◌, length, map, drop, fold, slice_get, IsTrue, IfSome}
 use Rattle.std.specs.Int.{w16, w32, to_be_bytes}
-use Rattle.std.specs.Option.{option_map_or}
+use Rattle.std.specs.Option.{option_map_or, MatchOption}
 use Rattle.std.specs.Ordering.{nat_cmp}
 use Rattle.std.specs.BTreeMap.{BTreeMap, get}
-use Rattle.std.specs.declared.alloc.Global.{Global}
 use Rattle.pass_entry.specs.Limits.{block_size}
 use Rattle.pass_plain.specs.Records.{range_len}
 use Rattle.pass_outside.specs.Moments.{Moment, IsAtEnd}
 use Rattle.pass_log.specs.declared.log.Log.{Log}
 use Rattle.pass_log.specs.Frames.{IsFront}
 use Rattle.pass_log.specs.Log.{IsSettled}
+use Rattle.pass_leaf.specs.declared.known.Known.{Known}
+use Rattle.pass_leaf.specs.declared.known.Known.TheVariants.{Content, Places}
 use Rattle.pass_leaf.specs.declared.stock.Stock.{Stock}
 use Rattle.pass_leaf.specs.declared.tail.Tail.{Tail}
 use Rattle.pass_leaf.specs.declared.walk.Found.{Found}
 use Rattle.pass_leaf.specs.Leaves.{Leaf, IsFormed, leaf_bytes}
-use Rattle.pass_leaf.specs.Contents.{last_version, last_content, AreLeaves}
+use Rattle.pass_leaf.specs.Contents.{laid, last_version, last_content, AreLeaves}
 use Rattle.pass_leaf.specs.Gatherings.{frames_size}
 use Rattle.pass_leaf.specs.Archives.{IsArchive}
 
@@ -37,9 +38,22 @@ version_at versions pnode = option_map_or (λ v. v) (get nat_cmp versions pnode)
 abbrev pub AreVersions : BTreeMap ℕ ℕ → List Leaf → Type 0
 AreVersions versions leaves = (pnode : ℕ) → version_at versions pnode ≡ last_version leaves pnode
 
--- where a table has the content of a file, it is that of its last leaf
-abbrev pub AreContents : BTreeMap ℕ (Vec ℕ Global) → List Leaf → Type 0
-AreContents contents leaves = (pnode : ℕ) → IfSome (get nat_cmp contents pnode) (λ v. v.items ≡ last_content leaves pnode)
+-- what the leaf at a place makes of a content
+abbrev pub laid_at : List Leaf → List ℕ → ℕ → List ℕ
+laid_at leaves content place = option_map_or (laid content) (slice_get leaves place) content
+
+-- what is known of a file's last leaf: its content, or the places of the leaves that make it one after the other, whatever stands behind
+abbrev pub IsKnown : List Leaf → ℕ → Known → Type 0
+IsKnown leaves pnode (Content v) = v.items ≡ last_content leaves pnode
+IsKnown leaves pnode (Places v) = (more : List Leaf) → fold (laid_at (leaves ++ more)) [] v.items ≡ last_content leaves pnode
+
+-- where a table has a file, it has what is known of its last leaf
+abbrev pub AreContents : BTreeMap ℕ Known → List Leaf → Type 0
+AreContents contents leaves = (pnode : ℕ) → IfSome (get nat_cmp contents pnode) (IsKnown leaves pnode)
+
+-- and a file that it hasn't has no bytes
+abbrev pub AreAllKnown : BTreeMap ℕ Known → List Leaf → Type 0
+AreAllKnown contents leaves = (pnode : ℕ) → MatchOption (get nat_cmp contents pnode) (last_content leaves pnode ≡ []) (IsKnown leaves pnode)
 
 -- a frame is the next leaf behind these
 pub record IsNextLeaf (old : List Leaf) (frame : List ℕ) (new : List Leaf) : Type 0 where

@@ -5,10 +5,11 @@ ghost use Rattle.std.specs.BTreeMap.{get};
 ghost use Rattle.pass_leaf.specs.Leaves.{Leaf as AnyLeaf, IsFormed, leaf_bytes};
 ghost use Rattle.pass_leaf.specs.Contents.{last_content as last_content_of};
 ghost use Rattle.pass_leaf.specs.Keeping.{leaf_from};
-ghost use Rattle.pass_leaf.specs.Reads.{AreVersions, AreContents};
+ghost use Rattle.pass_leaf.specs.Reads.{IsKnown, AreVersions, AreContents};
 
 use crate::Leaf;
 use crate::content::{last_content, lay};
+use crate::known::Known;
 use crate::making::make_leaf;
 use pass_entry::{Node, Pnode};
 use std::alloc::{AllocError, Global};
@@ -33,26 +34,18 @@ pub(crate) fn make_room(
     Ok(())
 }
 
-/// The content of a file's last leaf, taken out of a table where it is there.
-pub(crate) fn take_content(contents: &mut BTreeMap<u64, Vec<u8>>, pnode: Pnode) -> Option<Vec<u8>>
-    ensures content { (leaves : List AnyLeaf) → AreContents contents.old leaves → IfSome result (λ v. v.items ≡ last_content_of leaves pnode) }
-    ensures contents { (leaves : List AnyLeaf) → AreContents contents.old leaves → AreContents contents.new leaves }
-{
-    contents.remove(&pnode.0)
-}
-
-// The content of a file's last leaf, which may be there already.
+// The content of a file's last leaf. All leaves are gone through where nothing is known of it.
 fn content_before(
     alloc: Global,
     leaves: &[Leaf],
-    taken: Option<Vec<u8>>,
+    taken: Option<Known>,
     pnode: Pnode,
 ) -> Result<Vec<u8>, AllocError>
-    requires { IfSome taken (λ v. v.items ≡ last_content_of leaves.now pnode) }
+    requires { IfSome taken (IsKnown leaves.now pnode) }
     ensures { IfOk result (λ v. v.items ≡ last_content_of leaves.now pnode) }
 {
     match taken {
-        Some(content) => Ok(content),
+        Some(known) => known.content(alloc, leaves),
         None => last_content(alloc, leaves, pnode),
     }
 }
@@ -64,17 +57,17 @@ pub(crate) struct Next {
     pub(crate) leaf: Leaf,
 }
 
-/// Makes the next leaf of a file, the content of whose last leaf may be there already.
+/// Makes the next leaf of a file, of whose last leaf something may be known.
 pub(crate) fn next_leaf(
     alloc: Global,
     leaves: &[Leaf],
-    taken: Option<Vec<u8>>,
+    taken: Option<Known>,
     node: Node,
     content: &[u8],
 ) -> Result<Next, AllocError>
     requires pnode { 1 ≤ node.pnode }
     requires size { length content.now ≤ 2 ^ 28 }
-    requires taken { IfSome taken (λ v. v.items ≡ last_content_of leaves.now node.pnode) }
+    requires taken { IfSome taken (IsKnown leaves.now node.pnode) }
     ensures old { IfOk result (λ next. next.old.items ≡ last_content_of leaves.now node.pnode) }
     ensures leaf { IfOk result (λ next. next.leaf ≡ leaf_from (last_content_of leaves.now node.pnode) node content.now) }
     ensures formed { IfOk result (λ next. IsFormed next.leaf) }
@@ -86,14 +79,14 @@ pub(crate) fn next_leaf(
 }
 
 // Keeps the content of a file's next leaf in a table, where memory has room for it.
-fn remember(contents: &mut BTreeMap<u64, Vec<u8>>, old: Vec<u8>, leaf: &Leaf)
+fn remember(contents: &mut BTreeMap<u64, Known>, old: Vec<u8>, leaf: &Leaf)
     ensures { (leaves : List AnyLeaf) → AreContents contents.old leaves → old.items ≡ last_content_of leaves leaf.now.node.pnode → AreContents contents.new (leaves ++ leaf.now ∷ []) }
 {
     let pnode = leaf.node().pnode;
     let _ = contents.remove(&pnode.0);
     let mut content = old;
     if lay(&mut content, leaf).is_ok() {
-        let _ = contents.insert(pnode.0, content);
+        let _ = contents.insert(pnode.0, Known::Content(content));
     }
 }
 
@@ -114,7 +107,7 @@ fn put(leaves: &mut Vec<Leaf>, versions: &mut BTreeMap<u64, u64>, leaf: Leaf)
 pub(crate) fn enter(
     leaves: &mut Vec<Leaf>,
     versions: &mut BTreeMap<u64, u64>,
-    contents: &mut BTreeMap<u64, Vec<u8>>,
+    contents: &mut BTreeMap<u64, Known>,
     next: Next,
 )
     requires versions { AreVersions versions.old leaves.old.items }

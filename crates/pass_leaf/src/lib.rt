@@ -4,6 +4,7 @@
 mod content;
 mod entering;
 mod fault;
+mod known;
 pub mod laws;
 mod leaf;
 mod leaves;

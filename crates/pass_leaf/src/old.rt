@@ -10,6 +10,7 @@ ghost use Rattle.pass_leaf.specs.Reads.{AreVersions, EndsThere, IsStock};
 ghost use Rattle.pass_leaf.specs.Open.{IsUnwritten};
 
 use crate::OldFault;
+use crate::known::known_of;
 use crate::leaves::{bytes_in, find};
 use crate::shelf::Shelf;
 use crate::stock::Stock;
@@ -18,11 +19,10 @@ use crate::walk::Found;
 use pass_entry::Node;
 use pass_outside::Disk;
 use std::alloc::Global;
-use std::collections::BTreeMap;
 use std::marker::Model;
 
 /// An archive on its disk: a leaf for each version that was kept, in order. It holds them in memory, and beside them the content
-/// of the last leaf of each file of which it was asked to keep one more.
+/// of the last leaf of each file of which it kept one more, and the places of the leaves of the others.
 #[derive(Drop)]
 pub struct Old<A: Disk> {
     shelf: Shelf<A>,
@@ -189,10 +189,11 @@ fn stock_of(alloc: Global, found: Found) -> Stock
     ensures frames { result.frames.items ≡ [] }
 {
     let written = found.leaves.len();
+    let contents = known_of(alloc, &found.leaves);
     Stock {
         leaves: found.leaves,
         versions: found.versions,
-        contents: BTreeMap::new(alloc),
+        contents,
         written,
         frames: Vec::new(alloc),
     }

@@ -10,20 +10,21 @@ ghost use Rattle.pass_leaf.specs.Reads.{AreVersions, AreContents, IsBatch, IsGat
 
 use crate::Leaf;
 use crate::content::put;
-use crate::entering::{Next, enter, make_room, next_leaf, take_content};
+use crate::entering::{Next, enter, make_room, next_leaf};
+use crate::known::{Known, take_known};
 use crate::walk::{OPEN, version_of};
 use crate::writing::stage;
 use pass_entry::Node;
 use std::alloc::{AllocError, Global};
 use std::collections::BTreeMap;
 
-/// The leaves of an archive with the version of each file's last one, the contents of some last leaves, how many of the leaves are
+/// The leaves of an archive with the version of each file's last one, what is known of the last contents, how many of the leaves are
 /// on the disk, and the bytes that the first write of the others has.
 #[derive(Drop)]
 pub(crate) struct Stock {
     pub(crate) leaves: Vec<Leaf>,
     pub(crate) versions: BTreeMap<u64, u64>,
-    pub(crate) contents: BTreeMap<u64, Vec<u8>>,
+    pub(crate) contents: BTreeMap<u64, Known>,
     pub(crate) written: usize,
     pub(crate) frames: Vec<u8>,
 }
@@ -94,7 +95,7 @@ impl Stock {
         ensures fits { IfOk result (λ made. length (leaf_bytes made.next.leaf) < 2 ^ 32) }
     {
         let pnode = node.pnode;
-        let taken = take_content(&mut self.contents, pnode);
+        let taken = take_known(alloc, &self.versions, &mut self.contents, pnode);
         let next = next_leaf(alloc, &self.leaves, taken, node, content)?;
         let frame = stage(alloc, &next.leaf)?;
         make_room(&mut self.leaves, &mut self.versions, pnode)?;

@@ -1,5 +1,6 @@
 -- How the steps of a call follow one another that its process does not refuse.
-use Rattle.std.proofs.Common.{◌≡◌, ℕ, ◌+◌, ◌-◌, List, [], ◌∷◌, ◌++◌, length, ap, sym, ◌∙◌, subst, true, false, ◌==◌}
+use Rattle.std.proofs.Common.{◌≡◌, ℕ, ◌+◌, ◌-◌, List, [], ◌∷◌, ◌++◌, length, ap, sym, ◌∙◌, subst, true, false, ◌==◌, ◌||◌}
+use Rattle.std.proofs.lemmas.Bool.{or_parts}
 use Rattle.std.specs.Prelude.{Option, Some, None, slice_get, if◌then◌else◌}
 use Rattle.std.specs.Option.{option_map_or}
 use Rattle.pass_entry.specs.declared.entry.Act.{Act}
@@ -12,12 +13,13 @@ use Rattle.pass_plain.specs.declared.request.Request.{Request}
 use Rattle.pass_plain.specs.Calls.{Made, Step, ask_of, call_steps, is_last, is_within, name_of, refused_ask, steps_of}
 use Rattle.pass_plain.specs.Histories.{is_fault, own_step}
 use Rattle.pass_plain.specs.Legal.{CallerAllows, is_start, last_number}
-use Rattle.pass_plain.specs.Places.{keeps, need_of}
+use Rattle.pass_plain.specs.Places.{is_exit, need_of}
 use Rattle.pass_plain.specs.Processes.{Process, process_act, process_after, refusal}
 use Rattle.pass_plain.specs.Sessions.{Session}
 use Rattle.pass_plain.proofs.Lists.{same_itself}
 use Rattle.pass_plain.proofs.Replays.{own_step-own}
 use Rattle.pass_hold.specs.Callings.{IsEntered, IsGoing, HasGone, IsInCall}
+use Rattle.pass_hold.specs.Entering.{MayEnter}
 use Rattle.pass_hold.proofs.Callings.{entry_of, allows, keeps_going, goes}
 use Rattle.pass_proc.proofs.Steps.{unchanged}
 
@@ -48,8 +50,11 @@ module _ (session : Session) (before seen : List Entry) (who number : ℕ) (r : 
   pub next_allows : is_start (name_of r) ≡ false → is_within r ≡ true → IsGoing session before seen who number r p made now → CallerAllows seen e
   next_allows ordinary within going = allows session before seen who number r p made now what a reply next going ordinary within
 
-  pub next_keeps : IsGoing session before seen who number r p made now → keeps seen e ≡ (if is_last p e then 0 else need_of (name_of r) - (length made + 1))
-  next_keeps going = keeps_going session before seen who number r p made now what a reply next going.is
+  pub next_may : is_start (name_of r) || is_exit (name_of r) ≡ false → is_within r ≡ true → IsGoing session before seen who number r p made now
+      → (held : ℕ) → held ≡ (if is_last p e then 0 else need_of (name_of r) - (length made + 1)) → MayEnter seen e held
+  next_may ordinary within going held is =
+      let neither = or_parts (is_start (name_of r)) (is_exit (name_of r)) ordinary in
+      record { exit = neither.1; allows = next_allows neither.0 within going; keep = is ∙ sym (keeps_going session before seen who number r p made now what a reply next going.is) }
 
   module _ (desk after : List Entry) (going : IsGoing session before seen who number r p made now) (entered : IsEntered session seen desk after e) where
     gone : HasGone session before after who number r p (made ++ (length entered.past, e) ∷ []) (own_step (λ past p e. process_act past p e.act) who entered.past now e)

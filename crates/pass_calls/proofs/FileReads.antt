@@ -16,21 +16,20 @@ use Rattle.pass_plain.specs.declared.request.Request.{Request}
 use Rattle.pass_plain.specs.declared.request.Request.TheVariants as requests
 use Rattle.pass_plain.specs.Calls.{Made, is_fd, is_within, no_descriptor, refused_ask, steps_of}
 use Rattle.pass_plain.specs.Histories.{bytes_at, bytes_of}
-use Rattle.pass_plain.specs.Legal.{CallerAllows}
-use Rattle.pass_plain.specs.Places.{keeps}
 use Rattle.pass_plain.specs.Processes.{Process, changed_at, is_file, refusal, risen}
 use Rattle.pass_plain.specs.Sessions.{Session}
 use Rattle.pass_plain.specs.Versions.{nodes_of}
 use Rattle.pass_plain.proofs.Appends.{slice_get-append}
 use Rattle.pass_plain.proofs.Lists.{both_true}
 use Rattle.pass_hold.specs.Callings.{IsEntered, IsGoing, IsIdle, HasGone}
+use Rattle.pass_hold.specs.Entering.{MayEnter}
 use Rattle.pass_hold.proofs.Callings.{call_made, entry_of, idle_again, more}
 use Rattle.pass_proc.specs.Views.{ProcessView}
 use Rattle.pass_proc.proofs.Steps.{begun, low_fd}
 use Rattle.pass_answer.specs.Answers.{HasMoved}
 use Rattle.pass_answer.specs.declared.answer.Moved.TheVariants as moved
 use Rattle.pass_calls.proofs.Nodes.{node_there}
-use Rattle.pass_answer.proofs.Steps.{gone_by, gone_own, next_allows, next_keeps, not_refused}
+use Rattle.pass_answer.proofs.Steps.{gone_by, gone_own, next_may, not_refused}
 
 -- a process that has read bytes by a descriptor
 abbrev pub read_of : ProcessView → ProcessView → List Entry → ℕ → List ℕ → ProcessView
@@ -68,11 +67,8 @@ module _ (session : Session) (seen : List Entry) (who number : ℕ) (p : Process
   first : IsGoing session seen seen who number r p [] p
   first = begun session seen who number p r idle some
 
-  pub give_allows : CallerAllows seen e
-  give_allows = next_allows session seen seen who number r p [] p fine what (act.Give d.offset len) gives (answer.Took bytes) refl within first
-
-  pub give_keeps : 2 ≡ keeps seen e
-  give_keeps = sym (next_keeps session seen seen who number r p [] p fine what (act.Give d.offset len) gives (answer.Took bytes) first)
+  pub give_may : MayEnter seen e 2
+  give_may = next_may session seen seen who number r p [] p fine what (act.Give d.offset len) gives (answer.Took bytes) refl within first 2 refl
 
   module _ (desk after : List Entry) (out : ℕ) (at : out + 1 ≡ length after) (entered : IsEntered session seen desk after e) where
     abbrev one : Made
@@ -93,11 +89,8 @@ module _ (session : Session) (seen : List Entry) (who number : ℕ) (p : Process
     second : slice_get (steps_of who p one r) 1 ≡ Some (who, act.Gain out fd)
     second = ap (λ n. Some (who, act.Gain n fd)) place_is
 
-    pub gain_allows : CallerAllows after f
-    gain_allows = next_allows session seen after who number r p one p fine who (act.Gain out fd) second answer.Done refl within going
-
-    pub gain_keeps : 0 ≡ keeps after f
-    gain_keeps = sym (next_keeps session seen after who number r p one p fine who (act.Gain out fd) second answer.Done going)
+    pub gain_may : MayEnter after f 0
+    gain_may = next_may session seen after who number r p one p fine who (act.Gain out fd) second answer.Done refl within going 0 refl
 
     there : slice_get after out ≡ Some e
     there = ap (λ h. slice_get h out) entered.whole ∙ ap (λ n. slice_get (entered.past ++ e ∷ []) n) (sym place_is) ∙ slice_get-last entered.past e

@@ -14,19 +14,18 @@ use Rattle.pass_entry.specs.declared.objects.Node.{Node}
 use Rattle.pass_plain.specs.declared.request.Request.{Request}
 use Rattle.pass_plain.specs.declared.request.Request.TheVariants as requests
 use Rattle.pass_plain.specs.Calls.{is_fd, is_within, no_descriptor, refused_ask, steps_of}
-use Rattle.pass_plain.specs.Legal.{CallerAllows}
-use Rattle.pass_plain.specs.Places.{keeps}
 use Rattle.pass_plain.specs.Processes.{Process, is_file, refusal}
 use Rattle.pass_plain.specs.Sessions.{Session}
 use Rattle.pass_plain.specs.Versions.{nodes_of}
 use Rattle.pass_plain.proofs.Lists.{both_true}
 use Rattle.pass_hold.specs.Callings.{IsEntered, IsIdle}
+use Rattle.pass_hold.specs.Entering.{MayEnter}
 use Rattle.pass_hold.proofs.Callings.{entry_of}
 use Rattle.pass_proc.proofs.Steps.{low_fd}
 use Rattle.pass_answer.specs.Answers.{HasMoved}
 use Rattle.pass_answer.specs.declared.answer.Moved.TheVariants as moved
 use Rattle.pass_answer.proofs.Steps.{not_refused}
-use Rattle.pass_calls.proofs.Shown.{both_idle, both_made, node_at, show_allows, show_keeps, shown, take_allows, take_keeps}
+use Rattle.pass_calls.proofs.Shown.{both_idle, both_made, node_at, show_may, shown, take_may}
 
 module _ (session : Session) (seen : List Entry) (who number : ℕ) (p : Process) (fd : ℕ) (bytes : List ℕ) (idle : IsIdle session seen who (number - 1) p) (some : 0 < number)
     (free : refusal p (ask.ToWrite fd (length bytes)) ≡ None) (low : fd < 64) (few : length bytes ≤ transfer_limit) where
@@ -42,11 +41,8 @@ module _ (session : Session) (seen : List Entry) (who number : ℕ) (p : Process
   abbrev e : Entry
   e = entry_of who number r who (act.Show fd (length bytes)) answer.Done
 
-  pub first_allows : CallerAllows seen e
-  first_allows = show_allows session seen who number r p idle some fine refl within refl fd (length bytes) refl refl
-
-  pub first_keeps : 2 ≡ keeps seen e
-  first_keeps = show_keeps session seen who number r p idle some fine refl within refl fd (length bytes) refl refl
+  pub first_may : MayEnter seen e 2
+  first_may = show_may session seen who number r p idle some fine refl within refl fd (length bytes) refl refl
 
   module _ (d : Descriptor) (held : finite_map.get p.descriptors fd ≡ Some d) (file : is_file d ≡ true) (what : ℕ) (object : what ≡ d.pnode)
       (desk after : List Entry) (out : ℕ) (at : out + 1 ≡ length after) (entered : IsEntered session seen desk after e) where
@@ -59,11 +55,8 @@ module _ (session : Session) (seen : List Entry) (who number : ℕ) (p : Process
     abbrev f : Entry
     f = entry_of who number r what (act.Put out d.offset bytes) answer.Done
 
-    pub put_allows : CallerAllows after f
-    put_allows = take_allows session seen who number r p idle some fine refl within refl fd (length bytes) refl refl desk after out at entered what (act.Put out d.offset bytes) takes refl
-
-    pub put_keeps : 0 ≡ keeps after f
-    put_keeps = take_keeps session seen who number r p idle some fine refl within refl fd (length bytes) refl refl desk after out at entered what (act.Put out d.offset bytes) takes refl
+    pub put_may : MayEnter after f 0
+    put_may = take_may session seen who number r p idle some fine refl within refl fd (length bytes) refl refl desk after out at entered what (act.Put out d.offset bytes) takes refl
 
     module _ (own later : List Entry) (put : IsEntered session after own later f) where
       pub put_made : (to : Node) → slice_get (nodes_of session later) (length later - 1) ≡ Some to → HasMoved session who seen later (shown p fd (length bytes)) r (moved.Wrote (length bytes) to)

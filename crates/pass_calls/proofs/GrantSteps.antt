@@ -9,11 +9,12 @@ use Rattle.pass_entry.specs.declared.entry.Reply.TheVariants as answer
 use Rattle.pass_plain.specs.declared.request.Request.{Request}
 use Rattle.pass_plain.specs.Calls.{Made, ask_of, is_last_act, is_within, name_of, refused_ask, steps_of}
 use Rattle.pass_plain.specs.Histories.{is_fault}
-use Rattle.pass_plain.specs.Legal.{CallerAllows, ends_call, is_start}
-use Rattle.pass_plain.specs.Places.{is_exit, kept_by, keeps, need_of}
+use Rattle.pass_plain.specs.Legal.{ends_call, is_start}
+use Rattle.pass_plain.specs.Places.{is_exit, kept_by, need_of}
 use Rattle.pass_plain.specs.Processes.{Process, process_act, refusal}
 use Rattle.pass_plain.specs.Sessions.{Session}
 use Rattle.pass_hold.specs.Callings.{IsEntered, IsIdle, IsGoing, HasGone}
+use Rattle.pass_hold.specs.Entering.{MayEnter}
 use Rattle.pass_hold.proofs.Callings.{entry_of, more, call_made, idle_again}
 use Rattle.pass_proc.specs.Acts.{own_entry}
 use Rattle.pass_proc.specs.CallEnds.{HasReplied}
@@ -27,15 +28,14 @@ use Rattle.pass_calls.specs.declared.granting.Attach.{Attach}
 use Rattle.pass_calls.specs.declared.granting.Attach.TheVariants as attach
 use Rattle.pass_calls.specs.declared.granting.Grant.{Grant}
 use Rattle.pass_calls.specs.declared.granting.Grant.TheVariants as grant
-use Rattle.pass_answer.proofs.Steps.{not_refused, next_allows, next_keeps, gone_by, gone_own}
+use Rattle.pass_answer.proofs.Steps.{not_refused, next_may, gone_by, gone_own}
 
 -- what the calls have in common
 record IsTwoSteps (g : Grant) (r : Request) (a : Act) (t : Attach) : Type 0 where
   asked : ask_of r ≡ Some (ask_of_grant g)
-  ordinary : is_start (name_of r) ≡ false
+  ordinary : is_start (name_of r) || is_exit (name_of r) ≡ false
   needs : need_of (name_of r) ≡ 3
   named : call_of t ≡ name_of r
-  leaves : is_exit (call_of t) ≡ false
   begun : (way : Option Way) → resumes way r ≡ false
   begins : (who : ℕ) (p : Process) → slice_get (steps_of who p [] r) 0 ≡ Some (0, a)
   stays : (past : List Entry) (p : Process) → process_act past p a ≡ p
@@ -43,16 +43,13 @@ record IsTwoSteps (g : Grant) (r : Request) (a : Act) (t : Attach) : Type 0 wher
   ends : (p : Process) (n : ℕ) → is_last_act p (name_of r) (attached_by t n) ≡ true
 
 two_steps : (g : Grant) → IsTwoSteps g (request_of g) (first_of g) (attach_of g)
-two_steps (grant.Bind fd name) = record { asked = refl; ordinary = refl; needs = refl; named = refl; leaves = refl; begun = λ way. refl; begins = λ who p. refl; stays = λ past p. refl; goes_on = λ p. refl; ends = λ p n. refl }
-two_steps (grant.Find fd name m) = record { asked = refl; ordinary = refl; needs = refl; named = refl; leaves = refl; begun = λ way. refl; begins = λ who p. refl; stays = λ past p. refl; goes_on = λ p. refl; ends = λ p n. refl }
-two_steps (grant.App fd list) = record { asked = refl; ordinary = refl; needs = refl; named = refl; leaves = refl; begun = λ way. refl; begins = λ who p. refl; stays = λ past p. refl; goes_on = λ p. refl; ends = λ p n. refl }
-two_steps (grant.Known fd pnode) = record { asked = refl; ordinary = refl; needs = refl; named = refl; leaves = refl; begun = λ way. refl; begins = λ who p. refl; stays = λ past p. refl; goes_on = λ p. refl; ends = λ p n. refl }
-two_steps (grant.Pipe reader writer list) = record { asked = refl; ordinary = refl; needs = refl; named = refl; leaves = refl; begun = λ way. refl; begins = λ who p. refl; stays = λ past p. refl; goes_on = λ p. refl; ends = λ p n. refl }
+two_steps (grant.Bind fd name) = record { asked = refl; ordinary = refl; needs = refl; named = refl; begun = λ way. refl; begins = λ who p. refl; stays = λ past p. refl; goes_on = λ p. refl; ends = λ p n. refl }
+two_steps (grant.Find fd name m) = record { asked = refl; ordinary = refl; needs = refl; named = refl; begun = λ way. refl; begins = λ who p. refl; stays = λ past p. refl; goes_on = λ p. refl; ends = λ p n. refl }
+two_steps (grant.App fd list) = record { asked = refl; ordinary = refl; needs = refl; named = refl; begun = λ way. refl; begins = λ who p. refl; stays = λ past p. refl; goes_on = λ p. refl; ends = λ p n. refl }
+two_steps (grant.Known fd pnode) = record { asked = refl; ordinary = refl; needs = refl; named = refl; begun = λ way. refl; begins = λ who p. refl; stays = λ past p. refl; goes_on = λ p. refl; ends = λ p n. refl }
+two_steps (grant.Pipe reader writer list) = record { asked = refl; ordinary = refl; needs = refl; named = refl; begun = λ way. refl; begins = λ who p. refl; stays = λ past p. refl; goes_on = λ p. refl; ends = λ p n. refl }
 
--- it makes no exit, and goes on with no write
-pub no_exit : (g : Grant) → is_exit (call_of (attach_of g)) ≡ false
-no_exit g = (two_steps g).leaves
-
+-- it goes on with no write
 pub new_grant : (g : Grant) (way : Option Way) → resumes way (request_of g) ≡ false
 new_grant g way = (two_steps g).begun way
 
@@ -102,12 +99,10 @@ module _ (session : Session) (seen : List Entry) (who number : ℕ) (p : Process
   going : IsGoing session seen seen who number r p [] p
   going = begun session seen who number p r idle some
 
-  pub first_allows : (reply : Reply) → CallerAllows seen (first reply)
-  first_allows reply = next_allows session seen seen who number r p [] p fine 0 (first_of g) (is.begins who p) reply is.ordinary within going
-
-  pub first_keeps : (reply : Reply) → kept_by reply 2 ≡ keeps seen (first reply)
-  first_keeps reply = at_fault (is_fault reply) (is_last_act p (name_of r) (first_of g)) (is.goes_on p) (need_of (name_of r)) is.needs
-      ∙ sym (next_keeps session seen seen who number r p [] p fine 0 (first_of g) (is.begins who p) reply going)
+  pub first_may : (reply : Reply) → MayEnter seen (first reply) (kept_by reply 2)
+  first_may reply =
+      next_may session seen seen who number r p [] p fine 0 (first_of g) (is.begins who p) reply is.ordinary within going (kept_by reply 2)
+      (at_fault (is_fault reply) (is_last_act p (name_of r) (first_of g)) (is.goes_on p) (need_of (name_of r)) is.needs)
     where
       at_fault : (b l : Bool) → l ≡ false → (n : ℕ) → n ≡ 3 → ◌≡◌ {A = ℕ} (if b then 0 else 2) (if b || l then 0 else n - (0 + 1))
       at_fault true l on n three = refl
@@ -155,14 +150,10 @@ module _ (session : Session) (seen : List Entry) (who number : ℕ) (p : Process
     same : entry_of who number r who (attached_by (attach_of g) n) answer.Done ≡ second t
     same = ap (λ c. own_entry who number c (attached_by (attach_of g) n) answer.Done) (sym is.named) ∙ ap second (sym attached)
 
-    pub second_allows : CallerAllows after (second t)
-    second_allows = subst (λ e. CallerAllows after e) same
-        (next_allows session seen after who number r p made p fine who (attached_by (attach_of g) n) next answer.Done is.ordinary within on)
-
-    pub second_keeps : 0 ≡ keeps after (second t)
-    second_keeps = subst (λ e. 0 ≡ keeps after e) same
-        (sym (next_keeps session seen after who number r p made p fine who (attached_by (attach_of g) n) next answer.Done on
-        ∙ ap (λ b. if b then 0 else need_of (name_of r) - (1 + 1)) (is.ends p n)))
+    pub second_may : MayEnter after (second t) 0
+    second_may = subst (λ e. MayEnter after e 0) same
+        (next_may session seen after who number r p made p fine who (attached_by (attach_of g) n) next answer.Done is.ordinary within on 0
+        (sym (ap (λ b. if b then 0 else need_of (name_of r) - (1 + 1)) (is.ends p n))))
 
     module _ (own last : List Entry) (done : IsEntered session after own last (second t)) where
       abbrev now : Process

@@ -15,18 +15,17 @@ use Rattle.pass_entry.specs.declared.objects.End.{End}
 use Rattle.pass_plain.specs.declared.request.Request.{Request}
 use Rattle.pass_plain.specs.declared.request.Request.TheVariants as requests
 use Rattle.pass_plain.specs.Calls.{Made, descriptor_at, end_of, is_within, no_descriptor, refused_ask, steps_of}
-use Rattle.pass_plain.specs.Legal.{CallerAllows}
-use Rattle.pass_plain.specs.Places.{keeps}
 use Rattle.pass_plain.specs.Processes.{Process, faults_if, is_pipe, refusal}
 use Rattle.pass_plain.specs.Sessions.{Session}
 use Rattle.pass_hold.specs.Callings.{IsEntered, IsIdle, IsGoing, HasGone}
+use Rattle.pass_hold.specs.Entering.{MayEnter}
 use Rattle.pass_hold.proofs.Callings.{entry_of, more, call_made, idle_again}
 use Rattle.pass_pipe.specs.Desks.{leave_entry}
 use Rattle.pass_proc.specs.Acts.{own_entry}
 use Rattle.pass_proc.proofs.Steps.{begun, low_fd}
 use Rattle.pass_answer.specs.Answers.{HasMoved}
 use Rattle.pass_answer.specs.declared.answer.Moved.TheVariants as moved
-use Rattle.pass_answer.proofs.Steps.{not_refused, next_allows, next_keeps, gone_by, gone_own}
+use Rattle.pass_answer.proofs.Steps.{not_refused, next_may, gone_by, gone_own}
 
 module _ (session : Session) (seen : List Entry) (who number : ℕ) (p : Process) (fd : ℕ) (idle : IsIdle session seen who (number - 1) p) (some : 0 < number)
     (free : refusal p (ask.Held fd) ≡ None) (low : fd < 64) (pipe : is_pipe (descriptor_at p fd) ≡ true) where
@@ -45,11 +44,8 @@ module _ (session : Session) (seen : List Entry) (who number : ℕ) (p : Process
   abbrev given : Entry
   given = own_entry who number calls.CloseFd (act.Detach fd) answer.Done
 
-  pub detach_allows : CallerAllows seen given
-  detach_allows = next_allows session seen seen who number r p [] p fine who (act.Detach fd) refl answer.Done refl within going
-
-  pub detach_keeps : 2 ≡ keeps seen given
-  detach_keeps = sym (next_keeps session seen seen who number r p [] p fine who (act.Detach fd) refl answer.Done going ∙ ap (λ b. if not b then 0 else 3 - (0 + 1)) pipe)
+  pub detach_may : MayEnter seen given 2
+  detach_may = next_may session seen seen who number r p [] p fine who (act.Detach fd) refl answer.Done refl within going 2 (sym (ap (λ b. if not b then 0 else 3 - (0 + 1)) pipe))
 
   module _ (own after : List Entry) (detached : IsEntered session seen own after given) where
     abbrev now : Process
@@ -76,8 +72,8 @@ module _ (session : Session) (seen : List Entry) (who number : ℕ) (p : Process
       same : entry_of who number r what leaves answer.Done ≡ left
       same = ap (λ w. leave_entry w number calls.CloseFd what (end_of (descriptor_at p fd).mode)) (sym of) ∙ ap (λ x. leave_entry by number calls.CloseFd what x) (sym its)
 
-      pub leave_allows : CallerAllows after left
-      leave_allows = subst (λ e. CallerAllows after e) same (next_allows session seen after who number r p one now fine what leaves next answer.Done refl within on)
+      pub leave_may : MayEnter after left 0
+      leave_may = subst (λ e. MayEnter after e 0) same (next_may session seen after who number r p one now fine what leaves next answer.Done refl within on 0 refl)
 
       module _ (desk last : List Entry) (done : IsEntered session after desk last left) where
         entered : IsEntered session after desk last (entry_of who number r what leaves answer.Done)

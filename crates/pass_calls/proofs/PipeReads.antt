@@ -17,8 +17,6 @@ use Rattle.pass_plain.specs.declared.request.Request.{Request}
 use Rattle.pass_plain.specs.declared.request.Request.TheVariants as requests
 use Rattle.pass_plain.specs.Calls.{Made, Step, is_fd, is_within, refused_ask, steps_of}
 use Rattle.pass_plain.specs.Histories.{bytes_at, bytes_of}
-use Rattle.pass_plain.specs.Legal.{CallerAllows}
-use Rattle.pass_plain.specs.Places.{keeps}
 use Rattle.pass_plain.specs.Pipes.{pipe_after}
 use Rattle.pass_plain.specs.Processes.{Process, changed_at, is_file, is_pipe, refusal, risen}
 use Rattle.pass_plain.specs.Replies.{taken}
@@ -27,6 +25,7 @@ use Rattle.pass_plain.specs.Versions.{nodes_of}
 use Rattle.pass_plain.proofs.Lists.{both_true}
 use Rattle.pass_plain.proofs.Versioned.{short_get}
 use Rattle.pass_hold.specs.Callings.{IsEntered, IsIdle, IsInCall, IsGoing, HasGone, HasLooked}
+use Rattle.pass_hold.specs.Entering.{MayEnter}
 use Rattle.pass_hold.proofs.Callings.{begins_call, call_made, going_looked, idle_again, more}
 use Rattle.pass_pipe.specs.Desks.{take_entry}
 use Rattle.pass_proc.specs.Acts.{own_entry}
@@ -38,7 +37,7 @@ use Rattle.pass_answer.specs.declared.answer.Moved.TheVariants as moved
 use Rattle.pass_answer.proofs.Naming.{at_descriptor, pipe_no_file, read_at}
 use Rattle.pass_answer.proofs.ObjectSteps.{place_is}
 use Rattle.pass_answer.proofs.Waiting.{waits}
-use Rattle.pass_answer.proofs.Steps.{not_refused, step_at, next_allows, next_keeps, gone_by, gone_own}
+use Rattle.pass_answer.proofs.Steps.{not_refused, step_at, next_may, gone_by, gone_own}
 use Rattle.pass_answer.specs.Ready.{IsReadyIfFull}
 use Rattle.pass_answer.proofs.Ready.{ready_at}
 
@@ -77,11 +76,8 @@ module _ (session : Session) (seen : List Entry) (who number : ℕ) (p : Process
   abbrev taking : Entry
   taking = take_entry who number what len bytes
 
-  pub take_allows : CallerAllows seen taking
-  take_allows = next_allows session seen seen who number r p [] p fine what (act.Take len) (take_at who p fd len what free named) (answer.Took bytes) refl within first
-
-  pub take_keeps : 2 ≡ keeps seen taking
-  take_keeps = sym (next_keeps session seen seen who number r p [] p fine what (act.Take len) (take_at who p fd len what free named) (answer.Took bytes) first)
+  pub take_may : MayEnter seen taking 2
+  take_may = next_may session seen seen who number r p [] p fine what (act.Take len) (take_at who p fd len what free named) (answer.Took bytes) refl within first 2 refl
 
   module _ (desk after : List Entry) (out : ℕ) (last : out + 1 ≡ length after) (given : IsEntered session seen desk after taking) where
     abbrev one : Made
@@ -112,11 +108,8 @@ module _ (session : Session) (seen : List Entry) (who number : ℕ) (p : Process
         gains : ℕ → Option Step
         gains n = Some (who, act.Gain n fd)
 
-    pub gain_allows : CallerAllows after gaining
-    gain_allows = next_allows session seen after who number r p one p fine who (act.Gain out fd) gain_at answer.Done refl within going
-
-    pub gain_keeps : 0 ≡ keeps after gaining
-    gain_keeps = sym (next_keeps session seen after who number r p one p fine who (act.Gain out fd) gain_at answer.Done going)
+    pub gain_may : MayEnter after gaining 0
+    gain_may = next_may session seen after who number r p one p fine who (act.Gain out fd) gain_at answer.Done refl within going 0 refl
 
     module _ (own later : List Entry) (gained : IsEntered session after own later gaining) where
       abbrev pub now : Process

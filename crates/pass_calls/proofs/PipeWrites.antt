@@ -20,8 +20,8 @@ use Rattle.pass_plain.specs.declared.request.Request.{Request}
 use Rattle.pass_plain.specs.declared.request.Request.TheVariants as requests
 use Rattle.pass_plain.specs.Calls.{Made, Step, call_steps, is_fd, is_within, refused_ask, steps_of}
 use Rattle.pass_plain.specs.Histories.{is_fault}
-use Rattle.pass_plain.specs.Legal.{CallerAllows, last_number}
-use Rattle.pass_plain.specs.Places.{call_places, keeps}
+use Rattle.pass_plain.specs.Legal.{last_number}
+use Rattle.pass_plain.specs.Places.{call_places}
 use Rattle.pass_plain.specs.Processes.{Process, Held, changed_at, is_file, is_pipe, process_after, refusal, risen}
 use Rattle.pass_plain.specs.Replies.{reply_to}
 use Rattle.pass_plain.specs.Sessions.{Session}
@@ -29,6 +29,7 @@ use Rattle.pass_plain.specs.Versions.{nodes_of}
 use Rattle.pass_plain.proofs.Lists.{both_true, same_itself, or_true}
 use Rattle.pass_book.proofs.Prefixes.{prefix_self, prefix_more}
 use Rattle.pass_hold.specs.Callings.{IsEntered, IsIdle, IsGoing, HasGone, IsCallMade}
+use Rattle.pass_hold.specs.Entering.{MayEnter}
 use Rattle.pass_hold.proofs.Callings.{call_made, held_going, idle_again, idle_looked, left_idle, more}
 use Rattle.pass_pipe.specs.Desks.{push_entry}
 use Rattle.pass_proc.specs.Acts.{own_entry}
@@ -42,7 +43,7 @@ use Rattle.pass_answer.specs.declared.answer.Moved.TheVariants as moved
 use Rattle.pass_answer.proofs.Naming.{at_descriptor, pipe_no_file}
 use Rattle.pass_answer.proofs.ObjectSteps.{place_is}
 use Rattle.pass_answer.proofs.Waiting.{waits, way_itself}
-use Rattle.pass_answer.proofs.Steps.{not_refused, step_at, next_allows, next_keeps, gone_by, gone_own}
+use Rattle.pass_answer.proofs.Steps.{not_refused, step_at, next_may, gone_by, gone_own}
 
 pub write_within : (fd : ℕ) (bytes : List ℕ) → fd < 64 → length bytes ≤ transfer_limit → is_within (requests.Write fd bytes) ≡ true
 write_within fd bytes low few = both_true (is_fd fd) (nat_le (length bytes) transfer_limit) (low_fd fd low) (le-leb (length bytes) transfer_limit few)
@@ -64,11 +65,8 @@ module _ (session : Session) (seen : List Entry) (who number : ℕ) (p : Process
   abbrev show : Entry
   show = own_entry who number calls.Write (act.Show fd (length bytes)) answer.Done
 
-  pub show_allows : CallerAllows seen show
-  show_allows = next_allows session seen seen who number r p [] p fine who (act.Show fd (length bytes)) refl answer.Done refl (write_within fd bytes low few) first
-
-  pub show_keeps : 2 ≡ keeps seen show
-  show_keeps = sym (next_keeps session seen seen who number r p [] p fine who (act.Show fd (length bytes)) refl answer.Done first)
+  pub show_may : MayEnter seen show 2
+  show_may = next_may session seen seen who number r p [] p fine who (act.Show fd (length bytes)) refl answer.Done refl (write_within fd bytes low few) first 2 refl
 
   module _ (desk after : List Entry) (out : ℕ) (last : out + 1 ≡ length after) (entered : IsEntered session seen desk after show) where
     abbrev pub shown_state : Process
@@ -180,9 +178,9 @@ module _ (session : Session) (who number : ℕ) (w : Way) (seen : List Entry) (n
   pub push_next : slice_get (call_steps who p made call) 1 ≡ Some (w.to.pnode, act.Push w.out w.bytes)
   push_next = step_at who p call call_fine made 1 (w.to.pnode, act.Push w.out w.bytes) push_at
 
-  pub push_allows : (reply : Reply) → CallerAllows seen (push_entry who number w.to.pnode w.out w.bytes reply)
-  push_allows reply =
-      next_allows session before seen who number call p made now call_fine w.to.pnode (act.Push w.out w.bytes) push_at reply refl (write_within w.fd w.bytes under.low under.few) going
+  pub push_may : (reply : Reply) → MayEnter seen (push_entry who number w.to.pnode w.out w.bytes reply) 0
+  push_may reply =
+      next_may session before seen who number call p made now call_fine w.to.pnode (act.Push w.out w.bytes) push_at reply refl (write_within w.fd w.bytes under.low under.few) going 0 (sym (ap (λ b. if b then 0 else 3 - (1 + 1)) (or_true (is_fault reply))))
 
   pub places_held : last_number seen who ≡ number → call_places seen who ≡ 2
   places_held last = held_going session before seen who number call p (w.out, show_entry who number w) [] now going.is last refl

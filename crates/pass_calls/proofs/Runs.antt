@@ -1,5 +1,5 @@
 -- The steps of an `exec`.
-use Rattle.std.proofs.Common.{◌≡◌, ℕ, ◌+◌, ◌-◌, ◌<◌, List, [], ◌∷◌, ◌++◌, length, refl, ap, sym, ◌∙◌, arith, Bool, true, false, ◌||◌, length-append}
+use Rattle.std.proofs.Common.{◌≡◌, ℕ, ◌+◌, ◌-◌, ◌<◌, List, [], ◌∷◌, ◌++◌, length, refl, ap, ◌∙◌, arith, Bool, true, false, ◌||◌, length-append}
 use Rattle.std.specs.Prelude.{None, Result, Some, slice_get, if◌then◌else◌}
 use Rattle.std.specs.FinMap as finite_map
 use Rattle.pass_entry.specs.Texts.{is_line, is_name}
@@ -13,8 +13,7 @@ use Rattle.pass_plain.specs.declared.request.Request.{Request}
 use Rattle.pass_plain.specs.declared.request.Request.TheVariants as requests
 use Rattle.pass_plain.specs.Calls.{Made, is_within, refused_ask, steps_of}
 use Rattle.pass_plain.specs.Histories.{is_fault}
-use Rattle.pass_plain.specs.Legal.{CallerAllows}
-use Rattle.pass_plain.specs.Places.{kept_by, keeps}
+use Rattle.pass_plain.specs.Places.{kept_by}
 use Rattle.pass_plain.specs.Processes.{Process}
 use Rattle.pass_plain.specs.Registries.{Registry}
 use Rattle.pass_plain.specs.Replies.{found as found_reply}
@@ -22,13 +21,14 @@ use Rattle.pass_plain.specs.States.{registry_reply}
 use Rattle.pass_plain.specs.Sessions.{Session}
 use Rattle.pass_plain.proofs.Lists.{both_true}
 use Rattle.pass_hold.specs.Callings.{IsEntered, IsGoing, IsIdle, HasGone}
+use Rattle.pass_hold.specs.Entering.{MayEnter}
 use Rattle.pass_hold.proofs.Callings.{call_made, entry_of, idle_again, more}
 use Rattle.pass_proc.specs.CallEnds.{HasReplied}
 use Rattle.pass_registry.specs.Outcomes.{reply_made}
 use Rattle.pass_proc.proofs.Steps.{begun}
 use Rattle.pass_answer.specs.Answers.{HasMoved}
 use Rattle.pass_answer.specs.declared.answer.Moved.TheVariants as moved
-use Rattle.pass_answer.proofs.Steps.{gone_by, gone_own, next_allows, next_keeps, not_asked}
+use Rattle.pass_answer.proofs.Steps.{gone_by, gone_own, next_may, not_asked}
 
 -- the registry's answer where a file has the name, and where none has it
 pub answers_file : (session : Session) (r : Registry) (name : List ℕ) (file : ℕ) (result : Result ℕ CallFault) → reply_made result ≡ registry_reply session r (act.Find name)
@@ -56,11 +56,8 @@ module _ (session : Session) (seen : List Entry) (who number : ℕ) (p : Process
   first : IsGoing session seen seen who number r p [] p
   first = begun session seen who number p r idle some
 
-  pub find_allows : (reply : Reply) → CallerAllows seen (e reply)
-  find_allows reply = next_allows session seen seen who number r p [] p fine 0 (act.Find name) refl reply refl within first
-
-  pub find_keeps : (reply : Reply) → kept_by reply 2 ≡ keeps seen (e reply)
-  find_keeps reply = at_fault (is_fault reply) ∙ sym (next_keeps session seen seen who number r p [] p fine 0 (act.Find name) refl reply first)
+  pub find_may : (reply : Reply) → MayEnter seen (e reply) (kept_by reply 2)
+  find_may reply = next_may session seen seen who number r p [] p fine 0 (act.Find name) refl reply refl within first (kept_by reply 2) (at_fault (is_fault reply))
     where
       at_fault : (b : Bool) → ◌≡◌ {A = ℕ} (if b then 0 else 2) (if b || false then 0 else 2)
       at_fault true = refl
@@ -96,11 +93,8 @@ module _ (session : Session) (seen : List Entry) (who number : ℕ) (p : Process
     abbrev f : Entry
     f = entry_of who number r file act.Load answer.Done
 
-    pub load_allows : CallerAllows after f
-    load_allows = next_allows session seen after who number r p found p fine file act.Load refl answer.Done refl within going
-
-    pub load_keeps : 1 ≡ keeps after f
-    load_keeps = sym (next_keeps session seen after who number r p found p fine file act.Load refl answer.Done going)
+    pub load_may : MayEnter after f 1
+    load_may = next_may session seen after who number r p found p fine file act.Load refl answer.Done refl within going 1 refl
 
     module _ (own later : List Entry) (out : ℕ) (at : out + 1 ≡ length later) (loaded : IsEntered session after own later f) where
       abbrev two : Made
@@ -118,11 +112,8 @@ module _ (session : Session) (seen : List Entry) (who number : ℕ) (p : Process
       third : slice_get (steps_of who p two r) 2 ≡ Some (who, act.Exec out name args)
       third = ap (λ n. Some (who, act.Exec n name args)) place_is
 
-      pub run_allows : CallerAllows later g
-      run_allows = next_allows session seen later who number r p two p fine who (act.Exec out name args) third answer.Done refl within going_on
-
-      pub run_keeps : 0 ≡ keeps later g
-      run_keeps = sym (next_keeps session seen later who number r p two p fine who (act.Exec out name args) third answer.Done going_on)
+      pub run_may : MayEnter later g 0
+      run_may = next_may session seen later who number r p two p fine who (act.Exec out name args) third answer.Done refl within going_on 0 refl
 
       module _ (mine last : List Entry) (run : IsEntered session later mine last g) where
         abbrev three : Made

@@ -1,5 +1,5 @@
 -- A call by which a process shows bytes to an object, which then takes them: two entries.
-use Rattle.std.proofs.Common.{◌≡◌, ℕ, ◌+◌, ◌-◌, ◌<◌, List, [], ◌∷◌, ◌++◌, length, refl, ap, sym, ◌∙◌, arith, Bool, true, false, length-append}
+use Rattle.std.proofs.Common.{◌≡◌, ℕ, ◌+◌, ◌-◌, ◌<◌, List, [], ◌∷◌, ◌++◌, length, refl, ap, sym, ◌∙◌, arith, Bool, true, false, ◌||◌, length-append}
 use Rattle.std.specs.Prelude.{None, Some, slice_get, if◌then◌else◌}
 use Rattle.pass_entry.specs.declared.entry.Act.{Act}
 use Rattle.pass_entry.specs.declared.entry.Act.TheVariants as act
@@ -8,21 +8,22 @@ use Rattle.pass_entry.specs.declared.entry.Reply.TheVariants as answer
 use Rattle.pass_entry.specs.declared.objects.Node.{Node}
 use Rattle.pass_plain.specs.declared.request.Request.{Request}
 use Rattle.pass_plain.specs.Calls.{Made, is_last_act, is_within, name_of, refused_ask, steps_of}
-use Rattle.pass_plain.specs.Legal.{CallerAllows, is_start}
-use Rattle.pass_plain.specs.Places.{keeps, need_of}
+use Rattle.pass_plain.specs.Legal.{is_start}
+use Rattle.pass_plain.specs.Places.{is_exit, need_of}
 use Rattle.pass_plain.specs.Processes.{Process, changed_at, process_act, risen}
 use Rattle.pass_plain.specs.Sessions.{Session}
 use Rattle.pass_plain.specs.Versions.{nodes_of}
 use Rattle.pass_hold.specs.Callings.{IsCallMade, IsEntered, IsGoing, IsIdle, HasGone}
+use Rattle.pass_hold.specs.Entering.{MayEnter}
 use Rattle.pass_hold.proofs.Callings.{call_made, entry_of, idle_again, more}
 use Rattle.pass_proc.proofs.Steps.{begun}
-use Rattle.pass_answer.proofs.Steps.{gone_by, gone_own, next_allows, next_keeps}
+use Rattle.pass_answer.proofs.Steps.{gone_by, gone_own, next_may}
 
 abbrev pub shown : Process → ℕ → ℕ → Process
 shown p fd len = record p { descriptors = changed_at p.descriptors fd (risen len) }
 
 module _ (session : Session) (seen : List Entry) (who number : ℕ) (r : Request) (p : Process) (idle : IsIdle session seen who (number - 1) p) (some : 0 < number)
-    (fine : refused_ask p r ≡ None) (ordinary : is_start (name_of r) ≡ false) (within : is_within r ≡ true) (need : need_of (name_of r) ≡ 3)
+    (fine : refused_ask p r ≡ None) (ordinary : is_start (name_of r) || is_exit (name_of r) ≡ false) (within : is_within r ≡ true) (need : need_of (name_of r) ≡ 3)
     (fd len : ℕ) (shows : slice_get (steps_of who p [] r) 0 ≡ Some (who, act.Show fd len)) (on : is_last_act p (name_of r) (act.Show fd len) ≡ false) where
   abbrev e : Entry
   e = entry_of who number r who (act.Show fd len) answer.Done
@@ -30,11 +31,8 @@ module _ (session : Session) (seen : List Entry) (who number : ℕ) (r : Request
   first : IsGoing session seen seen who number r p [] p
   first = begun session seen who number p r idle some
 
-  pub show_allows : CallerAllows seen e
-  show_allows = next_allows session seen seen who number r p [] p fine who (act.Show fd len) shows answer.Done ordinary within first
-
-  pub show_keeps : 2 ≡ keeps seen e
-  show_keeps = sym (next_keeps session seen seen who number r p [] p fine who (act.Show fd len) shows answer.Done first ∙ at_last (is_last_act p (name_of r) (act.Show fd len)) on)
+  pub show_may : MayEnter seen e 2
+  show_may = next_may session seen seen who number r p [] p fine who (act.Show fd len) shows answer.Done ordinary within first 2 (sym (at_last (is_last_act p (name_of r) (act.Show fd len)) on))
     where
       at_last : (b : Bool) → b ≡ false → ◌≡◌ {A = ℕ} (if b then 0 else need_of (name_of r) - 1) 2
       at_last false told = ap (λ n. n - 1) need
@@ -63,11 +61,8 @@ module _ (session : Session) (seen : List Entry) (who number : ℕ) (r : Request
       second : slice_get (steps_of who p one r) 1 ≡ Some (what, a)
       second = ap (λ n. slice_get (steps_of who p ((n, e) ∷ []) r) 1) place_is ∙ takes
 
-      pub take_allows : CallerAllows after f
-      take_allows = next_allows session seen after who number r p one now fine what a second answer.Done ordinary within going
-
-      pub take_keeps : 0 ≡ keeps after f
-      take_keeps = sym (next_keeps session seen after who number r p one now fine what a second answer.Done going ∙ at_last (is_last_act p (name_of r) a) last)
+      pub take_may : MayEnter after f 0
+      take_may = next_may session seen after who number r p one now fine what a second answer.Done ordinary within going 0 (sym (at_last (is_last_act p (name_of r) a) last))
         where
           at_last : (b : Bool) → b ≡ true → ◌≡◌ {A = ℕ} (if b then 0 else need_of (name_of r) - 2) 0
           at_last true told = refl

@@ -14,11 +14,12 @@ use Rattle.pass_plain.specs.declared.request.Request.{Request}
 use Rattle.pass_plain.specs.declared.request.Request.TheVariants as requests
 use Rattle.pass_plain.specs.Calls.{Made, is_last_act, is_within, name_of, no_descriptor, refused_ask, steps_of}
 use Rattle.pass_plain.specs.Histories.{is_fault}
-use Rattle.pass_plain.specs.Legal.{CallerAllows, is_start}
-use Rattle.pass_plain.specs.Places.{keeps, need_of}
+use Rattle.pass_plain.specs.Legal.{is_start}
+use Rattle.pass_plain.specs.Places.{is_exit, need_of}
 use Rattle.pass_plain.specs.Processes.{Process, is_pipe, process_act, refusal}
 use Rattle.pass_plain.specs.Sessions.{Session}
 use Rattle.pass_hold.specs.Callings.{IsEntered, IsIdle, IsGoing, HasGone}
+use Rattle.pass_hold.specs.Entering.{MayEnter}
 use Rattle.pass_hold.proofs.Callings.{entry_of, call_made, idle_again}
 use Rattle.pass_proc.specs.CallEnds.{HasReplied}
 use Rattle.pass_proc.specs.declared.way.Way.{Way}
@@ -29,12 +30,12 @@ use Rattle.pass_answer.specs.declared.answer.Moved.{Moved}
 use Rattle.pass_answer.specs.declared.answer.Moved.TheVariants as moved
 use Rattle.pass_calls.specs.declared.renaming.Change.{Change}
 use Rattle.pass_calls.specs.declared.renaming.Change.TheVariants as change
-use Rattle.pass_answer.proofs.Steps.{not_refused, not_asked, next_allows, next_keeps, gone_by, gone_own}
+use Rattle.pass_answer.proofs.Steps.{not_refused, not_asked, next_may, gone_by, gone_own}
 
 -- the process p does not refuse the request, and its one step is this act on this object
 pub record IsOnlyStep (who : ℕ) (p : Process) (r : Request) (what : ℕ) (a : Act) : Type 0 where
   pub fine : refused_ask p r ≡ None
-  pub ordinary : is_start (name_of r) ≡ false
+  pub ordinary : is_start (name_of r) || is_exit (name_of r) ≡ false
   pub within : is_within r ≡ true
   pub begins : slice_get (steps_of who p [] r) 0 ≡ Some (what, a)
   pub ends : is_last_act p (name_of r) a ≡ true
@@ -50,11 +51,8 @@ module _ (session : Session) (seen : List Entry) (who number : ℕ) (p : Process
   last : is_fault reply || is_last_act p (name_of r) a ≡ true
   last = ap (λ l. is_fault reply || l) step.ends ∙ or_true (is_fault reply)
 
-  pub step_allows : CallerAllows seen e
-  step_allows = next_allows session seen seen who number r p [] p step.fine what a step.begins reply step.ordinary step.within going
-
-  pub step_keeps : 0 ≡ keeps seen e
-  step_keeps = sym (next_keeps session seen seen who number r p [] p step.fine what a step.begins reply going ∙ ap (λ b. if b then 0 else need_of (name_of r) - (0 + 1)) last)
+  pub step_may : MayEnter seen e 0
+  step_may = next_may session seen seen who number r p [] p step.fine what a step.begins reply step.ordinary step.within going 0 (sym (ap (λ b. if b then 0 else need_of (name_of r) - (0 + 1)) last))
 
   module _ (desk after : List Entry) (entered : IsEntered session seen desk after e) where
     abbrev one : Made

@@ -14,17 +14,16 @@ use Rattle.pass_entry.specs.declared.objects.Mode.TheVariants as mode
 use Rattle.pass_plain.specs.declared.request.Request.{Request}
 use Rattle.pass_plain.specs.declared.request.Request.TheVariants as requests
 use Rattle.pass_plain.specs.Calls.{descriptor_at, is_within, no_descriptor, refused_ask, steps_of}
-use Rattle.pass_plain.specs.Legal.{CallerAllows}
-use Rattle.pass_plain.specs.Places.{keeps}
 use Rattle.pass_plain.specs.Processes.{Process, at_held, faults_if, file_limit, is_file, refusal, same_mode}
 use Rattle.pass_plain.specs.Sessions.{Session}
 use Rattle.pass_hold.specs.Callings.{IsEntered, IsIdle}
+use Rattle.pass_hold.specs.Entering.{MayEnter}
 use Rattle.pass_hold.proofs.Callings.{entry_of}
 use Rattle.pass_proc.proofs.Steps.{low_fd}
 use Rattle.pass_answer.specs.Answers.{HasMoved}
 use Rattle.pass_answer.specs.declared.answer.Moved.TheVariants as moved
 use Rattle.pass_answer.proofs.Steps.{not_refused}
-use Rattle.pass_calls.proofs.Shown.{both_idle, both_made, show_allows, show_keeps, shown, take_allows, take_keeps}
+use Rattle.pass_calls.proofs.Shown.{both_idle, both_made, show_may, shown, take_may}
 
 -- what the descriptor of a call holds that asks for a held one
 pub held_by : (p : Process) (fd : ℕ) (judge : Descriptor → Option CallFault) → at_held p fd judge ≡ None
@@ -50,11 +49,8 @@ module _ (session : Session) (seen : List Entry) (who number : ℕ) (p : Process
   abbrev e : Entry
   e = entry_of who number r who (act.Show fd 0) answer.Done
 
-  pub first_allows : CallerAllows seen e
-  first_allows = show_allows session seen who number r p idle some fine refl within refl fd 0 refl refl
-
-  pub first_keeps : 2 ≡ keeps seen e
-  first_keeps = show_keeps session seen who number r p idle some fine refl within refl fd 0 refl refl
+  pub first_may : MayEnter seen e 2
+  first_may = show_may session seen who number r p idle some fine refl within refl fd 0 refl refl
 
   module _ (what : ℕ) (object : (d : Descriptor) → finite_map.get p.descriptors fd ≡ Some d → what ≡ d.pnode)
       (desk after : List Entry) (out : ℕ) (at : out + 1 ≡ length after) (entered : IsEntered session seen desk after e) where
@@ -68,11 +64,8 @@ module _ (session : Session) (seen : List Entry) (who number : ℕ) (p : Process
     abbrev f : Entry
     f = entry_of who number r what (act.Cut out size) answer.Done
 
-    pub cut_allows : CallerAllows after f
-    cut_allows = take_allows session seen who number r p idle some fine refl within refl fd 0 refl refl desk after out at entered what (act.Cut out size) takes refl
-
-    pub cut_keeps : 0 ≡ keeps after f
-    cut_keeps = take_keeps session seen who number r p idle some fine refl within refl fd 0 refl refl desk after out at entered what (act.Cut out size) takes refl
+    pub cut_may : MayEnter after f 0
+    cut_may = take_may session seen who number r p idle some fine refl within refl fd 0 refl refl desk after out at entered what (act.Cut out size) takes refl
 
     module _ (own later : List Entry) (cut : IsEntered session after own later f) where
       pub cut_made : HasMoved session who seen later (shown p fd 0) r moved.Done

@@ -1,5 +1,5 @@
 -- The steps of calls on versions: a freeze, a tag, a disclosure.
-use Rattle.std.proofs.Common.{◌≡◌, ℕ, ◌+◌, ◌-◌, ◌<◌, List, [], ◌∷◌, ◌++◌, length, ap, sym, ◌∙◌, refl, true, ◌&&◌}
+use Rattle.std.proofs.Common.{◌≡◌, ℕ, ◌+◌, ◌-◌, ◌<◌, List, [], ◌∷◌, ◌++◌, length, ap, ◌∙◌, refl, true, ◌&&◌}
 use Rattle.std.specs.Prelude.{Option, Some, None, slice_get}
 use Rattle.std.specs.FinMap as finite_map
 use Rattle.pass_entry.specs.Texts.{is_name}
@@ -13,21 +13,20 @@ use Rattle.pass_entry.specs.declared.objects.Node.{Node}
 use Rattle.pass_plain.specs.declared.request.Request.{Request}
 use Rattle.pass_plain.specs.declared.request.Request.TheVariants as requests
 use Rattle.pass_plain.specs.Calls.{Made, Step, is_fd, is_within, refused_ask, steps_of}
-use Rattle.pass_plain.specs.Legal.{CallerAllows}
-use Rattle.pass_plain.specs.Places.{keeps}
 use Rattle.pass_plain.specs.Processes.{Process, refusal}
 use Rattle.pass_plain.specs.Sessions.{Session}
 use Rattle.pass_plain.specs.Versions.{nodes_of}
 use Rattle.pass_plain.proofs.Lists.{both_true}
 use Rattle.pass_hold.specs.Callings.{IsEntered, IsIdle, IsGoing, HasGone}
+use Rattle.pass_hold.specs.Entering.{MayEnter}
 use Rattle.pass_hold.proofs.Callings.{call_made, idle_again, more}
 use Rattle.pass_flow.specs.Flows.{freeze_entry, cite_entry, told_entry, tag_entry}
 use Rattle.pass_proc.proofs.Steps.{begun, low_fd}
 use Rattle.pass_answer.specs.Answers.{HasMoved}
 use Rattle.pass_answer.specs.declared.answer.Moved.TheVariants as moved
 use Rattle.pass_answer.proofs.Naming.{one_held, two_held, its_object}
-use Rattle.pass_answer.proofs.ObjectSteps.{place_is, only_allows, only_keeps, only_made, only_idle}
-use Rattle.pass_answer.proofs.Steps.{not_refused, next_allows, next_keeps, gone_by}
+use Rattle.pass_answer.proofs.ObjectSteps.{place_is, only_may, only_made, only_idle}
+use Rattle.pass_answer.proofs.Steps.{not_refused, next_may, gone_by}
 
 abbrev step_to : Act → ℕ → Option Step
 step_to a what = Some (what, a)
@@ -43,11 +42,8 @@ module _ (session : Session) (seen : List Entry) (who number : ℕ) (p : Process
   freeze_at : slice_get (steps_of who p [] (requests.FreezeObj fd)) 0 ≡ Some (what, act.Freeze)
   freeze_at = ap (step_to act.Freeze) (its_object p fd what (one_held p fd free) named)
 
-  pub freeze_allows : CallerAllows seen (freeze_entry who number what)
-  freeze_allows = only_allows session seen who number p (requests.FreezeObj fd) what act.Freeze answer.Done idle some freeze_fine freeze_at refl (low_fd fd low) refl
-
-  pub freeze_keeps : 0 ≡ keeps seen (freeze_entry who number what)
-  freeze_keeps = only_keeps session seen who number p (requests.FreezeObj fd) what act.Freeze answer.Done idle some freeze_fine freeze_at refl (low_fd fd low) refl
+  pub freeze_may : MayEnter seen (freeze_entry who number what) 0
+  freeze_may = only_may session seen who number p (requests.FreezeObj fd) what act.Freeze answer.Done idle some freeze_fine freeze_at refl (low_fd fd low) refl
 
   module _ (desk after : List Entry) (entered : IsEntered session seen desk after (freeze_entry who number what)) where
     pub frozen_moved : (place : ℕ) (node : Node) → place + 1 ≡ length after → slice_get (nodes_of session after) place ≡ Some node
@@ -79,11 +75,8 @@ module _ (session : Session) (seen : List Entry) (who number : ℕ) (p : Process
   tag_within : is_within (requests.TagObj fd attr value) ≡ true
   tag_within = both_true (is_fd fd && is_name attr) (is_name value) (both_true (is_fd fd) (is_name attr) (low_fd fd low) named_attr) named_value
 
-  pub tag_allows : CallerAllows seen (tag_entry who number what attr value)
-  tag_allows = only_allows session seen who number p (requests.TagObj fd attr value) what (act.Tag attr value) answer.Done idle some tag_fine tag_at refl tag_within refl
-
-  pub tag_keeps : 0 ≡ keeps seen (tag_entry who number what attr value)
-  tag_keeps = only_keeps session seen who number p (requests.TagObj fd attr value) what (act.Tag attr value) answer.Done idle some tag_fine tag_at refl tag_within refl
+  pub tag_may : MayEnter seen (tag_entry who number what attr value) 0
+  tag_may = only_may session seen who number p (requests.TagObj fd attr value) what (act.Tag attr value) answer.Done idle some tag_fine tag_at refl tag_within refl
 
   module _ (desk after : List Entry) (entered : IsEntered session seen desk after (tag_entry who number what attr value)) where
     pub tagged_moved : HasMoved session who seen after p (requests.TagObj fd attr value) moved.Done
@@ -124,11 +117,8 @@ module _ (session : Session) (seen : List Entry) (who number : ℕ) (p : Process
   abbrev cite : Entry
   cite = cite_entry who number source
 
-  pub cite_allows : CallerAllows seen cite
-  cite_allows = next_allows session seen seen who number r p [] p fine source act.Cite cite_at answer.Done refl within first
-
-  pub cite_keeps : 2 ≡ keeps seen cite
-  cite_keeps = sym (next_keeps session seen seen who number r p [] p fine source act.Cite cite_at answer.Done first)
+  pub cite_may : MayEnter seen cite 2
+  cite_may = next_may session seen seen who number r p [] p fine source act.Cite cite_at answer.Done refl within first 2 refl
 
   module _ (desk after : List Entry) (out : ℕ) (last : out + 1 ≡ length after) (cited : IsEntered session seen desk after cite) where
     abbrev one : Made
@@ -147,11 +137,8 @@ module _ (session : Session) (seen : List Entry) (who number : ℕ) (p : Process
     abbrev told : Entry
     told = told_entry who number target out
 
-    pub told_allows : CallerAllows after told
-    told_allows = next_allows session seen after who number r p one p fine target (act.Told out) told_at answer.Done refl within going
-
-    pub told_keeps : 0 ≡ keeps after told
-    told_keeps = sym (next_keeps session seen after who number r p one p fine target (act.Told out) told_at answer.Done going)
+    pub told_may : MayEnter after told 0
+    told_may = next_may session seen after who number r p one p fine target (act.Told out) told_at answer.Done refl within going 0 refl
 
     module _ (own later : List Entry) (entered : IsEntered session after own later told) where
       abbrev two : Made

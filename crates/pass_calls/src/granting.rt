@@ -1,13 +1,11 @@
 //! The calls that ask the registry for an object and attach a descriptor of it: their two steps.
-ghost use Rattle.std.specs.Prelude.{◌≡◌, ◌<◌, ◌≤◌, ◌^◌, [], None, true, false, length, IfOk};
+ghost use Rattle.std.specs.Prelude.{◌≡◌, ◌<◌, ◌≤◌, [], None, true, IfOk};
 ghost use Rattle.pass_entry.specs.declared.entry.Reply.TheVariants as answer;
 ghost use Rattle.pass_plain.specs.Calls.{is_within, name_of};
-ghost use Rattle.pass_plain.specs.Legal.{CallerAllows};
-ghost use Rattle.pass_plain.specs.Places.{is_exit, kept_by, keeps};
+ghost use Rattle.pass_plain.specs.Places.{kept_by};
 ghost use Rattle.pass_plain.specs.Processes.{process_act, refusal};
-ghost use Rattle.pass_hold.specs.Callers.{moved_on};
-ghost use Rattle.pass_hold.specs.Callings.{IsEntered};
 ghost use Rattle.pass_hold.specs.Places.{HasRoom};
+ghost use Rattle.pass_hold.specs.Entering.{MayEnter, Enters};
 ghost use Rattle.pass_proc.specs.Acts.{own_entry};
 ghost use Rattle.pass_registry.specs.Desks.{on_registry};
 ghost use Rattle.pass_registry.specs.Outcomes.{reply_made};
@@ -112,13 +110,10 @@ fn ask_registry<J: Whose>(
     requires ready { IsReady grant }
     requires room { name_room grant ≤ registry.old.room }
     requires place { HasRoom shelf.old caller.old.held 3 }
-    requires keep { (reply : _) → kept_by reply 2 ≡ keeps caller.old.seen (on_registry who number (name_of (request_of grant)) (first_of grant) reply) }
     requires who { caller.old.who ≡ who }
-    requires allows { (reply : _) → CallerAllows caller.old.seen (on_registry who number (name_of (request_of grant)) (first_of grant) reply) }
-    ensures entered { IsEntered J.book.session caller.old.seen registry.old.seen caller.new.seen (on_registry who number (name_of (request_of grant)) (first_of grant) (reply_made result)) }
+    requires entry { (reply : _) → MayEnter caller.old.seen (on_registry who number (name_of (request_of grant)) (first_of grant) reply) (kept_by reply 2) }
+    ensures entry { Enters J.book.session caller.old caller.new registry.old.seen (on_registry who number (name_of (request_of grant)) (first_of grant) (reply_made result)) (kept_by (reply_made result) 2) }
     ensures granted { IfOk result (λ pnode. IsGranted J.book.session registry.old.seen registry.new.seen grant pnode) }
-    ensures caller { caller.new ≡ moved_on caller.old caller.new.seen caller.new.syncs (kept_by (reply_made result) 2) }
-    ensures few { length caller.new.seen ≤ 2 ^ 32 }
 {
     match grant {
         Grant::Bind { room, .. } => registry.bind(shelf, caller, who, number, room),
@@ -149,14 +144,10 @@ fn attach_object<J: Whose>(
 )
     requires low { IsLow attach }
     requires place { 0 < caller.old.held }
-    requires keep { 0 ≡ keeps caller.old.seen (own_entry process.old.who number (call_of attach) (attached_by attach pnode) answer.Done) }
-    requires exit { is_exit (call_of attach) ≡ false }
     requires who { caller.old.who ≡ process.old.who }
-    requires allows { CallerAllows caller.old.seen (own_entry process.old.who number (call_of attach) (attached_by attach pnode) answer.Done) }
-    ensures entered { IsEntered J.book.session caller.old.seen process.old.seen caller.new.seen (own_entry process.old.who number (call_of attach) (attached_by attach pnode) answer.Done) }
+    requires entry { MayEnter caller.old.seen (own_entry process.old.who number (call_of attach) (attached_by attach pnode) answer.Done) 0 }
+    ensures entry { Enters J.book.session caller.old caller.new process.old.seen (own_entry process.old.who number (call_of attach) (attached_by attach pnode) answer.Done) 0 }
     ensures state { process.new ≡ record process.old { seen = caller.new.seen; state = process_act [] process.old.state (attached_by attach pnode) } }
-    ensures caller { caller.new ≡ moved_on caller.old caller.new.seen caller.new.syncs 0 }
-    ensures few { length caller.new.seen ≤ 2 ^ 32 }
 {
     match attach {
         Attach::One {

@@ -1,13 +1,10 @@
 //! The calls that change the names of files alone: `rename` and `unlink`.
-ghost use Rattle.std.specs.Prelude.{◌≡◌, ◌≤◌, ◌^◌, true, length};
+ghost use Rattle.std.specs.Prelude.{◌≡◌, true};
 ghost use Rattle.pass_entry.specs.Texts.{is_name};
 ghost use Rattle.pass_plain.specs.Calls.{is_within, name_of};
-ghost use Rattle.pass_plain.specs.Legal.{CallerAllows};
-ghost use Rattle.pass_plain.specs.Places.{keeps};
 ghost use Rattle.pass_plain.specs.declared.request.Request.TheVariants as requests;
-ghost use Rattle.pass_hold.specs.Callers.{moved_on};
-ghost use Rattle.pass_hold.specs.Callings.{IsEntered};
 ghost use Rattle.pass_hold.specs.Places.{HasRoom};
+ghost use Rattle.pass_hold.specs.Entering.{MayEnter, Enters};
 ghost use Rattle.pass_registry.specs.Desks.{on_registry};
 ghost use Rattle.pass_registry.specs.Outcomes.{reply_done};
 ghost use Rattle.pass_answer.specs.Answers.{Answers};
@@ -40,12 +37,9 @@ fn change_names<J: Whose>(
     change: Change,
 ) -> Result<(), CallFault>
     requires place { HasRoom shelf.old caller.old.held 3 }
-    requires keep { (reply : _) → 0 ≡ keeps caller.old.seen (on_registry who number (name_of (request_of_change change)) (act_of_change change) reply) }
     requires who { caller.old.who ≡ who }
-    requires allows { (reply : _) → CallerAllows caller.old.seen (on_registry who number (name_of (request_of_change change)) (act_of_change change) reply) }
-    ensures entered { IsEntered J.book.session caller.old.seen registry.old.seen caller.new.seen (on_registry who number (name_of (request_of_change change)) (act_of_change change) (reply_done result)) }
-    ensures caller { caller.new ≡ moved_on caller.old caller.new.seen caller.new.syncs 0 }
-    ensures few { length caller.new.seen ≤ 2 ^ 32 }
+    requires entry { (reply : _) → MayEnter caller.old.seen (on_registry who number (name_of (request_of_change change)) (act_of_change change) reply) 0 }
+    ensures entry { Enters J.book.session caller.old caller.new registry.old.seen (on_registry who number (name_of (request_of_change change)) (act_of_change change) (reply_done result)) 0 }
 {
     match change {
         Change::Move { room } => registry.rename(shelf, caller, who, number, room),

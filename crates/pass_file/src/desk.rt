@@ -1,19 +1,17 @@
 //! A file, as it lies under its lock.
-ghost use Rattle.std.specs.Prelude.{◌≡◌, ◌+◌, ◌≤◌, ◌<◌, ◌^◌, Bool, true, false, ℕ, IfOk, IfSome, OnErr, OnOk, Some, is_some, length, slice_get};
+ghost use Rattle.std.specs.Prelude.{◌≡◌, ◌+◌, ◌≤◌, ◌<◌, Bool, true, false, ℕ, IfOk, IfSome, OnErr, OnOk, is_some, length};
 ghost use Rattle.pass_entry.specs.Limits.{file_limit};
 ghost use Rattle.pass_plain.specs.Files.{file_act, file_after};
 ghost use Rattle.pass_plain.specs.Histories.{is_fault};
-ghost use Rattle.pass_plain.specs.Legal.{CallerAllows, ObjectAllows};
-ghost use Rattle.pass_plain.specs.Places.{is_exit, keeps};
+ghost use Rattle.pass_plain.specs.Legal.{ObjectAllows};
 ghost use Rattle.pass_plain.specs.Records.{row_act};
 ghost use Rattle.pass_plain.specs.Recording.{block_count, flags, is_change as is_change_of};
 ghost use Rattle.pass_plain.specs.Versions.{is_in, nodes_of, source_in};
 ghost use Rattle.pass_book.specs.Names.{name, Listed};
 ghost use Rattle.pass_book.specs.Syncs.{durable, IsRising};
 ghost use Rattle.pass_book.specs.declared.view.Role.TheVariants as role;
-ghost use Rattle.pass_hold.specs.Callers.{moved_on};
-ghost use Rattle.pass_hold.specs.Callings.{IsEntered};
 ghost use Rattle.pass_hold.specs.Places.{HasRoom};
+ghost use Rattle.pass_hold.specs.Entering.{MayEnter, Enters, IsAt};
 ghost use Rattle.pass_flow.specs.Entering.{IsVersioned, is_object_act, rest_records, spare_after};
 ghost use Rattle.pass_file.specs.Desks.{IsFile, change_records, versions_of};
 ghost use Rattle.pass_file.specs.FileViews.{dirty_by, end_of};
@@ -92,22 +90,17 @@ fn enter_version<J: Whose>(
     requires what { entry.what ≡ desk.old.what }
     requires who { caller.old.who ≡ entry.who }
     requires place { HasRoom shelf.old caller.old.held (keep + 1) }
-    requires keep { keep ≡ keeps caller.old.seen entry }
-    requires exit { is_exit entry.call ≡ false }
-    requires allows { CallerAllows caller.old.seen entry }
+    requires entry { MayEnter caller.old.seen entry keep }
     requires replies { ObjectAllows J.book.session desk.old.seen entry }
     requires source { source_in (nodes_of J.book.session caller.old.seen) entry ≡ source }
     requires given { is_in entry ≡ is_some source }
     requires spare { IfSome source (λ s. 1 ≤ state.old.spare) }
     requires rest { rest.items ≡ rest_records J.book.session desk.old.seen entry }
-    ensures entered { IsEntered J.book.session caller.old.seen desk.old.seen caller.new.seen entry }
-    ensures place { result.0 + 1 ≡ length caller.new.seen }
-    ensures node { slice_get (nodes_of J.book.session caller.new.seen) result.0 ≡ Some result.1 }
+    ensures entry { Enters J.book.session caller.old caller.new desk.old.seen entry keep }
+    ensures at { IsAt J.book.session caller.new.seen result }
     ensures object { IsVersioned J.book desk.new (versions_of state.new) }
     ensures state { state.new ≡ record state.old { lineage = state.new.lineage; spare = spare_after source state.old.spare } }
     ensures desk { desk.new ≡ record desk.old { seen = caller.new.seen; syncs = caller.new.syncs } }
-    ensures caller { caller.new ≡ moved_on caller.old caller.new.seen caller.new.syncs keep }
-    ensures few { length caller.new.seen ≤ 2 ^ 32 }
     ensures shelf { shelf.new ≡ record shelf.old { history = caller.new.seen; syncs = shelf.new.syncs; claimed = shelf.new.claimed } }
     ensures listed { Listed (name role.Desk entry.what) desk.old.syncs caller.new.syncs }
     ensures durable { durable caller.new.syncs < length caller.new.seen }
@@ -161,24 +154,19 @@ impl<J: Whose> FileDesk<J> {
         requires what { entry.what ≡ self.old.what }
         requires who { caller.old.who ≡ entry.who }
         requires place { HasRoom shelf.old caller.old.held (keep + 1) }
-        requires keep { keep ≡ keeps caller.old.seen entry }
-        requires exit { is_exit entry.call ≡ false }
-        requires allows { CallerAllows caller.old.seen entry }
+        requires entry { MayEnter caller.old.seen entry keep }
         requires replies { ObjectAllows J.book.session self.old.seen entry }
         requires source { source_in (nodes_of J.book.session caller.old.seen) entry ≡ source }
         requires given { is_in entry ≡ is_some source }
         requires spare { IfSome source (λ s. 1 ≤ self.old.spare) }
         requires room { end_of entry.act ≤ self.old.room }
         requires rest { rest.items ≡ rest_records J.book.session self.old.seen entry }
-        ensures entered { IsEntered J.book.session caller.old.seen self.old.seen caller.new.seen entry }
-        ensures place { result.0 + 1 ≡ length caller.new.seen }
-        ensures node { slice_get (nodes_of J.book.session caller.new.seen) result.0 ≡ Some result.1 }
+        ensures entry { Enters J.book.session caller.old caller.new self.old.seen entry keep }
+        ensures at { IsAt J.book.session caller.new.seen result }
         ensures state { self.new ≡ record self.old { seen = caller.new.seen; syncs = caller.new.syncs; spare = spare_after source self.old.spare; room = self.new.room } }
         ensures room { is_change_of entry.act ≡ false → self.new.room ≡ self.old.room }
         ensures content { file_after J.book.session self.new.seen self.new.what ≡ file_act (file_after J.book.session self.old.seen self.old.what) entry.act }
-        ensures caller { caller.new ≡ moved_on caller.old caller.new.seen caller.new.syncs keep }
         ensures shelf { shelf.new ≡ record shelf.old { history = caller.new.seen; syncs = shelf.new.syncs; claimed = shelf.new.claimed } }
-        ensures few { length caller.new.seen ≤ 2 ^ 32 }
     {
         turn(&mut self.state, &entry.act);
         enter_version(

@@ -4,7 +4,7 @@
 //! change will make of size and digests, and changes nothing; each change turns rows and dirty blocks as the definitions say
 //! (`rows`, `dirty`). A `FileDesk` is a file under its lock: content, version, rows and dirty blocks are what the definitions make
 //! of all that was seen of it. Each sync of the file cleans at its entries. Each act gives the reply of the plain history, and
-//! makes the one entry with its records (`entered`, `content`, `state`). A write or a cut is handed the records of the content,
+//! makes the one entry with its records (`entry`, `content`, `state`). A write or a cut is handed the records of the content,
 //! which `put_records` and `cut_records` give whoever holds the file, without the book. After a sync of all that was seen no block
 //! is dirty (`LentFile::synced`).
 #![tactic(auto)]

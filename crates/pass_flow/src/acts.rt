@@ -1,11 +1,8 @@
 //! The acts that leave what an object holds: each is the object's own entry, made once for all kinds of objects.
-ghost use Rattle.std.specs.Prelude.{◌≡◌, ◌+◌, ◌-◌, ◌≤◌, ◌<◌, ◌^◌, Some, length, slice_get};
-ghost use Rattle.pass_plain.specs.Legal.{CallerAllows};
-ghost use Rattle.pass_plain.specs.Places.{keeps};
+ghost use Rattle.std.specs.Prelude.{◌≡◌, ◌-◌, ◌≤◌, ◌<◌, Some, slice_get};
 ghost use Rattle.pass_plain.specs.Versions.{nodes_of};
-ghost use Rattle.pass_hold.specs.Callers.{moved_on};
-ghost use Rattle.pass_hold.specs.Callings.{IsEntered};
 ghost use Rattle.pass_hold.specs.Places.{HasRoom};
+ghost use Rattle.pass_hold.specs.Entering.{MayEnter, Enters, IsAt};
 ghost use Rattle.pass_flow.specs.Flows.{freeze_entry, cite_entry, told_entry, tag_entry, keep_entry};
 
 use crate::tag::TagRoom;
@@ -25,14 +22,10 @@ pub fn freeze<J: Whose, V: Versioned<J>>(
 ) -> (u64, Node)
     requires who { caller.old.who ≡ who }
     requires place { HasRoom shelf.old caller.old.held 3 }
-    requires keep { 0 ≡ keeps caller.old.seen (freeze_entry who number (V.object object.old).what) }
-    requires allows { CallerAllows caller.old.seen (freeze_entry who number (V.object object.old).what) }
-    ensures entered { IsEntered J.book.session caller.old.seen (V.object object.old).seen caller.new.seen (freeze_entry who number (V.object object.old).what) }
-    ensures place { result.0 + 1 ≡ length caller.new.seen }
-    ensures node { slice_get (nodes_of J.book.session caller.new.seen) result.0 ≡ Some result.1 }
+    requires entry { MayEnter caller.old.seen (freeze_entry who number (V.object object.old).what) 0 }
+    ensures entry { Enters J.book.session caller.old caller.new (V.object object.old).seen (freeze_entry who number (V.object object.old).what) 0 }
+    ensures at { IsAt J.book.session caller.new.seen result }
     ensures state { V.object object.new ≡ record (V.object object.old) { seen = caller.new.seen; syncs = caller.new.syncs } }
-    ensures caller { caller.new ≡ moved_on caller.old caller.new.seen caller.new.syncs 0 }
-    ensures few { length caller.new.seen ≤ 2 ^ 32 }
 {
     let entry = Entry {
         who,
@@ -56,14 +49,10 @@ pub fn cite<J: Whose, V: Versioned<J>>(
 ) -> (u64, Node)
     requires who { caller.old.who ≡ who }
     requires place { HasRoom shelf.old caller.old.held 3 }
-    requires keep { 2 ≡ keeps caller.old.seen (cite_entry who number (V.object object.old).what) }
-    requires allows { CallerAllows caller.old.seen (cite_entry who number (V.object object.old).what) }
-    ensures entered { IsEntered J.book.session caller.old.seen (V.object object.old).seen caller.new.seen (cite_entry who number (V.object object.old).what) }
-    ensures place { result.0 + 1 ≡ length caller.new.seen }
-    ensures node { slice_get (nodes_of J.book.session caller.new.seen) result.0 ≡ Some result.1 }
+    requires entry { MayEnter caller.old.seen (cite_entry who number (V.object object.old).what) 2 }
+    ensures entry { Enters J.book.session caller.old caller.new (V.object object.old).seen (cite_entry who number (V.object object.old).what) 2 }
+    ensures at { IsAt J.book.session caller.new.seen result }
     ensures state { V.object object.new ≡ record (V.object object.old) { seen = caller.new.seen; syncs = caller.new.syncs } }
-    ensures caller { caller.new ≡ moved_on caller.old caller.new.seen caller.new.syncs 2 }
-    ensures few { length caller.new.seen ≤ 2 ^ 32 }
 {
     let entry = Entry {
         who,
@@ -91,14 +80,10 @@ pub fn told<J: Whose, V: Versioned<J>>(
     requires place { 0 < caller.old.held }
     requires spare { 1 ≤ (V.object object.old).spare }
     requires source { slice_get (nodes_of J.book.session caller.old.seen) out ≡ Some source.now }
-    requires keep { 0 ≡ keeps caller.old.seen (told_entry who number (V.object object.old).what out) }
-    requires allows { CallerAllows caller.old.seen (told_entry who number (V.object object.old).what out) }
-    ensures entered { IsEntered J.book.session caller.old.seen (V.object object.old).seen caller.new.seen (told_entry who number (V.object object.old).what out) }
-    ensures place { result.0 + 1 ≡ length caller.new.seen }
-    ensures node { slice_get (nodes_of J.book.session caller.new.seen) result.0 ≡ Some result.1 }
+    requires entry { MayEnter caller.old.seen (told_entry who number (V.object object.old).what out) 0 }
+    ensures entry { Enters J.book.session caller.old caller.new (V.object object.old).seen (told_entry who number (V.object object.old).what out) 0 }
+    ensures at { IsAt J.book.session caller.new.seen result }
     ensures state { V.object object.new ≡ record (V.object object.old) { seen = caller.new.seen; syncs = caller.new.syncs; spare = (V.object object.old).spare - 1 } }
-    ensures caller { caller.new ≡ moved_on caller.old caller.new.seen caller.new.syncs 0 }
-    ensures few { length caller.new.seen ≤ 2 ^ 32 }
 {
     let entry = Entry {
         who,
@@ -122,14 +107,10 @@ pub fn tag<J: Whose, V: Versioned<J>>(
 ) -> (u64, Node)
     requires who { caller.old.who ≡ who }
     requires place { HasRoom shelf.old caller.old.held 3 }
-    requires keep { 0 ≡ keeps caller.old.seen (tag_entry who number (V.object object.old).what room.attr room.value) }
-    requires allows { CallerAllows caller.old.seen (tag_entry who number (V.object object.old).what room.attr room.value) }
-    ensures entered { IsEntered J.book.session caller.old.seen (V.object object.old).seen caller.new.seen (tag_entry who number (V.object object.old).what room.attr room.value) }
-    ensures place { result.0 + 1 ≡ length caller.new.seen }
-    ensures node { slice_get (nodes_of J.book.session caller.new.seen) result.0 ≡ Some result.1 }
+    requires entry { MayEnter caller.old.seen (tag_entry who number (V.object object.old).what room.attr room.value) 0 }
+    ensures entry { Enters J.book.session caller.old caller.new (V.object object.old).seen (tag_entry who number (V.object object.old).what room.attr room.value) 0 }
+    ensures at { IsAt J.book.session caller.new.seen result }
     ensures state { V.object object.new ≡ record (V.object object.old) { seen = caller.new.seen; syncs = caller.new.syncs } }
-    ensures caller { caller.new ≡ moved_on caller.old caller.new.seen caller.new.syncs 0 }
-    ensures few { length caller.new.seen ≤ 2 ^ 32 }
 {
     let (act, list) = room.made(&object.current());
     let entry = Entry {
@@ -154,14 +135,10 @@ pub fn keep<J: Whose, V: Versioned<J>>(
 ) -> (u64, Node)
     requires who { caller.old.who ≡ who }
     requires place { HasRoom shelf.old caller.old.held 3 }
-    requires keep { 2 ≡ keeps caller.old.seen (keep_entry who number (V.object object.old).what) }
-    requires allows { CallerAllows caller.old.seen (keep_entry who number (V.object object.old).what) }
-    ensures entered { IsEntered J.book.session caller.old.seen (V.object object.old).seen caller.new.seen (keep_entry who number (V.object object.old).what) }
-    ensures place { result.0 + 1 ≡ length caller.new.seen }
-    ensures node { slice_get (nodes_of J.book.session caller.new.seen) result.0 ≡ Some result.1 }
+    requires entry { MayEnter caller.old.seen (keep_entry who number (V.object object.old).what) 2 }
+    ensures entry { Enters J.book.session caller.old caller.new (V.object object.old).seen (keep_entry who number (V.object object.old).what) 2 }
+    ensures at { IsAt J.book.session caller.new.seen result }
     ensures state { V.object object.new ≡ record (V.object object.old) { seen = caller.new.seen; syncs = caller.new.syncs } }
-    ensures caller { caller.new ≡ moved_on caller.old caller.new.seen caller.new.syncs 2 }
-    ensures few { length caller.new.seen ≤ 2 ^ 32 }
 {
     let entry = Entry {
         who,

@@ -1,19 +1,17 @@
 //! Entries on an object that has versions.
-ghost use Rattle.std.specs.Prelude.{◌≡◌, ◌+◌, ◌-◌, ◌≤◌, ◌<◌, ◌^◌, ◌++◌, true, false, [], is_some, IfSome, None, length, slice_get, Some, if◌then◌else◌};
+ghost use Rattle.std.specs.Prelude.{◌≡◌, ◌+◌, ◌-◌, ◌≤◌, ◌<◌, ◌^◌, ◌++◌, true, [], is_some, IfSome, None, length, Some};
 ghost use mathlib.Core.List.{IsPrefix};
-ghost use Rattle.pass_plain.specs.Histories.{is_fault, out_of};
-ghost use Rattle.pass_plain.specs.Legal.{CallerAllows, ObjectAllows};
-ghost use Rattle.pass_plain.specs.Lineages.{IsAlike, linked, lineage_act};
-ghost use Rattle.pass_plain.specs.Places.{is_exit, keeps};
+ghost use Rattle.pass_plain.specs.Histories.{out_of};
+ghost use Rattle.pass_plain.specs.Legal.{ObjectAllows};
+ghost use Rattle.pass_plain.specs.Lineages.{IsAlike, lineage_act};
 ghost use Rattle.pass_plain.specs.Versions.{is_in, nodes_of, source_in};
 ghost use Rattle.pass_book.specs.Names.{name, Listed};
 ghost use Rattle.pass_book.specs.Slips.{slip_records};
 ghost use Rattle.pass_book.specs.Syncs.{durable, IsRising};
 ghost use Rattle.pass_book.specs.declared.view.Role.TheVariants as role;
 ghost use Rattle.pass_entry.specs.declared.entry.Act.TheVariants as act;
-ghost use Rattle.pass_hold.specs.Callers.{moved_on};
-ghost use Rattle.pass_hold.specs.Callings.{IsEntered};
 ghost use Rattle.pass_hold.specs.Places.{HasRoom};
+ghost use Rattle.pass_hold.specs.Entering.{MayEnter, Enters, IsAt};
 ghost use Rattle.pass_flow.specs.Entering.{IsVersioned, is_object_act, moved_by, moved_records, version_records, rest_records, spare_after};
 
 use pass_book::{Desk, Slip};
@@ -96,22 +94,17 @@ pub fn enter_on<J: Whose>(
     requires what { entry.what ≡ desk.old.what }
     requires who { caller.old.who ≡ entry.who }
     requires place { HasRoom shelf.old caller.old.held (keep + 1) }
-    requires keep { keep ≡ keeps caller.old.seen entry }
-    requires exit { is_exit entry.call ≡ false }
-    requires allows { CallerAllows caller.old.seen entry }
+    requires entry { MayEnter caller.old.seen entry keep }
     requires replies { ObjectAllows J.book.session desk.old.seen entry }
     requires source { source_in (nodes_of J.book.session caller.old.seen) entry ≡ source }
     requires given { is_in entry ≡ is_some source }
     requires spare { IfSome source (λ s. 1 ≤ versions.old.spare) }
     requires rest { rest.items ≡ rest_records J.book.session desk.old.seen entry }
-    ensures entered { IsEntered J.book.session caller.old.seen desk.old.seen caller.new.seen entry }
-    ensures place { result.0 + 1 ≡ length caller.new.seen }
-    ensures node { slice_get (nodes_of J.book.session caller.new.seen) result.0 ≡ Some result.1 }
+    ensures entry { Enters J.book.session caller.old caller.new desk.old.seen entry keep }
+    ensures at { IsAt J.book.session caller.new.seen result }
     ensures object { IsVersioned J.book desk.new versions.new }
     ensures spare { versions.new.spare ≡ spare_after source versions.old.spare }
     ensures desk { desk.new ≡ record desk.old { seen = caller.new.seen; syncs = caller.new.syncs } }
-    ensures caller { caller.new ≡ moved_on caller.old caller.new.seen caller.new.syncs keep }
-    ensures few { length caller.new.seen ≤ 2 ^ 32 }
     ensures shelf { shelf.new ≡ record shelf.old { history = caller.new.seen; syncs = shelf.new.syncs; claimed = shelf.new.claimed } }
     ensures listed { Listed (name role.Desk entry.what) desk.old.syncs caller.new.syncs }
     ensures durable { durable caller.new.syncs < length caller.new.seen }

@@ -11,14 +11,11 @@ use std::alloc::AllocError;
 /// A kind of object says how an act that leaves its content is entered (`enter_flow`); the acts themselves stand in [`crate::acts`].
 /// The trait is small, since each call at a concrete type pays for all of it.
 pub trait Versioned<J: Whose> {
-    ghost use Rattle.std.specs.Prelude.{◌≡◌, ◌+◌, ◌≤◌, ◌^◌, true, false, Some, is_some, IfSome, OnOk, length, slice_get};
+    ghost use Rattle.std.specs.Prelude.{◌≡◌, ◌+◌, ◌≤◌, true, is_some, IfSome, OnOk};
     ghost use Rattle.pass_entry.specs.declared.entry.Reply.TheVariants as answer;
-    ghost use Rattle.pass_plain.specs.Legal.{CallerAllows};
-    ghost use Rattle.pass_plain.specs.Places.{is_exit, keeps};
     ghost use Rattle.pass_plain.specs.Versions.{is_in, nodes_of, source_in};
-    ghost use Rattle.pass_hold.specs.Callers.{moved_on};
-    ghost use Rattle.pass_hold.specs.Callings.{IsEntered};
     ghost use Rattle.pass_hold.specs.Places.{HasRoom};
+    ghost use Rattle.pass_hold.specs.Entering.{MayEnter, Enters, IsAt};
     ghost use Rattle.pass_flow.specs.Entering.{current_node, rest_records, spare_after};
     ghost use Rattle.pass_flow.specs.Flows.{ObjectView, is_flow_act};
 
@@ -53,17 +50,12 @@ pub trait Versioned<J: Whose> {
         requires what { entry.what ≡ (object self.old).what }
         requires who { caller.old.who ≡ entry.who }
         requires place { HasRoom shelf.old caller.old.held (keep + 1) }
-        requires keep { keep ≡ keeps caller.old.seen entry }
-        requires exit { is_exit entry.call ≡ false }
-        requires allows { CallerAllows caller.old.seen entry }
+        requires entry { MayEnter caller.old.seen entry keep }
         requires source { source_in (nodes_of J.book.session caller.old.seen) entry ≡ source }
         requires given { is_in entry ≡ is_some source }
         requires spare { IfSome source (λ s. 1 ≤ (object self.old).spare) }
         requires rest { rest.items ≡ rest_records J.book.session (object self.old).seen entry }
-        ensures entered { IsEntered J.book.session caller.old.seen (object self.old).seen caller.new.seen entry }
-        ensures place { result.0 + 1 ≡ length caller.new.seen }
-        ensures node { slice_get (nodes_of J.book.session caller.new.seen) result.0 ≡ Some result.1 }
-        ensures state { object self.new ≡ record (object self.old) { seen = caller.new.seen; syncs = caller.new.syncs; spare = spare_after source (object self.old).spare } }
-        ensures caller { caller.new ≡ moved_on caller.old caller.new.seen caller.new.syncs keep }
-        ensures few { length caller.new.seen ≤ 2 ^ 32 };
+        ensures entry { Enters J.book.session caller.old caller.new (object self.old).seen entry keep }
+        ensures at { IsAt J.book.session caller.new.seen result }
+        ensures state { object self.new ≡ record (object self.old) { seen = caller.new.seen; syncs = caller.new.syncs; spare = spare_after source (object self.old).spare } };
 }

@@ -12,6 +12,7 @@ ghost use Rattle.pass_book.specs.Syncs.{durable, IsRising, Backs};
 ghost use Rattle.pass_book.specs.declared.view.Role.TheVariants as role;
 ghost use Rattle.pass_hold.specs.Callers.{moved_on};
 ghost use Rattle.pass_hold.specs.Callings.{IsEntered};
+ghost use Rattle.pass_hold.specs.Entering.{MayEnter, Enters};
 ghost use Rattle.pass_hold.specs.Places.{HasRoom};
 
 use crate::caller::Caller;
@@ -76,24 +77,20 @@ impl<J: Whose> Caller<J> {
         keep: u32,
     ) -> u64
         requires room { HasRoom shelf.old self.old.held (keep + 1) }
-        requires keep { keep ≡ keeps self.old.seen entry }
         requires desk { (desk.old.book ≡ J.book) × (desk.old.what ≡ entry.what) }
-        requires who { self.old.who ≡ entry.who }
         requires last { ¬ (entry.act ≡ act.Finish) }
-        requires exit { is_exit entry.call ≡ false }
         requires born { (out : _) (descriptors : _) → ¬ (entry.act ≡ act.Born out descriptors) }
         requires kept { Backs J.book.session self.old.seen (length self.old.seen) self.old.syncs entry }
         requires object { ObjectAllows J.book.session desk.old.seen entry }
-        requires caller { CallerAllows self.old.seen entry }
+        requires who { self.old.who ≡ entry.who }
+        requires entry { MayEnter self.old.seen entry keep }
         requires slip { slip ≡ entry_records_by J.book.session desk.old.seen (source_in (nodes_of J.book.session self.old.seen) entry) entry }
-        ensures entered { IsEntered J.book.session self.old.seen desk.old.seen self.new.seen entry }
+        ensures entry { Enters J.book.session self.old self.new desk.old.seen entry keep }
         ensures listed { Listed (name role.Desk entry.what) desk.old.syncs self.new.syncs }
         ensures durable { durable self.new.syncs < length self.new.seen }
         ensures rising { IsRising self.new.syncs }
         ensures grows { IsPrefix self.old.syncs self.new.syncs }
         ensures place { result + 1 ≡ length self.new.seen }
-        ensures few { length self.new.seen ≤ 2 ^ 32 }
-        ensures caller { self.new ≡ moved_on self.old self.new.seen self.new.syncs keep }
         ensures desk { desk.new ≡ record desk.old { seen = self.new.seen; syncs = self.new.syncs } }
         ensures shelf { (shelf.new ≡ record shelf.old { history = shelf.old.history ++ entry ∷ []; syncs = shelf.new.syncs; claimed = shelf.new.claimed }) × (self.new.seen ≡ shelf.new.history) }
     {
@@ -113,14 +110,12 @@ impl<J: Whose> Caller<J> {
         requires object { ObjectAllows J.book.session desk.old.seen entry }
         requires caller { CallerAllows self.old.seen entry }
         requires slip { slip ≡ entry_records_by J.book.session desk.old.seen (source_in (nodes_of J.book.session self.old.seen) entry) entry }
-        ensures entered { IsEntered J.book.session self.old.seen desk.old.seen self.new.seen entry }
+        ensures entry { Enters J.book.session (record self.old { own = self.old.own - 1 }) self.new desk.old.seen entry 0 }
         ensures listed { Listed (name role.Desk entry.what) desk.old.syncs self.new.syncs }
         ensures durable { durable self.new.syncs < length self.new.seen }
         ensures rising { IsRising self.new.syncs }
         ensures grows { IsPrefix self.old.syncs self.new.syncs }
         ensures place { result + 1 ≡ length self.new.seen }
-        ensures few { length self.new.seen ≤ 2 ^ 32 }
-        ensures caller { self.new ≡ record (moved_on self.old self.new.seen self.new.syncs 0) { own = self.old.own - 1 } }
         ensures desk { desk.new ≡ record desk.old { seen = self.new.seen; syncs = self.new.syncs } }
         ensures shelf { (shelf.new ≡ record shelf.old { history = shelf.old.history ++ entry ∷ []; syncs = shelf.new.syncs; claimed = shelf.new.claimed }) × (self.new.seen ≡ shelf.new.history) }
     {
@@ -139,23 +134,19 @@ impl<J: Whose> Caller<J> {
         entry: Entry,
     ) -> (u64, Caller<J>)
         requires place { 66 ≤ self.old.held }
-        requires keep { 0 ≡ keeps self.old.seen entry }
         requires desk { (desk.old.book ≡ J.book) × (desk.old.what ≡ entry.what) }
         requires child { (child.book ≡ J.book) × (child.who ≡ entry.what) }
-        requires who { self.old.who ≡ entry.who }
         requires born { (out : _) × (descriptors : _) × (entry.act ≡ act.Born out descriptors) }
-        requires exit { is_exit entry.call ≡ false }
         requires object { ObjectAllows J.book.session desk.old.seen entry }
-        requires caller { CallerAllows self.old.seen entry }
+        requires who { self.old.who ≡ entry.who }
+        requires entry { MayEnter self.old.seen entry 0 }
         requires slip { slip ≡ entry_records_by J.book.session desk.old.seen (source_in (nodes_of J.book.session self.old.seen) entry) entry }
-        ensures entered { IsEntered J.book.session self.old.seen desk.old.seen self.new.seen entry }
+        ensures entry { Enters J.book.session self.old self.new desk.old.seen entry 0 }
         ensures listed { Listed (name role.Desk entry.what) desk.old.syncs self.new.syncs }
         ensures durable { durable self.new.syncs < length self.new.seen }
         ensures rising { IsRising self.new.syncs }
         ensures grows { IsPrefix self.old.syncs self.new.syncs }
         ensures place { result.0 + 1 ≡ length self.new.seen }
-        ensures few { length self.new.seen ≤ 2 ^ 32 }
-        ensures caller { self.new ≡ moved_on self.old self.new.seen self.new.syncs 0 }
         ensures child { (result.1.who ≡ entry.what) × (result.1.seen ≡ self.new.seen) }
         ensures places { (result.1.own ≡ 65) × (result.1.held ≡ 0) }
         ensures desk { desk.new ≡ record desk.old { seen = self.new.seen; syncs = self.new.syncs } }

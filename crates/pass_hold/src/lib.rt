@@ -7,9 +7,10 @@
 //! until somebody uses it.
 //!
 //! `enter`, `leave`, `born` and `finish` make an entry that desk and caller allow, with exactly its records. They claim what the
-//! call still needs and give back what it no longer needs in the same hold (`caller`, `shelf`), take no memory and can't be
-//! refused. Behind each the history is legal and has the entry behind prefixes that both had seen (`entered`), and the desk has
-//! seen all syncs of its object (`listed`). `room` is refused exactly where fewer places are left for a new call than it needs,
+//! call still needs and give back what it no longer needs in the same hold (`entry`, `shelf`), take no memory and can't be
+//! refused. Behind each the history is legal and has the entry behind prefixes that both had seen (`entry`), and the desk has seen
+//! all syncs of its object (`listed`). What a caller owes before an entry and how it stands after it are the relations `MayEnter`
+//! and `Enters`, by which each act of the crates above says its entry. `room` is refused exactly where fewer places are left for a new call than it needs,
 //! and tells how many (`full`, `room`). The places of a call that is left count as free; then the process has seen the whole
 //! history and made no entry (`looked`). `look`, `meet` and `show` bring a holder further. That what a call makes by these steps
 //! is its call, at each answer, are the laws `calls`, `answers` and `places`. At the end of a session the book's list of syncs

@@ -1,6 +1,6 @@
 -- The steps of an exit on the pipes of its process, and its last one.
 use Rattle.std.proofs.Common.{◌≡◌, ℕ, ◌+◌, ◌-◌, ◌<◌, ◌≤◌, ◌^◌, List, [], ◌∷◌, ◌++◌, length, refl, ap, sym, ◌∙◌, subst, arith, true, false, append_assoc, append-nil, length-append}
-use Rattle.std.specs.Prelude.{Option, Some, None, map, option_map, slice_get}
+use Rattle.std.specs.Prelude.{Option, Some, None, drop, map, option_map, slice_get}
 use Rattle.std.specs.FinMap as finite_map
 use Rattle.pass_entry.specs.declared.entry.Act.{Act}
 use Rattle.pass_entry.specs.declared.entry.Act.TheVariants as act
@@ -30,7 +30,7 @@ use Rattle.pass_answer.proofs.ObjectSteps.{place_is}
 use Rattle.pass_answer.proofs.Steps.{not_asked, next_allows, gone_by, gone_own}
 use Rattle.pass_lives.specs.Exits.{IsExiting}
 use Rattle.pass_answer.specs.Lives.{HasExited}
-use Rattle.pass_lives.proofs.PipeLists.{at_end, next_in, last_in, ends_with}
+use Rattle.pass_lives.proofs.PipeLists.{at_end, first_is, none_is, next_in, last_in, ends_with}
 
 abbrev leaving : Descriptor → Step
 leaving d = act_on d.pnode (act.Leave (end_of d.mode))
@@ -51,7 +51,7 @@ exit_begins session p number c way is = record {
   few = is.few;
 }
 
-module _ (session : Session) (before : ProcView) (number : ℕ) (p : ProcessView) (c : CallerState) (rest : List Descriptor) (is : IsExiting session before number p c rest) where
+module _ {session : Session} {before : ProcView} {number : ℕ} {p : ProcessView} {c : CallerState} {rest : List Descriptor} (is : IsExiting session before number p c rest) where
   abbrev r : Request
   r = requests.Exit
 
@@ -71,10 +71,16 @@ module _ (session : Session) (before : ProcView) (number : ℕ) (p : ProcessView
       let own = is.own in
       omega (arith, all, parts, both, count, own)
 
+-- it comes to its next pipe
+pub ahead : {session : Session} {before : ProcView} {number : ℕ} {p : ProcessView} {c : CallerState} {ds : List Descriptor} → IsExiting session before number p c ds
+    → (d : Descriptor) → slice_get ds 0 ≡ Some d → (rest : List Descriptor) → rest ≡ drop 1 ds → IsExiting session before number p c (d ∷ rest)
+ahead {session} {before} {number} {p} {c} {ds} is d at rest behind =
+    subst (λ (all : List Descriptor). IsExiting session before number p c all) (first_is ds d at ∙ ap (λ (all : List Descriptor). d ∷ all) (sym behind)) is
+
 -- The next pipe. `by` stands for the process in the entry that is made, and `side` for the pipe's end
 
-module _ (session : Session) (before : ProcView) (number : ℕ) (p : ProcessView) (c : CallerState) (d : Descriptor) (rest : List Descriptor) (is : IsExiting session before number p c (d ∷ rest))
-    (what : ℕ) (its : what ≡ d.pnode) (by : ℕ) (of : by ≡ p.who) (side : End) (end_is : side ≡ end_of d.mode) where
+module _ {session : Session} {before : ProcView} {number : ℕ} {p : ProcessView} {c : CallerState} {d : Descriptor} {rest : List Descriptor} (is : IsExiting session before number p c (d ∷ rest))
+    {what : ℕ} (its : what ≡ d.pnode) {by : ℕ} (of : by ≡ p.who) {side : End} (end_is : side ≡ end_of d.mode) where
   abbrev leaves : Act
   leaves = act.Leave (end_of d.mode)
 
@@ -83,9 +89,9 @@ module _ (session : Session) (before : ProcView) (number : ℕ) (p : ProcessView
 
   at : slice_get (steps_of p.who p.state is.made requests.Exit) (length is.made) ≡ Some (what, leaves)
   at =
-      ap (λ n. slice_get (map leaving (pipe_descriptors p.state) ++ ending session before number p c (d ∷ rest) is ∷ []) n) is.count
-      ∙ ap (λ ds. slice_get (map leaving ds ++ ending session before number p c (d ∷ rest) is ∷ []) (length is.left)) is.pipes
-      ∙ next_in leaving is.left rest d (ending session before number p c (d ∷ rest) is)
+      ap (λ n. slice_get (map leaving (pipe_descriptors p.state) ++ ending is ∷ []) n) is.count
+      ∙ ap (λ ds. slice_get (map leaving ds ++ ending is ∷ []) (length is.left)) is.pipes
+      ∙ next_in leaving is.left rest d (ending is)
       ∙ ap on_what (sym its)
 
   abbrev left_by : Entry
@@ -96,9 +102,9 @@ module _ (session : Session) (before : ProcView) (number : ℕ) (p : ProcessView
 
   pub leave_allows : CallerAllows c.seen left_by
   leave_allows = subst (λ e. CallerAllows c.seen e) same
-      (next_allows session before.seen c.seen p.who number requests.Exit p.state is.made p.state (fine session before number p c (d ∷ rest) is) what leaves at answer.Done refl refl is.going)
+      (next_allows session before.seen c.seen p.who number requests.Exit p.state is.made p.state (fine is) what leaves at answer.Done refl refl is.going)
 
-  module _ (desk : List Entry) (e : CallerState) (on_it : e ≡ record (moved_on c e.seen e.syncs 0) { own = c.own - 1 }) (entered : IsEntered session c.seen desk e.seen left_by) where
+  module _ {desk : List Entry} (e : CallerState) (on_it : e ≡ record (moved_on c e.seen e.syncs 0) { own = c.own - 1 }) (entered : IsEntered session c.seen desk e.seen left_by) where
     entry_made : IsEntered session c.seen desk e.seen (entry_of p.who number requests.Exit what leaves answer.Done)
     entry_made = subst (λ f. IsEntered session c.seen desk e.seen f) (sym same) entered
 
@@ -106,7 +112,7 @@ module _ (session : Session) (before : ProcView) (number : ℕ) (p : ProcessView
     m = (length entry_made.past, entry_of p.who number requests.Exit what leaves answer.Done)
 
     gone : HasGone session before.seen e.seen p.who number requests.Exit p.state (is.made ++ m ∷ []) p.state
-    gone = gone_by session before.seen c.seen p.who number requests.Exit p.state is.made p.state (fine session before number p c (d ∷ rest) is) what leaves at answer.Done desk e.seen is.going entry_made refl
+    gone = gone_by session before.seen c.seen p.who number requests.Exit p.state is.made p.state (fine is) what leaves at answer.Done desk e.seen is.going entry_made refl
 
     pub left_on : length e.seen ≤ 2 ^ 32 → IsExiting session before number p e rest
     left_on few = record {
@@ -124,7 +130,7 @@ module _ (session : Session) (before : ProcView) (number : ℕ) (p : ProcessView
       own = (
           let fewer = ap (λ (c : CallerState). c.own) on_it in
           let steps = length-append is.made (m ∷ []) in
-          let some = exit_own session before number p c (d ∷ rest) is in
+          let some = exit_own is in
           let own = is.own in
           omega (arith, fewer, steps, some, own)
           );
@@ -135,23 +141,27 @@ module _ (session : Session) (before : ProcView) (number : ℕ) (p : ProcessView
 
 -- The process ends
 
-module _ (session : Session) (before : ProcView) (number : ℕ) (p : ProcessView) (c : CallerState) (is : IsExiting session before number p c []) where
+pub has_left : {session : Session} {before : ProcView} {number : ℕ} {p : ProcessView} {c : CallerState} {ds : List Descriptor} → IsExiting session before number p c ds
+    → slice_get ds 0 ≡ None → IsExiting session before number p c []
+has_left {session} {before} {number} {p} {c} {ds} is at = subst (λ (rest : List Descriptor). IsExiting session before number p c rest) (none_is ds at) is
+
+module _ {session : Session} {before : ProcView} {number : ℕ} {p : ProcessView} {c : CallerState} (is : IsExiting session before number p c []) where
   done : pipe_descriptors p.state ≡ is.left
   done = is.pipes ∙ append-nil is.left
 
   finish_at : slice_get (steps_of p.who p.state is.made requests.Exit) (length is.made) ≡ Some (p.who, act.Finish)
   finish_at =
-      ap (λ n. slice_get (map leaving (pipe_descriptors p.state) ++ ending session before number p c [] is ∷ []) n) is.count
-      ∙ ap (λ ds. slice_get (map leaving ds ++ ending session before number p c [] is ∷ []) (length is.left)) done
-      ∙ last_in leaving is.left (ending session before number p c [] is)
+      ap (λ n. slice_get (map leaving (pipe_descriptors p.state) ++ ending is ∷ []) n) is.count
+      ∙ ap (λ ds. slice_get (map leaving ds ++ ending is ∷ []) (length is.left)) done
+      ∙ last_in leaving is.left (ending is)
 
   abbrev finishing : Entry
   finishing = own_entry p.who number calls.Exit act.Finish answer.Done
 
   pub finish_allows : CallerAllows c.seen finishing
-  finish_allows = next_allows session before.seen c.seen p.who number requests.Exit p.state is.made p.state (fine session before number p c [] is) p.who act.Finish finish_at answer.Done refl refl is.going
+  finish_allows = next_allows session before.seen c.seen p.who number requests.Exit p.state is.made p.state (fine is) p.who act.Finish finish_at answer.Done refl refl is.going
 
-  module _ (desk after : List Entry) (place : ℕ) (last : place + 1 ≡ length after) (entered : IsEntered session c.seen desk after finishing) where
+  module _ {desk after : List Entry} (place : ℕ) (last : place + 1 ≡ length after) (entered : IsEntered session c.seen desk after finishing) where
     abbrev f : ℕ × Entry
     f = (length entered.past, finishing)
 
@@ -159,7 +169,7 @@ module _ (session : Session) (before : ProcView) (number : ℕ) (p : ProcessView
     now = record p.state { ended = true; descriptors = finite_map.empty }
 
     gone_last : HasGone session before.seen after p.who number requests.Exit p.state (is.made ++ f ∷ []) now
-    gone_last = gone_own session before.seen c.seen p.who number requests.Exit p.state is.made p.state (fine session before number p c [] is) p.who act.Finish finish_at answer.Done desk after is.going entered refl refl
+    gone_last = gone_own session before.seen c.seen p.who number requests.Exit p.state is.made p.state (fine is) p.who act.Finish finish_at answer.Done desk after is.going entered refl refl
 
     replied : HasReplied session p.who before.seen after requests.Exit answer.Done
     replied = record {

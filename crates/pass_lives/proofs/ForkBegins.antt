@@ -1,5 +1,5 @@
 -- The first two steps of a fork.
-use Rattle.std.proofs.Common.{◌≡◌, ℕ, ◌+◌, ◌-◌, ◌<◌, ◌≤◌, ◌^◌, List, [], ◌∷◌, length, refl, ap, sym, ◌∙◌, subst, arith, Bool, true, false, ◌||◌}
+use Rattle.std.proofs.Common.{◌≡◌, ℕ, ◌+◌, ◌-◌, ◌≤◌, ◌^◌, List, [], ◌∷◌, length, refl, ap, sym, ◌∙◌, subst, arith, Bool, true, false, ◌||◌}
 use Rattle.std.specs.Prelude.{Some, None, slice_get, if◌then◌else◌}
 use Rattle.std.specs.FinSet as finite_set
 use Rattle.pass_entry.specs.declared.entry.Act.TheVariants as act
@@ -13,114 +13,117 @@ use Rattle.pass_plain.specs.declared.request.Request.{Request}
 use Rattle.pass_plain.specs.declared.request.Request.TheVariants as requests
 use Rattle.pass_plain.specs.Calls.{Made, pipe_descriptors, refused_ask}
 use Rattle.pass_plain.specs.Histories.{is_fault}
-use Rattle.pass_plain.specs.Legal.{CallerAllows}
-use Rattle.pass_plain.specs.Places.{kept_by, keeps}
+use Rattle.pass_plain.specs.Places.{kept_by}
 use Rattle.pass_plain.specs.Processes.{Process, process_after}
 use Rattle.pass_plain.specs.Sessions.{Session}
 use Rattle.pass_plain.specs.Versions.{nodes_of}
 use Rattle.pass_hold.specs.Callers.{CallerState}
 use Rattle.pass_hold.specs.Callings.{IsEntered, IsGoing, IsIdle, HasGone}
-use Rattle.pass_hold.proofs.Callings.{more, call_made, idle_again}
+use Rattle.pass_hold.specs.Entering.{MayEnter}
+use Rattle.pass_hold.proofs.Callings.{begins_call, more, call_made, idle_again}
 use Rattle.pass_proc.specs.Acts.{own_entry}
 use Rattle.pass_proc.specs.CallEnds.{HasReplied}
+use Rattle.pass_proc.specs.Procs.{IsCallerOf}
 use Rattle.pass_proc.specs.Views.{ProcessView}
-use Rattle.pass_proc.proofs.Steps.{begun}
 use Rattle.pass_registry.specs.Desks.{on_registry}
 use Rattle.pass_answer.proofs.ObjectSteps.{place_is}
-use Rattle.pass_answer.proofs.Steps.{not_asked, next_allows, next_keeps, gone_by, gone_own}
+use Rattle.pass_answer.proofs.Steps.{not_asked, next_may, gone_by, gone_own}
 use Rattle.pass_lives.specs.Forks.{ForkingView, IsForking}
 
-module _ (session : Session) (seen : List Entry) (who number : ℕ) (p : Process) (idle : IsIdle session seen who (number - 1) p) (some : 0 < number) where
+-- a process that has reserved memory and seen to its places is the same
+pub begins : {session : Session} {p : ProcessView} {n : ℕ} {c : CallerState} → IsCallerOf session p n c → (q : ProcessView) → q ≡ record p { lineage = q.lineage; spare = q.spare; room = q.room } → (d : CallerState) → d ≡ c
+    → IsCallerOf session q n d
+begins {session} {p} {n} {c} is q reserved d same =
+    subst (λ (x : CallerState). IsCallerOf session q n x) (sym same)
+    (subst (λ (v : ProcessView). IsCallerOf session v n c) (sym reserved) (record { of_who = is.of_who; own = is.own; idle = is.idle; few = is.few }))
+
+-- `asker` stands for the process in the entries on the registry
+module _ {session : Session} {seen : List Entry} {who n : ℕ} {p : Process} (idle : IsIdle session seen who n p) where
   abbrev r : Request
   r = requests.Fork
 
   fine : refused_ask p r ≡ None
   fine = not_asked p r refl
 
-  going : IsGoing session seen seen who number r p [] p
-  going = begun session seen who number p r idle some
+  going : IsGoing session seen seen who (n + 1) r p [] p
+  going = begins_call session seen who n p r idle
 
   abbrev minting : Reply → Entry
-  minting reply = on_registry who number calls.Fork (act.Mint kind.Process) reply
+  minting reply = on_registry who (n + 1) calls.Fork (act.Mint kind.Process) reply
 
-  pub mint_allows : (reply : Reply) → CallerAllows seen (minting reply)
-  mint_allows reply = next_allows session seen seen who number r p [] p fine 0 (act.Mint kind.Process) refl reply refl refl going
-
-  pub mint_keeps : (reply : Reply) → kept_by reply 131 ≡ keeps seen (minting reply)
-  mint_keeps reply = by_fault (is_fault reply) ∙ sym (next_keeps session seen seen who number r p [] p fine 0 (act.Mint kind.Process) refl reply going)
+  pub mint_may : {asker : ℕ} → asker ≡ who → (reply : Reply) → MayEnter seen (on_registry asker (n + 1) calls.Fork (act.Mint kind.Process) reply) (kept_by reply 131)
+  mint_may of reply =
+      subst (λ w. MayEnter seen (on_registry w (n + 1) calls.Fork (act.Mint kind.Process) reply) (kept_by reply 131)) (sym of)
+      (next_may session seen seen who (n + 1) r p [] p fine 0 (act.Mint kind.Process) refl reply refl refl going (kept_by reply 131) (by_fault (is_fault reply)))
     where
       by_fault : (b : Bool) → ◌≡◌ {A = ℕ} (if b then 0 else 131) (if b || false then 0 else 132 - (0 + 1))
       by_fault true = refl
       by_fault false = refl
 
-  -- `asker` stands for the process in the entry that was made
-  module _ (desk after : List Entry) (asker : ℕ) (of : asker ≡ who) (reply : Reply) (by : IsEntered session seen desk after (on_registry asker number calls.Fork (act.Mint kind.Process) reply)) where
+  module _ {desk after : List Entry} {asker : ℕ} (of : asker ≡ who) (reply : Reply) (by : IsEntered session seen desk after (on_registry asker (n + 1) calls.Fork (act.Mint kind.Process) reply)) where
     minted : IsEntered session seen desk after (minting reply)
-    minted = subst (λ w. IsEntered session seen desk after (on_registry w number calls.Fork (act.Mint kind.Process) reply)) of by
+    minted = subst (λ w. IsEntered session seen desk after (on_registry w (n + 1) calls.Fork (act.Mint kind.Process) reply)) of by
 
     abbrev one : Made
     one = (length minted.past, minting reply) ∷ []
 
-    gone : HasGone session seen after who number r p one p
-    gone = gone_by session seen seen who number r p [] p fine 0 (act.Mint kind.Process) refl reply desk after going minted refl
+    gone : HasGone session seen after who (n + 1) r p one p
+    gone = gone_by session seen seen who (n + 1) r p [] p fine 0 (act.Mint kind.Process) refl reply desk after going minted refl
 
   -- the registry refuses it
-  module _ (desk after : List Entry) (asker : ℕ) (of : asker ≡ who) (f : CallFault) (by : IsEntered session seen desk after (on_registry asker number calls.Fork (act.Mint kind.Process) (answer.Fault f))) where
+  module _ {desk after : List Entry} {asker : ℕ} (of : asker ≡ who) (f : CallFault) (by : IsEntered session seen desk after (on_registry asker (n + 1) calls.Fork (act.Mint kind.Process) (answer.Fault f))) where
     pub fork_faulted : HasReplied session who seen after r (answer.Fault f)
     fork_faulted = record {
-      made = one desk after asker of (answer.Fault f) by;
-      call = call_made session seen after who number r p (one desk after asker of (answer.Fault f) by) p (gone desk after asker of (answer.Fault f) by) refl;
+      made = one of (answer.Fault f) by;
+      call = call_made session seen after who (n + 1) r p (one of (answer.Fault f) by) p (gone of (answer.Fault f) by) refl;
       last = refl;
     }
 
-    pub faulted_idle : IsIdle session after who number p
-    faulted_idle = idle_again session seen after who number r p (one desk after asker of (answer.Fault f) by) p (gone desk after asker of (answer.Fault f) by) refl idle.lives
+    pub faulted_idle : IsIdle session after who (n + 1) p
+    faulted_idle = idle_again session seen after who (n + 1) r p (one of (answer.Fault f) by) p (gone of (answer.Fault f) by) refl idle.lives
 
   -- the child has its number
-  module _ (desk after : List Entry) (asker : ℕ) (of : asker ≡ who) (child : ℕ) (by : IsEntered session seen desk after (on_registry asker number calls.Fork (act.Mint kind.Process) (answer.Made child))) where
+  module _ {desk after : List Entry} {asker : ℕ} (of : asker ≡ who) (child : ℕ) (by : IsEntered session seen desk after (on_registry asker (n + 1) calls.Fork (act.Mint kind.Process) (answer.Made child))) where
     abbrev m : ℕ × Entry
-    m = (length (minted desk after asker of (answer.Made child) by).past, minting (answer.Made child))
+    m = (length (minted of (answer.Made child) by).past, minting (answer.Made child))
 
-    on : IsGoing session seen after who number r p (m ∷ []) p
-    on = more session seen after who number r p (m ∷ []) p (gone desk after asker of (answer.Made child) by) refl idle.lives
+    on : IsGoing session seen after who (n + 1) r p (m ∷ []) p
+    on = more session seen after who (n + 1) r p (m ∷ []) p (gone of (answer.Made child) by) refl idle.lives
 
     abbrev spawning : Entry
-    spawning = own_entry who number calls.Fork (act.Spawn child) answer.Done
+    spawning = own_entry who (n + 1) calls.Fork (act.Spawn child) answer.Done
 
-    pub spawn_allows : CallerAllows after spawning
-    spawn_allows = next_allows session seen after who number r p (m ∷ []) p fine who (act.Spawn child) refl answer.Done refl refl on
+    pub spawn_may : MayEnter after spawning 130
+    spawn_may = next_may session seen after who (n + 1) r p (m ∷ []) p fine who (act.Spawn child) refl answer.Done refl refl on 130 refl
 
-    pub spawn_keeps : 130 ≡ keeps after spawning
-    spawn_keeps = sym (next_keeps session seen after who number r p (m ∷ []) p fine who (act.Spawn child) refl answer.Done on)
-
-    module _ (own later : List Entry) (out : ℕ) (last : out + 1 ≡ length later) (spawned : IsEntered session after own later spawning) where
+    -- its first two entries are made: `q` and `c` are the process and its caller then
+    module _ (c : CallerState) {own : List Entry} (out : ℕ) (last : out + 1 ≡ length c.seen) (spawned : IsEntered session after own c.seen spawning) where
       abbrev now : Process
       now = record p { children = finite_set.insert p.children child }
 
       abbrev two : Made
       two = m ∷ (length spawned.past, spawning) ∷ []
 
-      gone_two : HasGone session seen later who number r p two now
-      gone_two = gone_own session seen after who number r p (m ∷ []) p fine who (act.Spawn child) refl answer.Done own later on spawned refl refl
+      gone_two : HasGone session seen c.seen who (n + 1) r p two now
+      gone_two = gone_own session seen after who (n + 1) r p (m ∷ []) p fine who (act.Spawn child) refl answer.Done own c.seen on spawned refl refl
 
-      pub forking : (q : ProcessView) → q.who ≡ who → q.state ≡ now → (c : CallerState) → c.seen ≡ later → c.who ≡ who → c.own ≡ 65 → length later ≤ 2 ^ 32
-          → (k : ForkingView) → k.before ≡ seen → k.child ≡ child → k.descriptors ≡ p.descriptors → k.rest ≡ pipe_descriptors p → k.out ≡ out → slice_get (nodes_of session later) out ≡ Some k.source
-          → IsForking session number q c k
-      forking q its state c sees of_who kept few k before its_child held rest at source = record {
+      pub forking : (q : ProcessView) → q.who ≡ who → q.state ≡ now → c.who ≡ who → c.own ≡ 65 → length c.seen ≤ 2 ^ 32
+          → (k : ForkingView) → k.before ≡ seen → k.child ≡ child → k.descriptors ≡ p.descriptors → k.rest ≡ pipe_descriptors p → k.out ≡ out → slice_get (nodes_of session c.seen) out ≡ Some k.source
+          → IsForking session (n + 1) q c k
+      forking q its state of_who kept few k before its_child held rest at source = record {
         first = m;
         second = (length spawned.past, spawning);
         joins = [];
-        gone = subst (λ (b : List Entry). HasGone session b c.seen q.who number r (process_after b q.who) two q.state) (sym before)
-            (subst (λ (l : List Entry). HasGone session seen l q.who number r (process_after seen q.who) two q.state) (sym sees)
-            (subst (λ (s : Process). HasGone session seen later q.who number r (process_after seen q.who) two s) (sym state)
-            (subst (λ (w : ℕ). HasGone session seen later w number r (process_after seen w) two now) (sym its)
-            (subst (λ (s : Process). HasGone session seen later who number r s two now) (sym idle.state) gone_two))));
+        gone = subst (λ (b : List Entry). HasGone session b c.seen q.who (n + 1) r (process_after b q.who) two q.state) (sym before)
+            (subst (λ (s : Process). HasGone session seen c.seen q.who (n + 1) r (process_after seen q.who) two s) (sym state)
+            (subst (λ (w : ℕ). HasGone session seen c.seen w (n + 1) r (process_after seen w) two now) (sym its)
+            (subst (λ (s : Process). HasGone session seen c.seen who (n + 1) r s two now) (sym idle.state) gone_two)));
         goes = refl;
         lives = ap (λ (s : Process). s.ended) state ∙ idle.lives;
         child = sym its_child;
-        out = place_is session after own later spawning spawned out last ∙ sym at;
-        source = ap (λ (h : List Entry). slice_get (nodes_of session h) k.out) sees ∙ ap (λ n. slice_get (nodes_of session later) n) at ∙ source;
-        within = (let longer = ap length sees in omega (arith, at, last, longer));
+        out = place_is session after own c.seen spawning spawned out last ∙ sym at;
+        source = ap (λ n. slice_get (nodes_of session c.seen) n) at ∙ source;
+        within = omega (arith, at, last);
         joined = [];
         pipes = ap (λ (s : Process). pipe_descriptors s) was ∙ sym rest;
         count = refl;
@@ -128,7 +131,7 @@ module _ (session : Session) (seen : List Entry) (who number : ℕ) (p : Process
         holds = ap (λ (s : Process). s.descriptors) state ∙ sym held;
         of_who = of_who ∙ sym its;
         own = kept;
-        few = subst (λ (h : List Entry). length h ≤ 2 ^ 32) (sym sees) few;
+        few = few;
       }
         where
           was : process_after k.before q.who ≡ p

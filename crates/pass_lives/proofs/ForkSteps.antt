@@ -1,5 +1,5 @@
 -- The steps of a fork on the pipes of its process, and its last one.
-use Rattle.std.proofs.Common.{◌≡◌, ℕ, ◌+◌, ◌-◌, ◌<◌, ◌≤◌, ◌^◌, List, [], ◌∷◌, ◌++◌, length, refl, ap, sym, ◌∙◌, subst, arith, true, false, append_assoc, append-nil, length-append}
+use Rattle.std.proofs.Common.{◌≡◌, ℕ, ◌+◌, ◌-◌, ◌≤◌, ◌^◌, List, [], ◌∷◌, ◌++◌, length, refl, ap, sym, ◌∙◌, subst, arith, true, false, append_assoc, append-nil, length-append}
 use Rattle.std.specs.Prelude.{Option, Some, None, Ok, drop, map, option_map, slice_get}
 use mathlib.Core.List.{IsPrefix}
 use Rattle.pass_entry.specs.declared.entry.Act.{Act}
@@ -12,14 +12,15 @@ use Rattle.pass_plain.specs.declared.request.Request.{Request}
 use Rattle.pass_plain.specs.declared.request.Request.TheVariants as requests
 use Rattle.pass_plain.specs.Calls.{Made, Step, act_on, end_of, pipe_descriptors, pnode_at, refused_ask, steps_of}
 use Rattle.pass_plain.specs.Histories.{pnode_of}
-use Rattle.pass_plain.specs.Legal.{CallerAllows, ends_call}
-use Rattle.pass_plain.specs.Places.{call_places, keeps}
+use Rattle.pass_plain.specs.Legal.{ends_call}
+use Rattle.pass_plain.specs.Places.{call_places}
 use Rattle.pass_plain.specs.Processes.{Held, Process, new_process, process_after}
 use Rattle.pass_plain.specs.Sessions.{Session}
 use Rattle.pass_plain.specs.Versions.{nodes_of, source_in}
 use Rattle.pass_plain.proofs.Counts.{few_pipes}
 use Rattle.pass_hold.specs.Callers.{CallerState, moved_on}
 use Rattle.pass_hold.specs.Callings.{IsCallMade, IsEntered, IsGoing, HasGone, made_by}
+use Rattle.pass_hold.specs.Entering.{MayEnter}
 use Rattle.pass_hold.proofs.Callings.{entry_of, more, call_made, idle_again, held_going}
 use Rattle.pass_pipe.specs.Desks.{join_entry}
 use Rattle.pass_proc.specs.Births.{birth_entry}
@@ -28,7 +29,7 @@ use Rattle.pass_proc.specs.Views.{ProcessView}
 use Rattle.pass_proc.proofs.Steps.{node_stays}
 use Rattle.pass_answer.specs.Answers.{Answers}
 use Rattle.pass_answer.specs.declared.answer.Moved.TheVariants as moved
-use Rattle.pass_answer.proofs.Steps.{not_asked, next_allows, next_keeps, gone_by}
+use Rattle.pass_answer.proofs.Steps.{not_asked, next_may, gone_by}
 use Rattle.pass_lives.specs.Forks.{ForkingView, IsForking}
 use Rattle.pass_answer.specs.Lives.{IsChild}
 use Rattle.pass_lives.proofs.PipeLists.{at_end, first_is, none_is, next_in, last_in, ends_with}
@@ -36,7 +37,11 @@ use Rattle.pass_lives.proofs.PipeLists.{at_end, first_is, none_is, next_in, last
 abbrev joining : Descriptor → Step
 joining d = act_on d.pnode (act.Join (end_of d.mode))
 
-module _ (session : Session) (number : ℕ) (p : ProcessView) (c : CallerState) (k : ForkingView) (is : IsForking session number p c k) where
+-- a fork as its parts tell it
+pub told_by : {session : Session} {number : ℕ} {p : ProcessView} {c : CallerState} {f k : ForkingView} → IsForking session number p c f → k ≡ f → IsForking session number p c k
+told_by {session} {number} {p} {c} is same = subst (λ (v : ForkingView). IsForking session number p c v) (sym same) is
+
+module _ {session : Session} {number : ℕ} {p : ProcessView} {c : CallerState} {k : ForkingView} (is : IsForking session number p c k) where
   abbrev r : Request
   r = requests.Fork
 
@@ -75,7 +80,7 @@ module _ (session : Session) (number : ℕ) (p : ProcessView) (c : CallerState) 
 
   -- The next pipe. `by` stands for the process in the entry that is made, and `side` for the pipe's end
 
-  module _ (d : Descriptor) (next : slice_get k.rest 0 ≡ Some d) (what : ℕ) (its : what ≡ d.pnode) (by : ℕ) (of : by ≡ p.who) (side : End) (end_is : side ≡ end_of d.mode) where
+  module _ {d : Descriptor} (next : slice_get k.rest 0 ≡ Some d) {what : ℕ} (its : what ≡ d.pnode) {by : ℕ} (of : by ≡ p.who) {side : End} (end_is : side ≡ end_of d.mode) where
     rest_is : k.rest ≡ d ∷ drop 1 k.rest
     rest_is = first_is k.rest d next
 
@@ -98,18 +103,14 @@ module _ (session : Session) (number : ℕ) (p : ProcessView) (c : CallerState) 
     same : entry_of p.who number r what joins_end answer.Done ≡ joined
     same = ap (λ w. join_entry w number what (end_of d.mode)) (sym of) ∙ ap (λ x. join_entry by number what x) (sym end_is)
 
-    pub join_allows : CallerAllows c.seen joined
-    join_allows = subst (λ e. CallerAllows c.seen e) same (next_allows session k.before c.seen p.who number r was made p.state fine what joins_end at answer.Done refl refl on)
-
-    pub join_keeps : (held keep : ℕ) → held ≡ call_places c.seen c.who → keep ≡ held - 1 → keep ≡ keeps c.seen joined
-    join_keeps held keep its_held one_less =
-        subst (λ e. keep ≡ keeps c.seen e) same
-        (kept ∙ sym (next_keeps session k.before c.seen p.who number r was made p.state fine what joins_end at answer.Done on))
+    pub join_may : (held keep : ℕ) → held ≡ call_places c.seen c.who → keep ≡ held - 1 → MayEnter c.seen joined keep
+    join_may held keep its_held one_less =
+        subst (λ e. MayEnter c.seen e keep) same (next_may session k.before c.seen p.who number r was made p.state fine what joins_end at answer.Done refl refl on keep kept)
       where
         kept : keep ≡ 132 - (length made + 1)
         kept = let has = its_held ∙ ap (λ w. call_places c.seen w) is.of_who ∙ places in omega (arith, has, one_less)
 
-    module _ (desk : List Entry) (keep : ℕ) (e : CallerState) (on_it : e ≡ moved_on c e.seen e.syncs keep) (entered : IsEntered session c.seen desk e.seen joined) where
+    module _ {desk : List Entry} (keep : ℕ) (e : CallerState) (on_it : e ≡ moved_on c e.seen e.syncs keep) (entered : IsEntered session c.seen desk e.seen joined) where
       entry_made : IsEntered session c.seen desk e.seen (entry_of p.who number r what joins_end answer.Done)
       entry_made = subst (λ f. IsEntered session c.seen desk e.seen f) (sym same) entered
 
@@ -154,12 +155,9 @@ module _ (session : Session) (number : ℕ) (p : ProcessView) (c : CallerState) 
         few = few;
       })
 
-  pub rest_fewer : (d : Descriptor) → slice_get k.rest 0 ≡ Some d → length (drop 1 k.rest) < length k.rest
-  rest_fewer d next = let longer = ap length (first_is k.rest d next) in omega (arith, longer)
-
   -- The child begins
 
-  module _ (all : slice_get k.rest 0 ≡ None) (by : ℕ) (of : by ≡ p.who) where
+  module _ (all : slice_get k.rest 0 ≡ None) {by : ℕ} (of : by ≡ p.who) where
     done : pipe_descriptors was ≡ is.joined
     done = is.pipes ∙ ap (λ ds. is.joined ++ ds) (none_is k.rest all) ∙ append-nil is.joined
 
@@ -182,11 +180,8 @@ module _ (session : Session) (number : ℕ) (p : ProcessView) (c : CallerState) 
     same_birth : entry_of p.who number r k.child bears answer.Done ≡ born
     same_birth = ap (λ w. birth_entry w number k.child k.out k.descriptors) (sym of)
 
-    pub born_allows : CallerAllows c.seen born
-    born_allows = subst (λ e. CallerAllows c.seen e) same_birth (next_allows session k.before c.seen p.who number r was made p.state fine k.child bears born_at answer.Done refl refl on)
-
-    pub born_keeps : 0 ≡ keeps c.seen born
-    born_keeps = subst (λ e. 0 ≡ keeps c.seen e) same_birth (sym (next_keeps session k.before c.seen p.who number r was made p.state fine k.child bears born_at answer.Done on))
+    pub born_may : MayEnter c.seen born 0
+    born_may = subst (λ e. MayEnter c.seen e 0) same_birth (next_may session k.before c.seen p.who number r was made p.state fine k.child bears born_at answer.Done refl refl on 0 refl)
 
     pub born_source : source_in (nodes_of session c.seen) born ≡ Some k.source
     born_source = is.source

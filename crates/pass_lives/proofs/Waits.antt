@@ -1,27 +1,33 @@
 -- The steps of either wait for a child, and a wait for one that has not ended.
-use Rattle.std.proofs.Common.{◌≡◌, ℕ, ◌+◌, ◌-◌, ◌<◌, List, [], ◌∷◌, length, refl, ap, sym, ◌∙◌, subst, arith, true, false}
-use Rattle.std.specs.Prelude.{Option, Some, None, Err, slice_get, if◌then◌else◌}
+use Rattle.std.proofs.Common.{◌≡◌, ℕ, ◌+◌, ◌-◌, ◌≤◌, ◌^◌, List, [], ◌∷◌, length, refl, ap, sym, ◌∙◌, subst, arith, true, false, ◌||◌}
+use Rattle.std.specs.Prelude.{Option, Some, None, Ok, Err, slice_get, if◌then◌else◌}
 use Rattle.std.specs.FinSet as finite_set
 use Rattle.pass_entry.specs.declared.entry.Ask.TheVariants as ask
 use Rattle.pass_entry.specs.declared.entry.Entry.{Entry}
 use Rattle.pass_entry.specs.declared.entry.Reply.TheVariants as answer
 use Rattle.pass_plain.specs.declared.request.Request.{Request}
 use Rattle.pass_plain.specs.Calls.{Made, Step, ask_of, call_steps, is_last, is_within, name_of, refused_ask, steps_of}
-use Rattle.pass_plain.specs.Legal.{CallerAllows, ends_call, is_start}
-use Rattle.pass_plain.specs.Places.{keeps, need_of}
+use Rattle.pass_plain.specs.Legal.{ends_call, is_start}
+use Rattle.pass_plain.specs.Lineages.{Lineage}
+use Rattle.pass_plain.specs.Places.{is_exit, need_of}
 use Rattle.pass_plain.specs.Processes.{Process, has_ended, process_act, refusal}
 use Rattle.pass_plain.specs.Replies.{reply_to}
 use Rattle.pass_plain.specs.Sessions.{Session}
 use Rattle.pass_hold.specs.Callings.{IsEntered, IsGoing, IsIdle, IsInCall, HasGone, HasLooked}
+use Rattle.pass_hold.specs.Entering.{MayEnter}
 use Rattle.pass_hold.proofs.Callings.{begins_call, call_made, entry_of, going_looked, idle_again, more}
-use Rattle.pass_proc.specs.Procs.{ProcView}
+use Rattle.pass_hold.specs.Callers.{CallerState, moved_on}
+use Rattle.pass_proc.specs.Procs.{IsCallerOf, ProcView, proc_with}
+use Rattle.pass_proc.specs.Views.{ProcessView}
 use Rattle.pass_proc.specs.declared.way.Way.{Way}
 use Rattle.pass_proc.proofs.Steps.{begun}
-use Rattle.pass_answer.specs.Answers.{HasMoved, HasWaited, Stays, Tells, resumes}
+use Rattle.pass_answer.specs.Answers.{Answers, HasMoved, HasWaited, Stays, Tells, resumes}
 use Rattle.pass_answer.specs.Ready.{IsReadyIfFull}
 use Rattle.pass_answer.specs.declared.answer.CallEnd.{CallEnd}
 use Rattle.pass_answer.specs.declared.answer.Moved.TheVariants as moved
-use Rattle.pass_answer.proofs.Steps.{not_refused, step_at, next_allows, next_keeps, gone_by, gone_own}
+use Rattle.pass_answer.proofs.Between.{steps_end}
+use Rattle.pass_answer.proofs.ObjectSteps.{place_is}
+use Rattle.pass_answer.proofs.Steps.{not_refused, step_at, next_may, gone_by, gone_own}
 use Rattle.pass_answer.proofs.Ready.{is_there, ready_at}
 use Rattle.pass_answer.proofs.Waiting.{waits}
 use Rattle.pass_answer.proofs.Wrapping.{begins_now}
@@ -34,7 +40,7 @@ pub asked : (wait : ChildWait) (child : ℕ) → ask_of (request_of wait child) 
 asked kinds.Taking child = refl
 asked kinds.Quiet child = refl
 
-pub ordinary : (wait : ChildWait) (child : ℕ) → (is_start (name_of (request_of wait child)) ≡ false) × (is_within (request_of wait child) ≡ true)
+pub ordinary : (wait : ChildWait) (child : ℕ) → (is_start (name_of (request_of wait child)) || is_exit (name_of (request_of wait child)) ≡ false) × (is_within (request_of wait child) ≡ true)
 ordinary kinds.Taking child = (refl, refl)
 ordinary kinds.Quiet child = (refl, refl)
 
@@ -63,9 +69,15 @@ first_at kinds.Quiet who child p = refl
 abbrev goes : ChildWait → ℕ → ℕ → ℕ → Option Step
 goes wait who child n = Some (who, let_go_by wait n child)
 
-second_at : (wait : ChildWait) (who child m out : ℕ) (p : Process) (e : Entry) → m ≡ out → slice_get (steps_of who p ((m, e) ∷ []) (request_of wait child)) 1 ≡ goes wait who child out
-second_at kinds.Taking who child m out p e same = ap (λ n. goes kinds.Taking who child n) same
-second_at kinds.Quiet who child m out p e same = refl
+-- the place of its first entry, where the second one names it
+abbrev pub IsLastIf : ChildWait → ℕ → List Entry → Type 0
+IsLastIf kinds.Taking out after = out + 1 ≡ length after
+IsLastIf kinds.Quiet out after = Unit {0}
+
+second_at : (wait : ChildWait) (who child out : ℕ) (p : Process) (after : List Entry) (m : ℕ) (e : Entry) → (out + 1 ≡ length after → m ≡ out) → IsLastIf wait out after
+    → slice_get (steps_of who p ((m, e) ∷ []) (request_of wait child)) 1 ≡ goes wait who child out
+second_at kinds.Taking who child out p after m e same last = ap (λ n. goes kinds.Taking who child n) (same last)
+second_at kinds.Quiet who child out p after m e same last = refl
 
 first_keeps : (wait : ChildWait) (p : Process) (who number child : ℕ) → (if is_last p (first wait who number child) then 0 else need_of (name_of (request_of wait child)) - 1) ≡ 2
 first_keeps kinds.Taking p who number child = refl
@@ -95,64 +107,113 @@ tells_done : (wait : ChildWait) (session : Session) (after : List Entry) (p : Pr
 tells_done kinds.Taking session after p child made = tt
 tells_done kinds.Quiet session after p child made = tt
 
-pub first_is : (wait : ChildWait) (number who w child x : ℕ) → w ≡ who → x ≡ child → first wait w number x ≡ first wait who number child
-first_is wait number who w child x same is = λ i. first wait (same i) number (is i)
+-- a process before a wait of this number, with its caller; contracts see both as `old`
+pub record IsWaiting (session : Session) (p : ProcessView) (c : CallerState) (old : ProcView) (number child : ℕ) : Type 0 where
+  pub was : ℕ
+  pub way : Option Way
+  pub view : proc_with p was c way ≡ old
+  pub next : number ≡ was + 1
+  pub is : IsCallerOf session p was c
+  pub free : refusal p.state (ask.Child child) ≡ None
 
-module _ (wait : ChildWait) (session : Session) (seen : List Entry) (who number : ℕ) (p : Process) (child : ℕ) (idle : IsIdle session seen who (number - 1) p) (some : 0 < number)
-    (free : refusal p (ask.Child child) ≡ None) where
+pub waiting : {session : Session} {p : ProcessView} {n : ℕ} {c : CallerState} → IsCallerOf session p n c → (way : Option Way) → (old : ProcView) → proc_with p n c way ≡ old
+    → (child : ℕ) → refusal old.state (ask.Child child) ≡ None → (d : CallerState) → d ≡ c → IsWaiting session p d old (n + 1) child
+waiting {session} {p} {n} {c} is way old view child free d same = record {
+  was = n;
+  way = way;
+  view = ap (λ (x : CallerState). proc_with p n x way) same ∙ view;
+  next = refl;
+  is = subst (λ (x : CallerState). IsCallerOf session p n x) (sym same) is;
+  free = ap (λ (v : ProcView). refusal v.state (ask.Child child)) view ∙ free;
+}
+
+-- `by` and `x` stand for the process and the child in the entry on the child
+module _ (wait : ChildWait) {session : Session} {p : ProcessView} {c : CallerState} {old : ProcView} {number child : ℕ} (w : IsWaiting session p c old number child) {by x : ℕ} (of : by ≡ p.who)
+    (its : x ≡ child) where
   abbrev r : Request
   r = request_of wait child
 
-  fine : refused_ask p r ≡ None
-  fine = not_refused p r (ask.Child child) (asked wait child) free
+  fine : refused_ask p.state r ≡ None
+  fine = not_refused p.state r (ask.Child child) (asked wait child) w.free
 
-  going : IsGoing session seen seen who number r p [] p
-  going = begun session seen who number p r idle some
+  going : IsGoing session c.seen c.seen p.who number r p.state [] p.state
+  going =
+      let next = w.next in
+      let last : w.was ≡ number - 1 = omega (arith, next) in
+      begun session c.seen p.who number p.state r (subst (λ n. IsIdle session c.seen p.who n p.state) last w.is.idle) (omega (arith, next))
 
-  pub first_allows : CallerAllows seen (first wait who number child)
-  first_allows = next_allows session seen seen who number r p [] p fine child (shown_by wait) (first_at wait who child p) answer.Done (ordinary wait child).0 (ordinary wait child).1 going
+  same : first wait by number x ≡ first wait p.who number child
+  same = λ i. first wait (of i) number (its i)
 
-  pub first_left : 2 ≡ keeps seen (first wait who number child)
-  first_left = sym (next_keeps session seen seen who number r p [] p fine child (shown_by wait) (first_at wait who child p) answer.Done going ∙ first_keeps wait p who number child)
+  pub first_may : MayEnter c.seen (first wait by number x) 2
+  first_may = subst (λ (f : Entry). MayEnter c.seen f 2) (sym same)
+      (next_may session c.seen c.seen p.who number r p.state [] p.state fine child (shown_by wait) (first_at wait p.who child p.state) answer.Done (ordinary wait child).0 (ordinary wait child).1 going 2
+      (sym (first_keeps wait p.state p.who number child)))
 
-  module _ (desk after : List Entry) (out : ℕ) (shown : IsEntered session seen desk after (first wait who number child)) (place : length shown.past ≡ out) where
+  module _ {desk after : List Entry} (entered : IsEntered session c.seen desk after (first wait by number x)) (out : ℕ) (place : IsLastIf wait out after) where
+    shown : IsEntered session c.seen desk after (first wait p.who number child)
+    shown = subst (λ (f : Entry). IsEntered session c.seen desk after f) same entered
+
     abbrev one : Made
-    one = (length shown.past, first wait who number child) ∷ []
+    one = (length shown.past, first wait p.who number child) ∷ []
 
-    gone : HasGone session seen after who number r p one p
-    gone = gone_by session seen seen who number r p [] p fine child (shown_by wait) (first_at wait who child p) answer.Done desk after going shown (stays wait shown.past p)
+    gone : HasGone session c.seen after p.who number r p.state one p.state
+    gone = gone_by session c.seen c.seen p.who number r p.state [] p.state fine child (shown_by wait) (first_at wait p.who child p.state) answer.Done desk after going shown (stays wait shown.past p.state)
 
-    on : IsGoing session seen after who number r p one p
-    on = more session seen after who number r p one p gone (goes_on wait p who number child (length shown.past)) idle.lives
+    on : IsGoing session c.seen after p.who number r p.state one p.state
+    on = more session c.seen after p.who number r p.state one p.state gone (goes_on wait p.state p.who number child (length shown.past)) w.is.idle.lives
 
-    at : slice_get (steps_of who p one r) 1 ≡ goes wait who child out
-    at = second_at wait who child (length shown.past) out p (first wait who number child) place
+    at : slice_get (steps_of p.who p.state one r) 1 ≡ goes wait p.who child out
+    at = second_at wait p.who child out p.state after (length shown.past) (first wait p.who number child) (place_is session c.seen desk after (first wait p.who number child) shown out) place
 
-    pub second_allows : CallerAllows after (second wait who number child out)
-    second_allows = next_allows session seen after who number r p one p fine who (let_go_by wait out child) at answer.Done (ordinary wait child).0 (ordinary wait child).1 on
+    pub second_may : MayEnter after (second wait p.who number child out) 0
+    second_may = next_may session c.seen after p.who number r p.state one p.state fine p.who (let_go_by wait out child) at answer.Done (ordinary wait child).0 (ordinary wait child).1 on 0
+        (sym (second_keeps wait p.state p.who number child out))
 
-    pub second_left : 0 ≡ keeps after (second wait who number child out)
-    second_left = sym (next_keeps session seen after who number r p one p fine who (let_go_by wait out child) at answer.Done on ∙ second_keeps wait p who number child out)
+    -- its entries are made: `q` and `e` are the process and its caller then
+    module _ (q : ProcessView) (e : CallerState) {own : List Entry} (gathered : IsEntered session after own e.seen (second wait p.who number child out)) {line : List Entry} {lineage : Lineage} {spare : ℕ}
+        (is_q : q ≡ record p { seen = line; state = record p.state { children = finite_set.remove p.state.children child }; lineage = lineage; spare = spare }) where
+      abbrev now : Process
+      now = record p.state { children = finite_set.remove p.state.children child }
 
-    module _ (own later : List Entry) (gathered : IsEntered session after own later (second wait who number child out)) where
-      abbrev pub now : Process
-      now = record p { children = finite_set.remove p.children child }
+      who : q.who ≡ p.who
+      who = ap (λ (v : ProcessView). v.who) is_q
+
+      state : q.state ≡ now
+      state = ap (λ (v : ProcessView). v.state) is_q
 
       abbrev two : Made
-      two = both wait who number child out (length shown.past) (length gathered.past)
+      two = both wait p.who number child out (length shown.past) (length gathered.past)
 
-      over : ends_call p two ≡ true
-      over = is_over wait p who number child out (length shown.past) (length gathered.past)
+      over : ends_call p.state two ≡ true
+      over = is_over wait p.state p.who number child out (length shown.past) (length gathered.past)
 
-      gone_two : HasGone session seen later who number r p two now
-      gone_two = subst (λ q. HasGone session seen later who number r p two q) (lets_go wait gathered.past p out child)
-          (gone_own session seen after who number r p one p fine who (let_go_by wait out child) at answer.Done own later on gathered refl refl)
+      gone_two : HasGone session c.seen e.seen p.who number r p.state two now
+      gone_two = subst (λ (s : Process). HasGone session c.seen e.seen p.who number r p.state two s) (lets_go wait gathered.past p.state out child)
+          (gone_own session c.seen after p.who number r p.state one p.state fine p.who (let_go_by wait out child) at answer.Done own e.seen on gathered refl refl)
 
-      pub waited : HasMoved session who seen later now r moved.Done
-      waited = record { made = two; call = call_made session seen later who number r p two now gone_two over; reply = answer.Done; last = refl; fine = refl; tells = tells_done wait session later now child two }
+      pub waited : (places : ℕ) → Answers session places old (proc_with q number e None) r (Ok moved.Done)
+      waited places =
+          steps_end session places p w.was c w.way old w.view r (no_way wait child) q number e who c refl (Ok moved.Done)
+          (subst (λ (s : Process). HasMoved session p.who c.seen e.seen s r moved.Done) (sym state)
+          (record {
+            made = two;
+            call = call_made session c.seen e.seen p.who number r p.state two now gone_two over;
+            reply = answer.Done;
+            last = refl;
+            fine = refl;
+            tells = tells_done wait session e.seen now child two;
+          }))
+          (Ok moved.Done) refl
 
-      pub waited_idle : IsIdle session later who number now
-      waited_idle = idle_again session seen later who number r p two now gone_two over idle.lives
+      pub rests : (d : CallerState) → d ≡ moved_on c d.seen d.syncs 2 → e ≡ moved_on d e.seen e.syncs 0 → length e.seen ≤ 2 ^ 32 → IsCallerOf session q number e
+      rests d before behind few = record {
+        of_who = ap (λ (x : CallerState). x.who) behind ∙ ap (λ (x : CallerState). x.who) before ∙ w.is.of_who ∙ sym who;
+        own = ap (λ (x : CallerState). x.own) behind ∙ ap (λ (x : CallerState). x.own) before ∙ w.is.own;
+        idle = subst (λ (s : Process). IsIdle session e.seen q.who number s) (sym state)
+            (subst (λ n. IsIdle session e.seen n number now) (sym who) (idle_again session c.seen e.seen p.who number r p.state two now gone_two over w.is.idle.lives));
+        few = few;
+      }
 
 -- the child shows its end once it has ended
 shows : (wait : ChildWait) (session : Session) (history : List Entry) (child : ℕ) → reply_to session history child (shown_by wait) ≡ (if has_ended history child then Some answer.Done else None)

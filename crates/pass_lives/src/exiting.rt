@@ -1,8 +1,6 @@
 //! The call `exit`.
-ghost use Rattle.std.specs.Prelude.{◌≡◌, ◌+◌, ◌-◌, ◌<◌, ◌≤◌, [], ◌∷◌, None, Some, drop, length, slice_get};
-ghost use Rattle.pass_lives.specs.Exits.{IsExiting};
+ghost use Rattle.std.specs.Prelude.{◌≡◌, ◌<◌, None, Some, drop, length, slice_get};
 ghost use Rattle.pass_answer.specs.Lives.{HasExited};
-ghost use Rattle.pass_lives.specs.Pipes.{pipes_from};
 
 use crate::pipes::{after_pipe, end_of, next_pipe};
 use pass_entry::Descriptor;
@@ -72,29 +70,6 @@ impl<J: Whose> Exiting<J> {
     }
 }
 
-/// The step on a pipe that an exit leaves. The pipes behind it are those of the numbers from `rest` on.
-fn leave_step<J: Whose>(
-    alloc: Global,
-    pipe: &mut PipeDesk<J>,
-    shelf: &mut Shelf<J>,
-    caller: &mut Caller<J>,
-    process: &ProcessDesk<J>,
-    number: u64,
-    before: &Snapshot<Proc<J>>,
-    d: &Descriptor,
-    rest: u8,
-)
-    requires exiting { IsExiting J.book.session before.now.value number process.now caller.old (d.now ∷ pipes_from process.now.state.descriptors rest) }
-    requires pipe { pipe.old.what ≡ d.now.pnode }
-    ensures exiting { IsExiting J.book.session before.now.value number process.now caller.new (pipes_from process.now.state.descriptors rest) }
-    ensures what { pipe.new.what ≡ pipe.old.what }
-{
-    let who = process.pnode();
-    let _ = before;
-    let _ = rest;
-    pipe.leave_by_exit(alloc, shelf, caller, who, number, end_of(d.mode));
-}
-
 /// Leaves the next pipe.
 pub fn leave<J: Whose>(
     alloc: Global,
@@ -110,38 +85,11 @@ pub fn leave<J: Whose>(
     ensures what { pipe.new.what ≡ pipe.old.what }
 {
     let rest = after_pipe(&exiting.process, exiting.fd);
-    leave_step(
-        alloc,
-        pipe,
-        shelf,
-        &mut exiting.caller,
-        &exiting.process,
-        exiting.number,
-        &exiting.before,
-        d,
-        rest,
-    );
+    let who = exiting.process.pnode();
+    let number = exiting.number;
+    let caller = &mut exiting.caller;
+    pipe.leave_by_exit(alloc, shelf, caller, who, number, end_of(d.mode));
     exiting.fd = rest;
-}
-
-/// The last step of an exit, by which the process has ended.
-fn finish<J: Whose>(
-    alloc: Global,
-    shelf: &mut Shelf<J>,
-    process: ProcessDesk<J>,
-    caller: Caller<J>,
-    number: u64,
-    living: Living<J>,
-    before: &Snapshot<Proc<J>>,
-) -> (u64, Ended<J>, Trail<J>)
-    requires exiting { IsExiting J.book.session before.now.value number process caller [] }
-    requires living { living.who ≡ process.who }
-    ensures call { HasExited J.book.session before.now.value result.2.seen result.0 }
-    ensures trail { result.2.who ≡ process.who }
-    ensures ended { (result.1.who ≡ process.who) × (result.1.seen ≡ result.2.seen) }
-{
-    let _ = before;
-    process.finish(alloc, shelf, caller, living, number)
 }
 
 /// Ends the process once it has left its pipes, and answers the place of its last entry, what lies in its slot from then on, and what it had
@@ -159,11 +107,11 @@ pub fn end_exit<J: Whose>(
     ensures ended { (result.1.who ≡ exiting.before.who) × (result.1.seen ≡ result.2.seen) }
 {
     let Exiting {
-        before,
+        before: _,
         process,
         caller,
         number,
         fd: _,
     } = exiting;
-    finish(alloc, shelf, process, caller, number, living, &before)
+    process.finish(alloc, shelf, caller, living, number)
 }

@@ -1,15 +1,11 @@
 //! The call `fork`.
-ghost use Rattle.std.specs.Prelude.{◌≡◌, ◌+◌, ◌-◌, ◌<◌, ◌≤◌, ◌^◌, [], false, None, Some, Ok, Err, IfErr, IfOk, OnErr, OnOk, drop, length, slice_get, vec_capacity};
+ghost use Rattle.std.specs.Prelude.{◌≡◌, ◌<◌, ◌≤◌, [], false, None, Some, Ok, Err, IfErr, IfOk, OnErr, OnOk, drop, length, slice_get, vec_capacity};
 ghost use Rattle.std.specs.FinSet as finite_set;
-ghost use Rattle.pass_entry.specs.declared.entry.Reply.TheVariants as answer;
 ghost use Rattle.pass_entry.specs.declared.objects.Kind.TheVariants as kinds;
 ghost use Rattle.pass_plain.specs.declared.request.Request.TheVariants as requests;
-ghost use Rattle.pass_plain.specs.Registries.{next_pnode, registry_after};
 ghost use Rattle.pass_plain.specs.Sessions.{is_opened};
 ghost use Rattle.pass_book.specs.Openings.{new_desk};
-ghost use Rattle.pass_hold.specs.Callings.{IsIdle, made_by};
-ghost use Rattle.pass_hold.specs.Places.{HasRoom};
-ghost use Rattle.pass_proc.specs.CallEnds.{HasReplied};
+ghost use Rattle.pass_hold.specs.Callings.{made_by};
 ghost use Rattle.pass_proc.specs.Procs.{IsCallerOf, ProcView, proc_with};
 ghost use Rattle.pass_registry.specs.Desks.{IsMade};
 ghost use Rattle.pass_answer.specs.Answers.{Answers};
@@ -20,7 +16,7 @@ ghost use Rattle.pass_answer.specs.Lives.{IsChild};
 use crate::pipes::{after_pipe, end_of, next_pipe};
 use pass_answer::CallEnd;
 use pass_book::Desk;
-use pass_entry::{CallFault, CallName, Descriptor, Kind, Node, Pnode, Record};
+use pass_entry::{CallName, Descriptor, Kind, Node, Pnode, Record};
 use pass_hold::{Caller, Shelf, Whose};
 use pass_pipe::PipeDesk;
 use pass_proc::{ChildRoom, Living, Proc, ProcessDesk, Way};
@@ -86,54 +82,6 @@ fn fork_room<J: Whose>(
     Ok(ForkRoom { child, list })
 }
 
-/// The first two steps of a fork, with its memory taken and its places there.
-fn first_steps<J: Whose>(
-    alloc: Global,
-    registry: &mut RegistryDesk<J>,
-    shelf: &mut Shelf<J>,
-    caller: &mut Caller<J>,
-    process: &mut ProcessDesk<J>,
-    number: u64,
-    room: ForkRoom,
-) -> Result<Forking<J>, CallFault>
-    requires child { room.child ≡ record { child = next_pnode J.book.session (registry_after J.book.session registry.old.seen); descriptors = process.old.state.descriptors } }
-    requires list { (room.list.items ≡ []) × (1 ≤ vec_capacity room.list) }
-    requires room { 1 ≤ process.old.room }
-    requires source { finite_set.len process.old.state.children < process.old.spare }
-    requires places { HasRoom shelf.old caller.old.held 132 }
-    requires who { caller.old.who ≡ process.old.who }
-    requires own { caller.old.own ≡ 65 }
-    requires idle { IsIdle J.book.session caller.old.seen process.old.who (number - 1) process.old.state }
-    requires number { 0 < number }
-    ensures forking { IfOk result (λ k. IsForking J.book.session number process.new caller.new k) }
-    ensures before { IfOk result (λ k. k.before ≡ caller.old.seen) }
-    ensures made { IfOk result (λ k. IsMade J.book.session registry.old.seen registry.new.seen k.child kinds.Process) }
-    ensures fault { IfErr result (λ f. HasReplied J.book.session process.old.who caller.old.seen caller.new.seen requests.Fork (answer.Fault f)) }
-    ensures idle { OnErr result (IsIdle J.book.session caller.new.seen process.new.who number process.new.state) }
-    ensures who { (process.new.who ≡ process.old.who) × (caller.new.who ≡ caller.old.who) }
-    ensures own { caller.new.own ≡ caller.old.own }
-    ensures few { length caller.new.seen ≤ 2 ^ 32 }
-{
-    let before = Snapshot::of(&*caller);
-    let ForkRoom { child: room, list } = room;
-    let who = process.pnode();
-    let call = CallName::Fork;
-    match registry.mint(shelf, caller, who, number, call, Kind::Process, list, 131) {
-        Err(fault) => Err(fault),
-        Ok(child) => {
-            let (out, source) = process.spawn(alloc, shelf, caller, number, child);
-            Ok(Forking {
-                before,
-                child,
-                room,
-                out,
-                source,
-                fd: 0,
-            })
-        }
-    }
-}
-
 /// Begins a fork of a process that stands between two calls, by its parts: takes all memory that the fork needs and sees to its places, then the
 /// child gets its number from the registry, and the process is marked as its source. The process's parts are in the fork from then on, and are
 /// those of a process between two calls again after [`end_fork`].
@@ -160,12 +108,25 @@ pub fn begin_fork<J: Whose>(
     if let Err(full) = caller.room(shelf, 132) {
         return Err(CallEnd::from(full));
     }
-    let begun = first_steps(alloc, registry, shelf, caller, process, *number + 1, room);
+    let before = Snapshot::of(&*caller);
+    let ForkRoom { child: room, list } = room;
+    let who = process.pnode();
+    let call = CallName::Fork;
     *number += 1;
     *way = None;
-    match begun {
-        Ok(forking) => Ok(forking),
+    match registry.mint(shelf, caller, who, *number, call, Kind::Process, list, 131) {
         Err(fault) => Err(CallEnd::from(fault)),
+        Ok(child) => {
+            let (out, source) = process.spawn(alloc, shelf, caller, *number, child);
+            Ok(Forking {
+                before,
+                child,
+                room,
+                out,
+                source,
+                fd: 0,
+            })
+        }
     }
 }
 

@@ -1,19 +1,18 @@
 //! A pipe, as it lies under its lock.
 ghost use Rattle.std.specs.Prelude.{◌≡◌, ◌+◌, ◌-◌, ◌≤◌, ◌<◌, ◌^◌, [], true, false, Some, None, IfOk, is_some, not, length, slice_get, if◌then◌else◌};
 ghost use Rattle.std.specs.Option.{option_map_or};
-ghost use mathlib.Core.List.{IsPrefix};
 ghost use Rattle.pass_entry.specs.declared.entry.Act.TheVariants as act;
 ghost use Rattle.pass_entry.specs.declared.entry.CallName.TheVariants as calls;
 ghost use Rattle.pass_entry.specs.declared.entry.Reply.TheVariants as answer;
 ghost use Rattle.pass_plain.specs.Legal.{CallerAllows};
 ghost use Rattle.pass_plain.specs.Pipes.{new_pipe, pipe_act, pipe_after};
-ghost use Rattle.pass_plain.specs.Places.{keeps};
 ghost use Rattle.pass_plain.specs.Replies.{pushed, taken};
 ghost use Rattle.pass_plain.specs.Sessions.{is_opened};
 ghost use Rattle.pass_plain.specs.Versions.{nodes_of};
 ghost use Rattle.pass_hold.specs.Callers.{moved_on};
-ghost use Rattle.pass_hold.specs.Callings.{IsEntered, HasLooked};
+ghost use Rattle.pass_hold.specs.Callings.{HasLooked};
 ghost use Rattle.pass_hold.specs.Places.{HasRoom};
+ghost use Rattle.pass_hold.specs.Entering.{MayEnter, Enters, IsAt};
 ghost use Rattle.pass_pipe.specs.Desks.{take_entry, push_entry, join_entry, leave_entry, push_reply, given_reply};
 
 use crate::pipe::PipeState;
@@ -109,14 +108,10 @@ impl<J: Whose> PipeDesk<J> {
         requires who { caller.old.who ≡ who }
         requires reply { taken (pipe_after self.old.seen self.old.what) len ≡ Some (answer.Took bytes) }
         requires place { HasRoom shelf.old caller.old.held 3 }
-        requires keep { 2 ≡ keeps caller.old.seen (take_entry who number self.old.what len bytes) }
-        requires allows { CallerAllows caller.old.seen (take_entry who number self.old.what len bytes) }
-        ensures entered { IsEntered J.book.session caller.old.seen self.old.seen caller.new.seen (take_entry who number self.old.what len bytes) }
-        ensures place { result.0 + 1 ≡ length caller.new.seen }
-        ensures node { slice_get (nodes_of J.book.session caller.new.seen) result.0 ≡ Some result.1 }
+        requires entry { MayEnter caller.old.seen (take_entry who number self.old.what len bytes) 2 }
+        ensures entry { Enters J.book.session caller.old caller.new self.old.seen (take_entry who number self.old.what len bytes) 2 }
+        ensures at { IsAt J.book.session caller.new.seen result }
         ensures state { self.new ≡ record self.old { seen = caller.new.seen; syncs = caller.new.syncs } }
-        ensures caller { caller.new ≡ moved_on caller.old caller.new.seen caller.new.syncs 2 }
-        ensures few { length caller.new.seen ≤ 2 ^ 32 }
     {
         let what = self.what();
         let entry = Entry {
@@ -158,15 +153,11 @@ impl<J: Whose> PipeDesk<J> {
         requires place { 0 < caller.old.held }
         requires spare { 1 ≤ self.old.spare }
         requires source { slice_get (nodes_of J.book.session caller.old.seen) out ≡ Some source.now }
-        requires keep { (reply : _) → 0 ≡ keeps caller.old.seen (push_entry who number self.old.what out bytes reply) }
-        requires allows { (reply : _) → CallerAllows caller.old.seen (push_entry who number self.old.what out bytes reply) }
+        requires entry { (reply : _) → MayEnter caller.old.seen (push_entry who number self.old.what out bytes reply) 0 }
         ensures reply { pushed (pipe_after self.old.seen self.old.what) (length bytes) ≡ Some (push_reply result) }
-        ensures entered { IsEntered J.book.session caller.old.seen self.old.seen caller.new.seen (push_entry who number self.old.what out bytes (push_reply result)) }
-        ensures place { IfOk result (λ r. r.0 + 1 ≡ length caller.new.seen) }
-        ensures node { IfOk result (λ r. slice_get (nodes_of J.book.session caller.new.seen) r.0 ≡ Some r.1) }
+        ensures entry { Enters J.book.session caller.old caller.new self.old.seen (push_entry who number self.old.what out bytes (push_reply result)) 0 }
+        ensures at { IfOk result (IsAt J.book.session caller.new.seen) }
         ensures state { self.new ≡ record self.old { seen = caller.new.seen; syncs = caller.new.syncs; spare = self.new.spare } }
-        ensures caller { caller.new ≡ moved_on caller.old caller.new.seen caller.new.syncs 0 }
-        ensures few { length caller.new.seen ≤ 2 ^ 32 }
     {
         let what = self.what();
         let given = give_if_read(&mut self.state, &bytes);
@@ -204,13 +195,10 @@ impl<J: Whose> PipeDesk<J> {
     ) -> u64
         requires who { caller.old.who ≡ who }
         requires place { keep < caller.old.held }
-        requires keep { keep ≡ keeps caller.old.seen (join_entry who number self.old.what end) }
-        requires allows { CallerAllows caller.old.seen (join_entry who number self.old.what end) }
-        ensures entered { IsEntered J.book.session caller.old.seen self.old.seen caller.new.seen (join_entry who number self.old.what end) }
+        requires entry { MayEnter caller.old.seen (join_entry who number self.old.what end) keep }
+        ensures entry { Enters J.book.session caller.old caller.new self.old.seen (join_entry who number self.old.what end) keep }
         ensures place { result + 1 ≡ length caller.new.seen }
         ensures state { self.new ≡ record self.old { seen = caller.new.seen; syncs = caller.new.syncs } }
-        ensures caller { caller.new ≡ moved_on caller.old caller.new.seen caller.new.syncs keep }
-        ensures few { length caller.new.seen ≤ 2 ^ 32 }
     {
         let what = self.what();
         let entry = Entry {
@@ -248,13 +236,10 @@ impl<J: Whose> PipeDesk<J> {
     ) -> u64
         requires who { caller.old.who ≡ who }
         requires place { 0 < caller.old.held }
-        requires keep { 0 ≡ keeps caller.old.seen (leave_entry who number calls.CloseFd self.old.what end) }
-        requires allows { CallerAllows caller.old.seen (leave_entry who number calls.CloseFd self.old.what end) }
-        ensures entered { IsEntered J.book.session caller.old.seen self.old.seen caller.new.seen (leave_entry who number calls.CloseFd self.old.what end) }
+        requires entry { MayEnter caller.old.seen (leave_entry who number calls.CloseFd self.old.what end) 0 }
+        ensures entry { Enters J.book.session caller.old caller.new self.old.seen (leave_entry who number calls.CloseFd self.old.what end) 0 }
         ensures place { result + 1 ≡ length caller.new.seen }
         ensures state { self.new ≡ record self.old { seen = caller.new.seen; syncs = caller.new.syncs } }
-        ensures caller { caller.new ≡ moved_on caller.old caller.new.seen caller.new.syncs 0 }
-        ensures few { length caller.new.seen ≤ 2 ^ 32 }
     {
         let what = self.what();
         let entry = Entry {
@@ -292,11 +277,9 @@ impl<J: Whose> PipeDesk<J> {
         requires who { caller.old.who ≡ who }
         requires place { 0 < caller.old.own }
         requires allows { CallerAllows caller.old.seen (leave_entry who number calls.Exit self.old.what end) }
-        ensures entered { IsEntered J.book.session caller.old.seen self.old.seen caller.new.seen (leave_entry who number calls.Exit self.old.what end) }
+        ensures entry { Enters J.book.session (record caller.old { own = caller.old.own - 1 }) caller.new self.old.seen (leave_entry who number calls.Exit self.old.what end) 0 }
         ensures place { result + 1 ≡ length caller.new.seen }
         ensures state { self.new ≡ record self.old { seen = caller.new.seen; syncs = caller.new.syncs } }
-        ensures caller { caller.new ≡ record (moved_on caller.old caller.new.seen caller.new.syncs 0) { own = caller.old.own - 1 } }
-        ensures few { length caller.new.seen ≤ 2 ^ 32 }
     {
         let what = self.what();
         let entry = Entry {

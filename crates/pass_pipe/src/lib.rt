@@ -7,7 +7,7 @@
 //!
 //! A `PipeDesk` is a pipe under its lock: what it holds, who has its ends and its version are what the definitions make of what was
 //! seen of it. `take` gives the oldest bytes, `push` puts all of a write behind the others, with the plain reply (`reply`,
-//! `entered`, `state`). `first` and `is_full_for` tell exactly when a process has to wait, and `look` that this is so in the whole
+//! `entry`, `state`). `first` and `is_full_for` tell exactly when a process has to wait, and `look` that this is so in the whole
 //! history. `join`, `leave` and `leave_by_exit` are descriptors that come and go.
 #![tactic(auto)]
 

@@ -11,12 +11,13 @@ use Rattle.pass_entry.specs.declared.entry.Reply.TheVariants as answer
 use Rattle.pass_plain.specs.declared.request.Request.{Request}
 use Rattle.pass_plain.specs.declared.request.Request.TheVariants as requests
 use Rattle.pass_plain.specs.Calls.{Made, Step, name_of, ask_of, is_within, call_steps, steps_of, refused_ask}
-use Rattle.pass_plain.specs.Legal.{CallerAllows, is_start}
-use Rattle.pass_plain.specs.Places.{is_exit, keeps}
+use Rattle.pass_plain.specs.Legal.{is_start}
+use Rattle.pass_plain.specs.Places.{is_exit}
 use Rattle.pass_plain.specs.Processes.{Process, new_process, process_act, process_after, refusal}
 use Rattle.pass_plain.specs.Sessions.{Session}
 use Rattle.pass_plain.proofs.Replays.{own_step-fault}
 use Rattle.pass_hold.specs.Callings.{IsEntered, IsIdle, IsGoing, HasGone}
+use Rattle.pass_hold.specs.Entering.{MayEnter}
 use Rattle.pass_hold.proofs.Callings.{allows, keeps_going, goes, call_made, idle_again}
 use Rattle.pass_hold.proofs.Objects.{object_after, stays}
 use Rattle.pass_proc.specs.Acts.{own_entry}
@@ -44,7 +45,7 @@ ordinary : (r : Request) (a : Ask) → ask_of r ≡ Some a → is_start (name_of
 ordinary requests.Start a asked = absurd (cc)
 ordinary _ a asked = refl
 
-pub no_exit : (r : Request) (a : Ask) → ask_of r ≡ Some a → is_exit (name_of r) ≡ false
+no_exit : (r : Request) (a : Ask) → ask_of r ≡ Some a → is_exit (name_of r) ≡ false
 no_exit requests.Exit a asked = absurd (cc)
 no_exit _ a asked = refl
 
@@ -62,11 +63,12 @@ module _ (session : Session) (seen : List Entry) (who number : ℕ) (p : Process
   next : slice_get (call_steps who p [] r) 0 ≡ Some denial
   next = ap (λ o. slice_get (option_map_or (λ a. (who, act.Deny a) ∷ []) o (steps_of who p [] r)) 0) asks
 
-  pub deny_allows : CallerAllows seen (own_entry who number (name_of r) (act.Deny a) (answer.Fault f))
-  deny_allows = allows session seen seen who number r p [] p who (act.Deny a) (answer.Fault f) next first (ordinary r a asked) within
-
-  pub deny_keeps : 0 ≡ keeps seen (own_entry who number (name_of r) (act.Deny a) (answer.Fault f))
-  deny_keeps = sym (keeps_going session seen seen who number r p [] p who (act.Deny a) (answer.Fault f) next first.is)
+  pub deny_may : MayEnter seen (own_entry who number (name_of r) (act.Deny a) (answer.Fault f)) 0
+  deny_may = record {
+    exit = no_exit r a asked;
+    allows = allows session seen seen who number r p [] p who (act.Deny a) (answer.Fault f) next first (ordinary r a asked) within;
+    keep = sym (keeps_going session seen seen who number r p [] p who (act.Deny a) (answer.Fault f) next first.is);
+  }
 
   module _ (desk after : List Entry) (entered : IsEntered session seen desk after (own_entry who number (name_of r) (act.Deny a) (answer.Fault f))) where
     abbrev one : Made

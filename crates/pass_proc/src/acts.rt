@@ -1,5 +1,5 @@
 //! The acts by which a living process refuses a call, changes its descriptors, lets a child go, and is used as a source.
-ghost use Rattle.std.specs.Prelude.{◌≡◌, ◌+◌, ◌-◌, ◌<◌, ◌≤◌, ◌^◌, [], true, false, None, Some, length, slice_get};
+ghost use Rattle.std.specs.Prelude.{◌≡◌, ◌+◌, ◌-◌, ◌<◌, ◌≤◌, [], true, None, Some, length};
 ghost use mathlib.Core.List.{IsPrefix};
 ghost use Rattle.std.specs.FinMap as finite_map;
 ghost use Rattle.std.specs.FinSet as finite_set;
@@ -8,15 +8,11 @@ ghost use Rattle.pass_entry.specs.declared.entry.Ask.TheVariants as ask;
 ghost use Rattle.pass_entry.specs.declared.entry.CallName.TheVariants as calls;
 ghost use Rattle.pass_entry.specs.declared.entry.Reply.TheVariants as answer;
 ghost use Rattle.pass_entry.specs.declared.objects.Mode.TheVariants as mode;
-ghost use Rattle.pass_plain.specs.Legal.{CallerAllows};
 ghost use Rattle.pass_plain.specs.Lineages.{used};
-ghost use Rattle.pass_plain.specs.Places.{is_exit, keeps};
 ghost use Rattle.pass_plain.specs.Processes.{AllBelow64, changed_at, pipe_end, process_act, refusal, risen};
-ghost use Rattle.pass_plain.specs.Versions.{nodes_of};
 ghost use Rattle.pass_book.specs.Syncs.{Backs};
-ghost use Rattle.pass_hold.specs.Callers.{moved_on};
-ghost use Rattle.pass_hold.specs.Callings.{IsEntered};
 ghost use Rattle.pass_hold.specs.Places.{HasRoom};
+ghost use Rattle.pass_hold.specs.Entering.{MayEnter, Enters, IsAt};
 ghost use Rattle.pass_proc.specs.Acts.{is_quiet, is_use, own_entry, room_needed};
 
 use crate::desk::ProcessDesk;
@@ -39,14 +35,10 @@ impl<J: Whose> ProcessDesk<J> {
     )
         requires refused { refusal self.old.state ask ≡ Some fault }
         requires place { HasRoom shelf.old caller.old.held 3 }
-        requires keep { 0 ≡ keeps caller.old.seen (own_entry self.old.who number call (act.Deny ask) (answer.Fault fault)) }
-        requires exit { is_exit call ≡ false }
         requires who { caller.old.who ≡ self.old.who }
-        requires allows { CallerAllows caller.old.seen (own_entry self.old.who number call (act.Deny ask) (answer.Fault fault)) }
-        ensures entered { IsEntered J.book.session caller.old.seen self.old.seen caller.new.seen (own_entry self.old.who number call (act.Deny ask) (answer.Fault fault)) }
+        requires entry { MayEnter caller.old.seen (own_entry self.old.who number call (act.Deny ask) (answer.Fault fault)) 0 }
+        ensures entry { Enters J.book.session caller.old caller.new self.old.seen (own_entry self.old.who number call (act.Deny ask) (answer.Fault fault)) 0 }
         ensures same { self.new ≡ record self.old { seen = caller.new.seen } }
-        ensures caller { caller.new ≡ moved_on caller.old caller.new.seen caller.new.syncs 0 }
-        ensures few { length caller.new.seen ≤ 2 ^ 32 }
     {
         let entry = Entry {
             who: self.who,
@@ -73,16 +65,12 @@ impl<J: Whose> ProcessDesk<J> {
         requires done { entry.reply ≡ answer.Done }
         requires own { (entry.who ≡ self.old.who) × (entry.what ≡ self.old.who) }
         requires place { HasRoom shelf.old caller.old.held (keep + 1) }
-        requires keep { keep ≡ keeps caller.old.seen entry }
-        requires exit { is_exit entry.call ≡ false }
         requires who { caller.old.who ≡ self.old.who }
         requires backs { Backs J.book.session caller.old.seen (length caller.old.seen) caller.old.syncs entry }
-        requires allows { CallerAllows caller.old.seen entry }
-        ensures entered { IsEntered J.book.session caller.old.seen self.old.seen caller.new.seen entry }
+        requires entry { MayEnter caller.old.seen entry keep }
+        ensures entry { Enters J.book.session caller.old caller.new self.old.seen entry keep }
         ensures state { self.new ≡ record self.old { seen = caller.new.seen; state = process_act [] self.old.state entry.act } }
         ensures grows { IsPrefix caller.old.syncs caller.new.syncs }
-        ensures caller { caller.new ≡ moved_on caller.old caller.new.seen caller.new.syncs keep }
-        ensures few { length caller.new.seen ≤ 2 ^ 32 }
     {
         let _ = self.desk.seen();
         self.holdings.apply(&entry.act, None);
@@ -102,14 +90,10 @@ impl<J: Whose> ProcessDesk<J> {
     )
         requires fd { fd < 64 }
         requires place { 0 < caller.old.held }
-        requires keep { 0 ≡ keeps caller.old.seen (own_entry self.old.who number call (act.Attach fd descriptor.now) answer.Done) }
-        requires exit { is_exit call ≡ false }
         requires who { caller.old.who ≡ self.old.who }
-        requires allows { CallerAllows caller.old.seen (own_entry self.old.who number call (act.Attach fd descriptor.now) answer.Done) }
-        ensures entered { IsEntered J.book.session caller.old.seen self.old.seen caller.new.seen (own_entry self.old.who number call (act.Attach fd descriptor.now) answer.Done) }
+        requires entry { MayEnter caller.old.seen (own_entry self.old.who number call (act.Attach fd descriptor.now) answer.Done) 0 }
+        ensures entry { Enters J.book.session caller.old caller.new self.old.seen (own_entry self.old.who number call (act.Attach fd descriptor.now) answer.Done) 0 }
         ensures state { self.new ≡ record self.old { seen = caller.new.seen; state = record self.old.state { descriptors = finite_map.insert self.old.state.descriptors fd descriptor.now } } }
-        ensures caller { caller.new ≡ moved_on caller.old caller.new.seen caller.new.syncs 0 }
-        ensures few { length caller.new.seen ≤ 2 ^ 32 }
     {
         let entry = Entry {
             who: self.who,
@@ -138,13 +122,10 @@ impl<J: Whose> ProcessDesk<J> {
     )
         requires numbers { (reader < 64) × (writer < 64) }
         requires place { 0 < caller.old.held }
-        requires keep { 0 ≡ keeps caller.old.seen (own_entry self.old.who number calls.MakePipe (act.AttachPipe reader writer pnode) answer.Done) }
         requires who { caller.old.who ≡ self.old.who }
-        requires allows { CallerAllows caller.old.seen (own_entry self.old.who number calls.MakePipe (act.AttachPipe reader writer pnode) answer.Done) }
-        ensures entered { IsEntered J.book.session caller.old.seen self.old.seen caller.new.seen (own_entry self.old.who number calls.MakePipe (act.AttachPipe reader writer pnode) answer.Done) }
+        requires entry { MayEnter caller.old.seen (own_entry self.old.who number calls.MakePipe (act.AttachPipe reader writer pnode) answer.Done) 0 }
+        ensures entry { Enters J.book.session caller.old caller.new self.old.seen (own_entry self.old.who number calls.MakePipe (act.AttachPipe reader writer pnode) answer.Done) 0 }
         ensures state { self.new ≡ record self.old { seen = caller.new.seen; state = record self.old.state { descriptors = finite_map.insert (finite_map.insert self.old.state.descriptors reader (pipe_end pnode mode.Read)) writer (pipe_end pnode mode.Write) } } }
-        ensures caller { caller.new ≡ moved_on caller.old caller.new.seen caller.new.syncs 0 }
-        ensures few { length caller.new.seen ≤ 2 ^ 32 }
     {
         let entry = Entry {
             who: self.who,
@@ -173,14 +154,11 @@ impl<J: Whose> ProcessDesk<J> {
     ) -> Descriptor
         requires held { refusal self.old.state (ask.Held fd) ≡ None }
         requires place { HasRoom shelf.old caller.old.held (keep + 1) }
-        requires keep { keep ≡ keeps caller.old.seen (own_entry self.old.who number calls.CloseFd (act.Detach fd) answer.Done) }
         requires who { caller.old.who ≡ self.old.who }
-        requires allows { CallerAllows caller.old.seen (own_entry self.old.who number calls.CloseFd (act.Detach fd) answer.Done) }
+        requires entry { MayEnter caller.old.seen (own_entry self.old.who number calls.CloseFd (act.Detach fd) answer.Done) keep }
         ensures answer { finite_map.get self.old.state.descriptors fd ≡ Some result }
-        ensures entered { IsEntered J.book.session caller.old.seen self.old.seen caller.new.seen (own_entry self.old.who number calls.CloseFd (act.Detach fd) answer.Done) }
+        ensures entry { Enters J.book.session caller.old caller.new self.old.seen (own_entry self.old.who number calls.CloseFd (act.Detach fd) answer.Done) keep }
         ensures state { self.new ≡ record self.old { seen = caller.new.seen; state = record self.old.state { descriptors = finite_map.remove self.old.state.descriptors fd } } }
-        ensures caller { caller.new ≡ moved_on caller.old caller.new.seen caller.new.syncs keep }
-        ensures few { length caller.new.seen ≤ 2 ^ 32 }
     {
         let Some(descriptor) = self.holdings.descriptor(fd) else {
             unreachable!()
@@ -209,13 +187,10 @@ impl<J: Whose> ProcessDesk<J> {
     )
         requires fd { fd < 64 }
         requires place { HasRoom shelf.old caller.old.held 3 }
-        requires keep { 0 ≡ keeps caller.old.seen (own_entry self.old.who number calls.Seek (act.Seek fd at) answer.Done) }
         requires who { caller.old.who ≡ self.old.who }
-        requires allows { CallerAllows caller.old.seen (own_entry self.old.who number calls.Seek (act.Seek fd at) answer.Done) }
-        ensures entered { IsEntered J.book.session caller.old.seen self.old.seen caller.new.seen (own_entry self.old.who number calls.Seek (act.Seek fd at) answer.Done) }
+        requires entry { MayEnter caller.old.seen (own_entry self.old.who number calls.Seek (act.Seek fd at) answer.Done) 0 }
+        ensures entry { Enters J.book.session caller.old caller.new self.old.seen (own_entry self.old.who number calls.Seek (act.Seek fd at) answer.Done) 0 }
         ensures state { self.new ≡ record self.old { seen = caller.new.seen; state = record self.old.state { descriptors = changed_at self.old.state.descriptors fd (λ d. record d { offset = at }) } } }
-        ensures caller { caller.new ≡ moved_on caller.old caller.new.seen caller.new.syncs 0 }
-        ensures few { length caller.new.seen ≤ 2 ^ 32 }
     {
         let entry = Entry {
             who: self.who,
@@ -238,13 +213,10 @@ impl<J: Whose> ProcessDesk<J> {
         child: Pnode,
     )
         requires place { 0 < caller.old.held }
-        requires keep { 0 ≡ keeps caller.old.seen (own_entry self.old.who number calls.Await (act.Release child) answer.Done) }
         requires who { caller.old.who ≡ self.old.who }
-        requires allows { CallerAllows caller.old.seen (own_entry self.old.who number calls.Await (act.Release child) answer.Done) }
-        ensures entered { IsEntered J.book.session caller.old.seen self.old.seen caller.new.seen (own_entry self.old.who number calls.Await (act.Release child) answer.Done) }
+        requires entry { MayEnter caller.old.seen (own_entry self.old.who number calls.Await (act.Release child) answer.Done) 0 }
+        ensures entry { Enters J.book.session caller.old caller.new self.old.seen (own_entry self.old.who number calls.Await (act.Release child) answer.Done) 0 }
         ensures state { self.new ≡ record self.old { seen = caller.new.seen; state = record self.old.state { children = finite_set.remove self.old.state.children child } } }
-        ensures caller { caller.new ≡ moved_on caller.old caller.new.seen caller.new.syncs 0 }
-        ensures few { length caller.new.seen ≤ 2 ^ 32 }
     {
         let entry = Entry {
             who: self.who,
@@ -267,15 +239,12 @@ impl<J: Whose> ProcessDesk<J> {
         fd: u8,
     )
         requires place { 0 < caller.old.held }
-        requires keep { 0 ≡ keeps caller.old.seen (own_entry self.old.who number calls.Sync (act.Kept fd) answer.Done) }
         requires who { caller.old.who ≡ self.old.who }
-        requires allows { CallerAllows caller.old.seen (own_entry self.old.who number calls.Sync (act.Kept fd) answer.Done) }
+        requires entry { MayEnter caller.old.seen (own_entry self.old.who number calls.Sync (act.Kept fd) answer.Done) 0 }
         requires backs { Backs J.book.session caller.old.seen (length caller.old.seen) caller.old.syncs (own_entry self.old.who number calls.Sync (act.Kept fd) answer.Done) }
-        ensures entered { IsEntered J.book.session caller.old.seen self.old.seen caller.new.seen (own_entry self.old.who number calls.Sync (act.Kept fd) answer.Done) }
+        ensures entry { Enters J.book.session caller.old caller.new self.old.seen (own_entry self.old.who number calls.Sync (act.Kept fd) answer.Done) 0 }
         ensures same { self.new ≡ record self.old { seen = caller.new.seen } }
         ensures grows { IsPrefix caller.old.syncs caller.new.syncs }
-        ensures caller { caller.new ≡ moved_on caller.old caller.new.seen caller.new.syncs 0 }
-        ensures few { length caller.new.seen ≤ 2 ^ 32 }
     {
         let entry = Entry {
             who: self.who,
@@ -304,16 +273,11 @@ impl<J: Whose> ProcessDesk<J> {
         requires done { entry.reply ≡ answer.Done }
         requires own { (entry.who ≡ self.old.who) × (entry.what ≡ self.old.who) }
         requires place { HasRoom shelf.old caller.old.held (keep + 1) }
-        requires keep { keep ≡ keeps caller.old.seen entry }
-        requires exit { is_exit entry.call ≡ false }
         requires who { caller.old.who ≡ self.old.who }
-        requires allows { CallerAllows caller.old.seen entry }
-        ensures entered { IsEntered J.book.session caller.old.seen self.old.seen caller.new.seen entry }
-        ensures place { result.0 + 1 ≡ length caller.new.seen }
-        ensures node { slice_get (nodes_of J.book.session caller.new.seen) result.0 ≡ Some result.1 }
+        requires entry { MayEnter caller.old.seen entry keep }
+        ensures entry { Enters J.book.session caller.old caller.new self.old.seen entry keep }
+        ensures at { IsAt J.book.session caller.new.seen result }
         ensures state { self.new ≡ record self.old { seen = caller.new.seen; state = process_act [] self.old.state entry.act; lineage = used self.old.lineage; room = self.old.room - room_needed entry.act } }
-        ensures caller { caller.new ≡ moved_on caller.old caller.new.seen caller.new.syncs keep }
-        ensures few { length caller.new.seen ≤ 2 ^ 32 }
     {
         let _ = self.desk.seen();
         self.holdings.apply(&entry.act, None);
@@ -335,16 +299,11 @@ impl<J: Whose> ProcessDesk<J> {
     ) -> (u64, Node)
         requires fd { fd < 64 }
         requires place { HasRoom shelf.old caller.old.held 3 }
-        requires keep { 2 ≡ keeps caller.old.seen (own_entry self.old.who number call (act.Show fd len) answer.Done) }
-        requires exit { is_exit call ≡ false }
         requires who { caller.old.who ≡ self.old.who }
-        requires allows { CallerAllows caller.old.seen (own_entry self.old.who number call (act.Show fd len) answer.Done) }
-        ensures entered { IsEntered J.book.session caller.old.seen self.old.seen caller.new.seen (own_entry self.old.who number call (act.Show fd len) answer.Done) }
-        ensures place { result.0 + 1 ≡ length caller.new.seen }
-        ensures node { slice_get (nodes_of J.book.session caller.new.seen) result.0 ≡ Some result.1 }
+        requires entry { MayEnter caller.old.seen (own_entry self.old.who number call (act.Show fd len) answer.Done) 2 }
+        ensures entry { Enters J.book.session caller.old caller.new self.old.seen (own_entry self.old.who number call (act.Show fd len) answer.Done) 2 }
+        ensures at { IsAt J.book.session caller.new.seen result }
         ensures state { self.new ≡ record self.old { seen = caller.new.seen; lineage = used self.old.lineage; state = record self.old.state { descriptors = changed_at self.old.state.descriptors fd (risen len) } } }
-        ensures caller { caller.new ≡ moved_on caller.old caller.new.seen caller.new.syncs 2 }
-        ensures few { length caller.new.seen ≤ 2 ^ 32 }
     {
         let entry = Entry {
             who: self.who,
@@ -369,15 +328,11 @@ impl<J: Whose> ProcessDesk<J> {
         requires room { 1 ≤ self.old.room }
         requires source { finite_set.len self.old.state.children < self.old.spare }
         requires place { 130 < caller.old.held }
-        requires keep { 130 ≡ keeps caller.old.seen (own_entry self.old.who number calls.Fork (act.Spawn child) answer.Done) }
         requires who { caller.old.who ≡ self.old.who }
-        requires allows { CallerAllows caller.old.seen (own_entry self.old.who number calls.Fork (act.Spawn child) answer.Done) }
-        ensures entered { IsEntered J.book.session caller.old.seen self.old.seen caller.new.seen (own_entry self.old.who number calls.Fork (act.Spawn child) answer.Done) }
-        ensures place { result.0 + 1 ≡ length caller.new.seen }
-        ensures node { slice_get (nodes_of J.book.session caller.new.seen) result.0 ≡ Some result.1 }
+        requires entry { MayEnter caller.old.seen (own_entry self.old.who number calls.Fork (act.Spawn child) answer.Done) 130 }
+        ensures entry { Enters J.book.session caller.old caller.new self.old.seen (own_entry self.old.who number calls.Fork (act.Spawn child) answer.Done) 130 }
+        ensures at { IsAt J.book.session caller.new.seen result }
         ensures state { self.new ≡ record self.old { seen = caller.new.seen; lineage = used self.old.lineage; room = self.old.room - 1; state = record self.old.state { children = finite_set.insert self.old.state.children child } } }
-        ensures caller { caller.new ≡ moved_on caller.old caller.new.seen caller.new.syncs 130 }
-        ensures few { length caller.new.seen ≤ 2 ^ 32 }
     {
         let entry = Entry {
             who: self.who,

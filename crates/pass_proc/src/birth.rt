@@ -1,16 +1,13 @@
 //! A child begins.
-ghost use Rattle.std.specs.Prelude.{◌≡◌, ◌≤◌, ◌^◌, None, Some, [], false, length, IfOk};
-ghost use Rattle.pass_plain.specs.Legal.{CallerAllows};
+ghost use Rattle.std.specs.Prelude.{◌≡◌, ◌≤◌, None, Some, [], false, IfOk};
 ghost use Rattle.pass_plain.specs.Lineages.{IsAlike, with_source};
-ghost use Rattle.pass_plain.specs.Places.{keeps};
 ghost use Rattle.pass_plain.specs.Processes.{new_process};
 ghost use Rattle.pass_plain.specs.Sessions.{is_opened};
 ghost use Rattle.pass_plain.specs.Versions.{nodes_of, source_in};
 ghost use Rattle.pass_version.specs.declared.versions.Taken.TheVariants as taken;
 ghost use Rattle.pass_book.specs.Openings.{fresh_desk, fresh_last, fresh_line, new_desk};
-ghost use Rattle.pass_hold.specs.Callers.{moved_on};
-ghost use Rattle.pass_hold.specs.Callings.{IsEntered};
 ghost use Rattle.pass_hold.specs.Slips.{taken_records};
+ghost use Rattle.pass_hold.specs.Entering.{MayEnter, Enters};
 ghost use Rattle.pass_proc.specs.Births.{birth_entry, first_lineage};
 
 use crate::ended::Living;
@@ -134,13 +131,10 @@ impl<J: Whose> Proc<J> {
         requires desk { desk ≡ new_desk J.book room.child }
         requires new { is_opened J.book.session.start room.child ≡ false }
         requires place { 66 ≤ parent.old.held }
-        requires keep { 0 ≡ keeps parent.old.seen (birth_entry who number room.child out room.descriptors) }
         requires who { parent.old.who ≡ who }
-        requires allows { CallerAllows parent.old.seen (birth_entry who number room.child out room.descriptors) }
+        requires entry { MayEnter parent.old.seen (birth_entry who number room.child out room.descriptors) 0 }
         requires source { source_in (nodes_of J.book.session parent.old.seen) (birth_entry who number room.child out room.descriptors) ≡ Some source.now }
-        ensures entered { IsEntered J.book.session parent.old.seen [] parent.new.seen (birth_entry who number room.child out room.descriptors) }
-        ensures parent { parent.new ≡ moved_on parent.old parent.new.seen parent.new.syncs 0 }
-        ensures few { length parent.new.seen ≤ 2 ^ 32 }
+        ensures entry { Enters J.book.session parent.old parent.new [] (birth_entry who number room.child out room.descriptors) 0 }
         ensures child { (result.0.who ≡ room.child) × (result.0.number ≡ 0) × (result.0.way ≡ None) }
         ensures seen { result.0.seen ≡ parent.new.seen }
         ensures state { result.0.state ≡ record new_process { descriptors = room.descriptors } }

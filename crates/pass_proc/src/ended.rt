@@ -1,16 +1,14 @@
 //! A process in the slot in which its desk lies once it has ended.
-ghost use Rattle.std.specs.Prelude.{◌≡◌, ◌+◌, ◌≤◌, ◌<◌, ◌^◌, Some, false, true, length, slice_get};
+ghost use Rattle.std.specs.Prelude.{◌≡◌, ◌+◌, ◌<◌, false, true, length};
 ghost use Rattle.pass_entry.specs.declared.entry.Act.TheVariants as act;
 ghost use Rattle.pass_entry.specs.declared.entry.CallName.TheVariants as calls;
 ghost use Rattle.pass_entry.specs.declared.entry.Reply.TheVariants as answer;
 ghost use Rattle.pass_plain.specs.Legal.{CallerAllows};
 ghost use Rattle.pass_plain.specs.Lineages.{used};
-ghost use Rattle.pass_plain.specs.Places.{keeps};
 ghost use Rattle.pass_plain.specs.Processes.{has_ended};
-ghost use Rattle.pass_plain.specs.Versions.{nodes_of};
-ghost use Rattle.pass_hold.specs.Callers.{moved_on};
 ghost use Rattle.pass_hold.specs.Callings.{IsEntered};
 ghost use Rattle.pass_hold.specs.Places.{HasRoom};
+ghost use Rattle.pass_hold.specs.Entering.{MayEnter, Enters, IsAt};
 ghost use Rattle.pass_proc.specs.Acts.{own_entry};
 ghost use Rattle.pass_proc.specs.Ends.{end_entry, reap_entry};
 
@@ -128,15 +126,11 @@ impl<J: Whose> Ended<J> {
         number: u64,
     ) -> (u64, Node)
         requires place { HasRoom shelf.old caller.old.held 3 }
-        requires keep { 2 ≡ keeps caller.old.seen (reap_entry who number self.old.who) }
         requires who { caller.old.who ≡ who }
-        requires allows { CallerAllows caller.old.seen (reap_entry who number self.old.who) }
-        ensures entered { IsEntered J.book.session caller.old.seen self.old.seen caller.new.seen (reap_entry who number self.old.who) }
-        ensures place { result.0 + 1 ≡ length caller.new.seen }
-        ensures node { slice_get (nodes_of J.book.session caller.new.seen) result.0 ≡ Some result.1 }
+        requires entry { MayEnter caller.old.seen (reap_entry who number self.old.who) 2 }
+        ensures entry { Enters J.book.session caller.old caller.new self.old.seen (reap_entry who number self.old.who) 2 }
+        ensures at { IsAt J.book.session caller.new.seen result }
         ensures state { self.new ≡ record self.old { seen = caller.new.seen; lineage = used self.old.lineage } }
-        ensures caller { caller.new ≡ moved_on caller.old caller.new.seen caller.new.syncs 2 }
-        ensures few { length caller.new.seen ≤ 2 ^ 32 }
     {
         let entry = Entry {
             who,
@@ -161,13 +155,10 @@ impl<J: Whose> Ended<J> {
         number: u64,
     )
         requires place { HasRoom shelf.old caller.old.held 3 }
-        requires keep { 2 ≡ keeps caller.old.seen (end_entry who number self.old.who) }
         requires who { caller.old.who ≡ who }
-        requires allows { CallerAllows caller.old.seen (end_entry who number self.old.who) }
-        ensures entered { IsEntered J.book.session caller.old.seen self.old.seen caller.new.seen (end_entry who number self.old.who) }
+        requires entry { MayEnter caller.old.seen (end_entry who number self.old.who) 2 }
+        ensures entry { Enters J.book.session caller.old caller.new self.old.seen (end_entry who number self.old.who) 2 }
         ensures state { self.new ≡ record self.old { seen = caller.new.seen } }
-        ensures caller { caller.new ≡ moved_on caller.old caller.new.seen caller.new.syncs 2 }
-        ensures few { length caller.new.seen ≤ 2 ^ 32 }
     {
         let entry = Entry {
             who,

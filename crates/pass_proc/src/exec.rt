@@ -1,18 +1,15 @@
 //! The act by which a living process runs a program.
-ghost use Rattle.std.specs.Prelude.{◌≡◌, ◌+◌, ◌-◌, ◌<◌, ◌≤◌, ◌^◌, [], ◌∷◌, ◌++◌, Some, codes, length, IfOk, OnOk};
+ghost use Rattle.std.specs.Prelude.{◌≡◌, ◌+◌, ◌-◌, ◌<◌, ◌≤◌, ◌^◌, [], ◌∷◌, ◌++◌, Some, codes, IfOk, OnOk};
 ghost use Rattle.std.specs.FinSet as finite_set;
 ghost use Rattle.pass_entry.specs.declared.entry.Act.TheVariants as act;
 ghost use Rattle.pass_entry.specs.declared.entry.CallName.TheVariants as calls;
 ghost use Rattle.pass_entry.specs.declared.entry.Reply.TheVariants as answer;
 ghost use Rattle.pass_entry.specs.declared.record.Record.TheVariants as log;
 ghost use Rattle.pass_entry.specs.Texts.{IsLine};
-ghost use Rattle.pass_plain.specs.Legal.{CallerAllows};
 ghost use Rattle.pass_plain.specs.Lineages.{IsAlike, frozen, with_source};
-ghost use Rattle.pass_plain.specs.Places.{keeps};
 ghost use Rattle.pass_plain.specs.Records.{args_records};
 ghost use Rattle.pass_plain.specs.Versions.{nodes_of, source_in};
-ghost use Rattle.pass_hold.specs.Callers.{moved_on};
-ghost use Rattle.pass_hold.specs.Callings.{IsEntered};
+ghost use Rattle.pass_hold.specs.Entering.{MayEnter, Enters};
 ghost use Rattle.pass_proc.specs.Acts.{own_entry};
 ghost use Rattle.pass_proc.specs.Execs.{exec_view, program_records};
 
@@ -149,15 +146,12 @@ impl<J: Whose> ProcessDesk<J> {
         requires records { room.records ≡ program_records (frozen self.old.lineage).node room.name room.args }
         requires room { finite_set.len self.old.state.children < self.old.spare }
         requires place { 0 < caller.old.held }
-        requires keep { 0 ≡ keeps caller.old.seen (own_entry self.old.who number calls.Exec (act.Exec out room.name room.args) answer.Done) }
         requires who { caller.old.who ≡ self.old.who }
-        requires allows { CallerAllows caller.old.seen (own_entry self.old.who number calls.Exec (act.Exec out room.name room.args) answer.Done) }
+        requires entry { MayEnter caller.old.seen (own_entry self.old.who number calls.Exec (act.Exec out room.name room.args) answer.Done) 0 }
         requires source { source_in (nodes_of J.book.session caller.old.seen) (own_entry self.old.who number calls.Exec (act.Exec out room.name room.args) answer.Done) ≡ Some source.now }
-        ensures entered { IsEntered J.book.session caller.old.seen self.old.seen caller.new.seen (own_entry self.old.who number calls.Exec (act.Exec out room.name room.args) answer.Done) }
+        ensures entry { Enters J.book.session caller.old caller.new self.old.seen (own_entry self.old.who number calls.Exec (act.Exec out room.name room.args) answer.Done) 0 }
         ensures lineage { IsAlike self.new.lineage (with_source (frozen self.old.lineage) source.now) }
         ensures state { self.new ≡ record self.old { seen = caller.new.seen; state = record self.old.state { last_read = [] }; lineage = self.new.lineage; spare = self.old.spare - 1 } }
-        ensures caller { caller.new ≡ moved_on caller.old caller.new.seen caller.new.syncs 0 }
-        ensures few { length caller.new.seen ≤ 2 ^ 32 }
     {
         let _ = self.desk.seen();
         let ExecRoom {

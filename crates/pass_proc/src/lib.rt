@@ -2,7 +2,7 @@
 //!
 //! A `Proc` is a living process: its desk, version, descriptors, children and last read bytes are what the definitions make of what
 //! was seen (`ProcessDesk`). Between its calls it may begin its next call. Each act makes its entry and changes that state as the
-//! definitions do (`entered`, `state`, `caller`). A call that the process refuses is one entry with the plain fault, for every call
+//! definitions do (`entry`, `state`). A call that the process refuses is one entry with the plain fault, for every call
 //! by one function (`refuse`). A fork gives the child the parent's descriptors as they are (`born`). As long as a process lives,
 //! the right to end it lies in its slot: where it is found there and meets a note, the process has not ended in the note
 //! (`Living::meet`, `lives`). `finish` takes it, and what is left is a desk and a trail of what the process had seen (`Ended`,

@@ -1,20 +1,16 @@
 //! The acts by which a living process takes from other objects.
-ghost use Rattle.std.specs.Prelude.{◌≡◌, ◌+◌, ◌-◌, ◌<◌, ◌≤◌, ◌^◌, [], true, false, None, Some, length, if◌then◌else◌, IfOk};
+ghost use Rattle.std.specs.Prelude.{◌≡◌, ◌-◌, ◌<◌, [], true, None, Some, length, if◌then◌else◌};
 ghost use Rattle.std.specs.FinSet as finite_set;
 ghost use Rattle.pass_entry.specs.declared.entry.Act.TheVariants as act;
 ghost use Rattle.pass_entry.specs.declared.entry.Ask.TheVariants as ask;
 ghost use Rattle.pass_entry.specs.declared.entry.CallName.TheVariants as calls;
 ghost use Rattle.pass_entry.specs.declared.entry.Reply.TheVariants as answer;
 ghost use Rattle.pass_plain.specs.Histories.{bytes_at};
-ghost use Rattle.pass_plain.specs.Legal.{CallerAllows};
-ghost use Rattle.pass_plain.specs.Lineages.{IsAlike, frozen, has, linked, with_source};
-ghost use Rattle.pass_plain.specs.Places.{is_exit, keeps};
+ghost use Rattle.pass_plain.specs.Lineages.{IsAlike, has, linked};
 ghost use Rattle.pass_plain.specs.Processes.{AllBelow64, Gains, changed_at, process_act, refusal, risen};
 ghost use Rattle.pass_plain.specs.Versions.{nodes_of, source_in};
 ghost use Rattle.pass_version.specs.declared.versions.Taken.TheVariants as taken_as;
-ghost use Rattle.pass_hold.specs.Callers.{moved_on};
-ghost use Rattle.pass_hold.specs.Callings.{IsEntered};
-ghost use Rattle.pass_hold.specs.Places.{HasRoom};
+ghost use Rattle.pass_hold.specs.Entering.{MayEnter, Enters};
 ghost use Rattle.pass_proc.specs.Acts.{bytes_in, is_taking, own_entry};
 
 use crate::desk::ProcessDesk;
@@ -41,17 +37,13 @@ impl<J: Whose> ProcessDesk<J> {
         requires done { entry.reply ≡ answer.Done }
         requires own { (entry.who ≡ self.old.who) × (entry.what ≡ self.old.who) }
         requires place { 0 < caller.old.held }
-        requires keep { 0 ≡ keeps caller.old.seen entry }
-        requires exit { is_exit entry.call ≡ false }
         requires who { caller.old.who ≡ self.old.who }
-        requires allows { CallerAllows caller.old.seen entry }
+        requires entry { MayEnter caller.old.seen entry 0 }
         requires source { source_in (nodes_of J.book.session caller.old.seen) entry ≡ Some source.now }
-        ensures entered { IsEntered J.book.session caller.old.seen self.old.seen caller.new.seen entry }
+        ensures entry { Enters J.book.session caller.old caller.new self.old.seen entry 0 }
         ensures taken { result ≡ (if has self.old.lineage source.now then taken_as.Dropped else if self.old.lineage.marked then taken_as.FrozenAndLinked else taken_as.Linked) }
         ensures lineage { IsAlike self.new.lineage (linked self.old.lineage source.now) }
         ensures state { self.new ≡ record self.old { seen = caller.new.seen; state = process_act caller.old.seen self.old.state entry.act; lineage = self.new.lineage; spare = self.old.spare - 1 } }
-        ensures caller { caller.new ≡ moved_on caller.old caller.new.seen caller.new.syncs 0 }
-        ensures few { length caller.new.seen ≤ 2 ^ 32 }
     {
         let _ = self.desk.seen();
         self.holdings.apply(&entry.act, gained);
@@ -77,16 +69,13 @@ impl<J: Whose> ProcessDesk<J> {
         requires bytes { bytes_at caller.old.seen out ≡ bytes }
         requires room { finite_set.len self.old.state.children < self.old.spare }
         requires place { 0 < caller.old.held }
-        requires keep { 0 ≡ keeps caller.old.seen (own_entry self.old.who number calls.Read (act.Gain out fd) answer.Done) }
         requires who { caller.old.who ≡ self.old.who }
-        requires allows { CallerAllows caller.old.seen (own_entry self.old.who number calls.Read (act.Gain out fd) answer.Done) }
+        requires entry { MayEnter caller.old.seen (own_entry self.old.who number calls.Read (act.Gain out fd) answer.Done) 0 }
         requires source { source_in (nodes_of J.book.session caller.old.seen) (own_entry self.old.who number calls.Read (act.Gain out fd) answer.Done) ≡ Some source.now }
-        ensures entered { IsEntered J.book.session caller.old.seen self.old.seen caller.new.seen (own_entry self.old.who number calls.Read (act.Gain out fd) answer.Done) }
+        ensures entry { Enters J.book.session caller.old caller.new self.old.seen (own_entry self.old.who number calls.Read (act.Gain out fd) answer.Done) 0 }
         ensures taken { result ≡ (if has self.old.lineage source.now then taken_as.Dropped else if self.old.lineage.marked then taken_as.FrozenAndLinked else taken_as.Linked) }
         ensures lineage { IsAlike self.new.lineage (linked self.old.lineage source.now) }
         ensures state { self.new ≡ record self.old { seen = caller.new.seen; state = record self.old.state { descriptors = changed_at self.old.state.descriptors fd (risen (length bytes)); last_read = bytes }; lineage = self.new.lineage; spare = self.old.spare - 1 } }
-        ensures caller { caller.new ≡ moved_on caller.old caller.new.seen caller.new.syncs 0 }
-        ensures few { length caller.new.seen ≤ 2 ^ 32 }
     {
         let entry = Entry {
             who: self.who,
@@ -112,16 +101,13 @@ impl<J: Whose> ProcessDesk<J> {
     ) -> Taken
         requires child { refusal self.old.state (ask.Child child) ≡ None }
         requires place { 0 < caller.old.held }
-        requires keep { 0 ≡ keeps caller.old.seen (own_entry self.old.who number calls.WaitChild (act.Gather out child) answer.Done) }
         requires who { caller.old.who ≡ self.old.who }
-        requires allows { CallerAllows caller.old.seen (own_entry self.old.who number calls.WaitChild (act.Gather out child) answer.Done) }
+        requires entry { MayEnter caller.old.seen (own_entry self.old.who number calls.WaitChild (act.Gather out child) answer.Done) 0 }
         requires source { source_in (nodes_of J.book.session caller.old.seen) (own_entry self.old.who number calls.WaitChild (act.Gather out child) answer.Done) ≡ Some source.now }
-        ensures entered { IsEntered J.book.session caller.old.seen self.old.seen caller.new.seen (own_entry self.old.who number calls.WaitChild (act.Gather out child) answer.Done) }
+        ensures entry { Enters J.book.session caller.old caller.new self.old.seen (own_entry self.old.who number calls.WaitChild (act.Gather out child) answer.Done) 0 }
         ensures taken { result ≡ (if has self.old.lineage source.now then taken_as.Dropped else if self.old.lineage.marked then taken_as.FrozenAndLinked else taken_as.Linked) }
         ensures lineage { IsAlike self.new.lineage (linked self.old.lineage source.now) }
         ensures state { self.new ≡ record self.old { seen = caller.new.seen; state = record self.old.state { children = finite_set.remove self.old.state.children child }; lineage = self.new.lineage; spare = self.old.spare - 1 } }
-        ensures caller { caller.new ≡ moved_on caller.old caller.new.seen caller.new.syncs 0 }
-        ensures few { length caller.new.seen ≤ 2 ^ 32 }
     {
         let entry = Entry {
             who: self.who,

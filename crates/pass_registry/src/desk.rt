@@ -1,18 +1,17 @@
 //! The registry, as it lies under its lock.
-ghost use Rattle.std.specs.Prelude.{◌≡◌, ◌≤◌, ◌+◌, ◌^◌, ◌↔◌, [], false, length, vec_capacity, IfOk, IfSome, IsSome, OnOk, OnErr};
+ghost use Rattle.std.specs.Prelude.{◌≡◌, ◌≤◌, ◌+◌, ◌↔◌, [], length, vec_capacity, IfOk, IfSome, IsSome, OnOk, OnErr};
 ghost use Rattle.std.specs.FinMap as finite_map;
 ghost use mathlib.Core.List.{IsPrefix};
 ghost use Rattle.pass_entry.specs.declared.entry.Act.TheVariants as act;
 ghost use Rattle.pass_entry.specs.declared.entry.CallName.TheVariants as calls;
 ghost use Rattle.pass_entry.specs.declared.objects.Kind.TheVariants as kinds;
-ghost use Rattle.pass_plain.specs.Legal.{CallerAllows, IsLegal};
-ghost use Rattle.pass_plain.specs.Places.{is_exit, kept_by, keeps};
+ghost use Rattle.pass_plain.specs.Legal.{IsLegal};
+ghost use Rattle.pass_plain.specs.Places.{kept_by};
 ghost use Rattle.pass_plain.specs.Registries.{Exists, next_pnode, registry_after};
 ghost use Rattle.pass_plain.specs.States.{registry_reply, registry_step};
 ghost use Rattle.pass_book.specs.Numbers.{IsFileNumber};
-ghost use Rattle.pass_hold.specs.Callers.{moved_on};
-ghost use Rattle.pass_hold.specs.Callings.{IsEntered};
 ghost use Rattle.pass_hold.specs.Places.{HasRoom};
+ghost use Rattle.pass_hold.specs.Entering.{MayEnter, Enters};
 ghost use Rattle.pass_registry.specs.Desks.{IsMade, on_registry};
 ghost use Rattle.pass_registry.specs.Files.{files_of};
 ghost use Rattle.pass_registry.specs.Listed.{lost_by};
@@ -192,17 +191,14 @@ impl<J: Whose> RegistryDesk<J> {
     ) -> Result<Pnode, CallFault>
         requires room { 1 ≤ self.old.room }
         requires place { HasRoom shelf.old caller.old.held 3 }
-        requires keep { (reply : _) → kept_by reply 2 ≡ keeps caller.old.seen (on_registry who number calls.Creat (act.Bind room) reply) }
         requires who { caller.old.who ≡ who }
-        requires allows { (reply : _) → CallerAllows caller.old.seen (on_registry who number calls.Creat (act.Bind room) reply) }
+        requires entry { (reply : _) → MayEnter caller.old.seen (on_registry who number calls.Creat (act.Bind room) reply) (kept_by reply 2) }
         ensures answer { reply_made result ≡ registry_reply J.book.session (registry_after J.book.session self.old.seen) (act.Bind room) }
         ensures state { registry_after J.book.session self.new.seen ≡ registry_step (registry_after J.book.session self.old.seen) (on_registry who number calls.Creat (act.Bind room) (reply_made result)) }
         ensures made { IfOk result (λ pnode. IsMade J.book.session self.old.seen self.new.seen pnode kinds.File) }
         ensures seen { self.new.seen ≡ caller.new.seen }
-        ensures entered { IsEntered J.book.session caller.old.seen self.old.seen caller.new.seen (on_registry who number calls.Creat (act.Bind room) (reply_made result)) }
-        ensures caller { caller.new ≡ moved_on caller.old caller.new.seen caller.new.syncs (kept_by (reply_made result) 2) }
+        ensures entry { Enters J.book.session caller.old caller.new self.old.seen (on_registry who number calls.Creat (act.Bind room) (reply_made result)) (kept_by (reply_made result) 2) }
         ensures shelf { shelf.new ≡ record shelf.old { history = caller.new.seen; syncs = shelf.new.syncs; claimed = shelf.new.claimed } }
-        ensures few { length caller.new.seen ≤ 2 ^ 32 }
     {
         let BindRoom {
             name,
@@ -236,18 +232,14 @@ impl<J: Whose> RegistryDesk<J> {
         call: CallName,
         name: Text,
     ) -> Result<Pnode, CallFault>
-        requires exit { is_exit call ≡ false }
         requires place { HasRoom shelf.old caller.old.held 3 }
-        requires keep { (reply : _) → kept_by reply 2 ≡ keeps caller.old.seen (on_registry who number call (act.Find name) reply) }
         requires who { caller.old.who ≡ who }
-        requires allows { (reply : _) → CallerAllows caller.old.seen (on_registry who number call (act.Find name) reply) }
+        requires entry { (reply : _) → MayEnter caller.old.seen (on_registry who number call (act.Find name) reply) (kept_by reply 2) }
         ensures answer { reply_made result ≡ registry_reply J.book.session (registry_after J.book.session self.old.seen) (act.Find name) }
         ensures state { registry_after J.book.session self.new.seen ≡ registry_step (registry_after J.book.session self.old.seen) (on_registry who number call (act.Find name) (reply_made result)) }
         ensures desk { self.new ≡ record self.old { seen = caller.new.seen } }
-        ensures entered { IsEntered J.book.session caller.old.seen self.old.seen caller.new.seen (on_registry who number call (act.Find name) (reply_made result)) }
-        ensures caller { caller.new ≡ moved_on caller.old caller.new.seen caller.new.syncs (kept_by (reply_made result) 2) }
+        ensures entry { Enters J.book.session caller.old caller.new self.old.seen (on_registry who number call (act.Find name) (reply_made result)) (kept_by (reply_made result) 2) }
         ensures shelf { shelf.new ≡ record shelf.old { history = caller.new.seen; syncs = shelf.new.syncs; claimed = shelf.new.claimed } }
-        ensures few { length caller.new.seen ≤ 2 ^ 32 }
     {
         let answer = self.registry.find(&name);
         let entry = Entry {
@@ -276,20 +268,16 @@ impl<J: Whose> RegistryDesk<J> {
         list: Vec<Record>,
         keep: u32,
     ) -> Result<Pnode, CallFault>
-        requires exit { is_exit call ≡ false }
         requires list { (list.items ≡ []) × (1 ≤ vec_capacity list) }
         requires place { HasRoom shelf.old caller.old.held (keep + 1) }
-        requires keep { (reply : _) → kept_by reply keep ≡ keeps caller.old.seen (on_registry who number call (act.Mint kind) reply) }
         requires who { caller.old.who ≡ who }
-        requires allows { (reply : _) → CallerAllows caller.old.seen (on_registry who number call (act.Mint kind) reply) }
+        requires entry { (reply : _) → MayEnter caller.old.seen (on_registry who number call (act.Mint kind) reply) (kept_by reply keep) }
         ensures answer { reply_made result ≡ registry_reply J.book.session (registry_after J.book.session self.old.seen) (act.Mint kind) }
         ensures state { registry_after J.book.session self.new.seen ≡ registry_step (registry_after J.book.session self.old.seen) (on_registry who number call (act.Mint kind) (reply_made result)) }
         ensures made { IfOk result (λ pnode. IsMade J.book.session self.old.seen self.new.seen pnode kind) }
         ensures desk { self.new ≡ record self.old { seen = caller.new.seen } }
-        ensures entered { IsEntered J.book.session caller.old.seen self.old.seen caller.new.seen (on_registry who number call (act.Mint kind) (reply_made result)) }
-        ensures caller { caller.new ≡ moved_on caller.old caller.new.seen caller.new.syncs (kept_by (reply_made result) keep) }
+        ensures entry { Enters J.book.session caller.old caller.new self.old.seen (on_registry who number call (act.Mint kind) (reply_made result)) (kept_by (reply_made result) keep) }
         ensures shelf { shelf.new ≡ record shelf.old { history = caller.new.seen; syncs = shelf.new.syncs; claimed = shelf.new.claimed } }
-        ensures few { length caller.new.seen ≤ 2 ^ 32 }
     {
         let answer = self.registry.mint(kind);
         let slip = mint_slip(&answer, kind, list);
@@ -317,16 +305,13 @@ impl<J: Whose> RegistryDesk<J> {
         pnode: Pnode,
     ) -> Result<Pnode, CallFault>
         requires place { HasRoom shelf.old caller.old.held 3 }
-        requires keep { (reply : _) → kept_by reply 2 ≡ keeps caller.old.seen (on_registry who number calls.Revive (act.Known pnode) reply) }
         requires who { caller.old.who ≡ who }
-        requires allows { (reply : _) → CallerAllows caller.old.seen (on_registry who number calls.Revive (act.Known pnode) reply) }
+        requires entry { (reply : _) → MayEnter caller.old.seen (on_registry who number calls.Revive (act.Known pnode) reply) (kept_by reply 2) }
         ensures answer { reply_made result ≡ registry_reply J.book.session (registry_after J.book.session self.old.seen) (act.Known pnode) }
         ensures state { registry_after J.book.session self.new.seen ≡ registry_step (registry_after J.book.session self.old.seen) (on_registry who number calls.Revive (act.Known pnode) (reply_made result)) }
         ensures desk { self.new ≡ record self.old { seen = caller.new.seen } }
-        ensures entered { IsEntered J.book.session caller.old.seen self.old.seen caller.new.seen (on_registry who number calls.Revive (act.Known pnode) (reply_made result)) }
-        ensures caller { caller.new ≡ moved_on caller.old caller.new.seen caller.new.syncs (kept_by (reply_made result) 2) }
+        ensures entry { Enters J.book.session caller.old caller.new self.old.seen (on_registry who number calls.Revive (act.Known pnode) (reply_made result)) (kept_by (reply_made result) 2) }
         ensures shelf { shelf.new ≡ record shelf.old { history = caller.new.seen; syncs = shelf.new.syncs; claimed = shelf.new.claimed } }
-        ensures few { length caller.new.seen ≤ 2 ^ 32 }
     {
         let answer = self.registry.known(pnode);
         let entry = Entry {
@@ -352,16 +337,13 @@ impl<J: Whose> RegistryDesk<J> {
         room: MoveRoom,
     ) -> Result<(), CallFault>
         requires place { HasRoom shelf.old caller.old.held 3 }
-        requires keep { (reply : _) → 0 ≡ keeps caller.old.seen (on_registry who number calls.Rename (act.Move room.from room.to) reply) }
         requires who { caller.old.who ≡ who }
-        requires allows { (reply : _) → CallerAllows caller.old.seen (on_registry who number calls.Rename (act.Move room.from room.to) reply) }
+        requires entry { (reply : _) → MayEnter caller.old.seen (on_registry who number calls.Rename (act.Move room.from room.to) reply) 0 }
         ensures answer { reply_done result ≡ registry_reply J.book.session (registry_after J.book.session self.old.seen) (act.Move room.from room.to) }
         ensures state { registry_after J.book.session self.new.seen ≡ registry_step (registry_after J.book.session self.old.seen) (on_registry who number calls.Rename (act.Move room.from room.to) (reply_done result)) }
         ensures desk { self.new ≡ record self.old { seen = caller.new.seen } }
-        ensures entered { IsEntered J.book.session caller.old.seen self.old.seen caller.new.seen (on_registry who number calls.Rename (act.Move room.from room.to) (reply_done result)) }
-        ensures caller { caller.new ≡ moved_on caller.old caller.new.seen caller.new.syncs 0 }
+        ensures entry { Enters J.book.session caller.old caller.new self.old.seen (on_registry who number calls.Rename (act.Move room.from room.to) (reply_done result)) 0 }
         ensures shelf { shelf.new ≡ record shelf.old { history = caller.new.seen; syncs = shelf.new.syncs; claimed = shelf.new.claimed } }
-        ensures few { length caller.new.seen ≤ 2 ^ 32 }
     {
         let MoveRoom {
             from,
@@ -396,16 +378,13 @@ impl<J: Whose> RegistryDesk<J> {
         room: UnbindRoom,
     ) -> Result<(), CallFault>
         requires place { HasRoom shelf.old caller.old.held 3 }
-        requires keep { (reply : _) → 0 ≡ keeps caller.old.seen (on_registry who number calls.Unlink (act.Unbind room) reply) }
         requires who { caller.old.who ≡ who }
-        requires allows { (reply : _) → CallerAllows caller.old.seen (on_registry who number calls.Unlink (act.Unbind room) reply) }
+        requires entry { (reply : _) → MayEnter caller.old.seen (on_registry who number calls.Unlink (act.Unbind room) reply) 0 }
         ensures answer { reply_done result ≡ registry_reply J.book.session (registry_after J.book.session self.old.seen) (act.Unbind room) }
         ensures state { registry_after J.book.session self.new.seen ≡ registry_step (registry_after J.book.session self.old.seen) (on_registry who number calls.Unlink (act.Unbind room) (reply_done result)) }
         ensures desk { self.new ≡ record self.old { seen = caller.new.seen } }
-        ensures entered { IsEntered J.book.session caller.old.seen self.old.seen caller.new.seen (on_registry who number calls.Unlink (act.Unbind room) (reply_done result)) }
-        ensures caller { caller.new ≡ moved_on caller.old caller.new.seen caller.new.syncs 0 }
+        ensures entry { Enters J.book.session caller.old caller.new self.old.seen (on_registry who number calls.Unlink (act.Unbind room) (reply_done result)) 0 }
         ensures shelf { shelf.new ≡ record shelf.old { history = caller.new.seen; syncs = shelf.new.syncs; claimed = shelf.new.claimed } }
-        ensures few { length caller.new.seen ≤ 2 ^ 32 }
     {
         let UnbindRoom { name, empty, list } = room;
         let answer = self.registry.unlink(&name);

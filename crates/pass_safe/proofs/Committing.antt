@@ -12,8 +12,8 @@ use Rattle.pass_entry.specs.declared.objects.Descriptor.{Descriptor}
 use Rattle.pass_plain.specs.declared.request.Request.{Request}
 use Rattle.pass_plain.specs.declared.request.Request.TheVariants as requests
 use Rattle.pass_plain.specs.Calls.{Made, Step, refused_ask, steps_of, descriptor_at}
-use Rattle.pass_plain.specs.Legal.{IsLegal, CallerAllows}
-use Rattle.pass_plain.specs.Places.{call_places, keeps}
+use Rattle.pass_plain.specs.Legal.{IsLegal}
+use Rattle.pass_plain.specs.Places.{call_places}
 use Rattle.pass_plain.specs.Processes.{Process, refusal}
 use Rattle.pass_plain.specs.Sessions.{Session}
 use Rattle.pass_plain.proofs.Beginning.{in_call}
@@ -25,6 +25,7 @@ use Rattle.pass_book.specs.declared.view.VaultSync.{VaultSync}
 use Rattle.pass_book.proofs.Backed.{number_stays}
 use Rattle.pass_book.proofs.Prefixes.{prefix_trans}
 use Rattle.pass_hold.specs.Callings.{IsEntered, IsIdle, IsGoing, HasGone, HasLooked}
+use Rattle.pass_hold.specs.Entering.{MayEnter}
 use Rattle.pass_hold.proofs.Callings.{call_made, idle_again, more, left_idle, held_going}
 use Rattle.pass_flow.specs.Flows.{keep_entry}
 use Rattle.pass_proc.proofs.Steps.{begun, low_fd}
@@ -32,7 +33,7 @@ use Rattle.pass_answer.specs.Answers.{HasMoved}
 use Rattle.pass_answer.specs.declared.answer.Moved.TheVariants as moved
 use Rattle.pass_answer.proofs.Naming.{one_held, its_object}
 use Rattle.pass_answer.proofs.ObjectSteps.{place_is}
-use Rattle.pass_answer.proofs.Steps.{not_refused, next_allows, next_keeps, gone_by}
+use Rattle.pass_answer.proofs.Steps.{not_refused, next_may, gone_by}
 use Rattle.pass_safe.specs.Syncings.{IsKeeping, kept_entry}
 use Rattle.pass_answer.specs.Syncs.{BacksFile, HasSynced}
 
@@ -82,11 +83,8 @@ module _ (session : Session) (seen : List Entry) (who number : ℕ) (p : Process
   first_step : slice_get (steps_of who p [] (requests.Sync fd)) 0 ≡ Some (what, act.Keep)
   first_step = ap kept_at its_what
 
-  pub keep_allows : CallerAllows seen (keep_entry who number what)
-  keep_allows = next_allows session seen seen who number (requests.Sync fd) p [] p fine what act.Keep first_step answer.Done refl (low_fd fd low) (begun session seen who number p (requests.Sync fd) idle some)
-
-  pub keep_keeps : 2 ≡ keeps seen (keep_entry who number what)
-  keep_keeps = sym (next_keeps session seen seen who number (requests.Sync fd) p [] p fine what act.Keep first_step answer.Done (begun session seen who number p (requests.Sync fd) idle some))
+  pub keep_may : MayEnter seen (keep_entry who number what) 2
+  keep_may = next_may session seen seen who number (requests.Sync fd) p [] p fine what act.Keep first_step answer.Done refl (low_fd fd low) (begun session seen who number p (requests.Sync fd) idle some) 2 refl
 
   pub first_kept : (desk after : List Entry) (place : ℕ) → place + 1 ≡ length after → IsEntered session seen desk after (keep_entry who number what) → IsKeeping session who number seen after fd what p place
   first_kept desk after place at entered =
@@ -125,11 +123,8 @@ module _ (session : Session) (who number : ℕ) (before seen : List Entry) (fd w
   going : IsGoing session before seen who number r p one p
   going = more session before seen who number r p one p kept.gone refl kept.lives
 
-  pub kept_allows : CallerAllows seen (kept_entry who number fd)
-  kept_allows = next_allows session before seen who number r p one p its_fine who (act.Kept fd) refl answer.Done refl (low_fd fd kept.low) going
-
-  pub kept_keeps : 0 ≡ keeps seen (kept_entry who number fd)
-  kept_keeps = sym (next_keeps session before seen who number r p one p its_fine who (act.Kept fd) refl answer.Done going)
+  pub kept_may : MayEnter seen (kept_entry who number fd) 0
+  kept_may = next_may session before seen who number r p one p its_fine who (act.Kept fd) refl answer.Done refl (low_fd fd kept.low) going 0 refl
 
   -- the first entry of the call is the one
   only : (n : ℕ) (k : Entry) → slice_get seen n ≡ Some k → k.who ≡ who → k.number ≡ number → (n ≡ place) × (k ≡ keep_entry who number what)

@@ -1,16 +1,12 @@
 //! The entries by which data leaves a file.
-ghost use Rattle.std.specs.Prelude.{◌≡◌, ◌+◌, ◌≤◌, ◌<◌, ◌^◌, IfOk, Some, drop, length, slice_get, take};
+ghost use Rattle.std.specs.Prelude.{◌≡◌, ◌≤◌, ◌<◌, IfOk, drop, take};
 ghost use Rattle.pass_entry.specs.Limits.{transfer_limit};
 ghost use Rattle.pass_entry.specs.declared.entry.Act.TheVariants as act;
 ghost use Rattle.pass_entry.specs.declared.entry.CallName.TheVariants as calls;
 ghost use Rattle.pass_entry.specs.declared.entry.Reply.TheVariants as answer;
 ghost use Rattle.pass_plain.specs.Files.{file_after};
-ghost use Rattle.pass_plain.specs.Legal.{CallerAllows};
-ghost use Rattle.pass_plain.specs.Places.{keeps};
-ghost use Rattle.pass_plain.specs.Versions.{nodes_of};
-ghost use Rattle.pass_hold.specs.Callers.{moved_on};
-ghost use Rattle.pass_hold.specs.Callings.{IsEntered};
 ghost use Rattle.pass_hold.specs.Places.{HasRoom};
+ghost use Rattle.pass_hold.specs.Entering.{MayEnter, Enters, IsAt};
 ghost use Rattle.pass_file.specs.Desks.{entry_on};
 
 use crate::desk::FileDesk;
@@ -58,16 +54,12 @@ impl<J: Whose> FileDesk<J> {
     ) -> (u64, Node)
         requires bytes { bytes ≡ take len (drop at (file_after J.book.session self.old.seen self.old.what)) }
         requires place { HasRoom shelf.old caller.old.held 3 }
-        requires keep { 2 ≡ keeps caller.old.seen (entry_on self.old.what who number calls.Read (act.Give at len) (answer.Took bytes)) }
         requires who { caller.old.who ≡ who }
-        requires allows { CallerAllows caller.old.seen (entry_on self.old.what who number calls.Read (act.Give at len) (answer.Took bytes)) }
-        ensures entered { IsEntered J.book.session caller.old.seen self.old.seen caller.new.seen (entry_on self.old.what who number calls.Read (act.Give at len) (answer.Took bytes)) }
-        ensures place { result.0 + 1 ≡ length caller.new.seen }
-        ensures node { slice_get (nodes_of J.book.session caller.new.seen) result.0 ≡ Some result.1 }
+        requires entry { MayEnter caller.old.seen (entry_on self.old.what who number calls.Read (act.Give at len) (answer.Took bytes)) 2 }
+        ensures entry { Enters J.book.session caller.old caller.new self.old.seen (entry_on self.old.what who number calls.Read (act.Give at len) (answer.Took bytes)) 2 }
+        ensures at { IsAt J.book.session caller.new.seen result }
         ensures state { self.new ≡ record self.old { seen = caller.new.seen; syncs = caller.new.syncs } }
-        ensures caller { caller.new ≡ moved_on caller.old caller.new.seen caller.new.syncs 2 }
         ensures shelf { shelf.new ≡ record shelf.old { history = caller.new.seen; syncs = shelf.new.syncs; claimed = shelf.new.claimed } }
-        ensures few { length caller.new.seen ≤ 2 ^ 32 }
     {
         let entry = Entry {
             who,
@@ -91,16 +83,12 @@ impl<J: Whose> FileDesk<J> {
         number: u64,
     ) -> (u64, Node)
         requires place { 1 < caller.old.held }
-        requires keep { 1 ≡ keeps caller.old.seen (entry_on self.old.what who number calls.Exec act.Load answer.Done) }
         requires who { caller.old.who ≡ who }
-        requires allows { CallerAllows caller.old.seen (entry_on self.old.what who number calls.Exec act.Load answer.Done) }
-        ensures entered { IsEntered J.book.session caller.old.seen self.old.seen caller.new.seen (entry_on self.old.what who number calls.Exec act.Load answer.Done) }
-        ensures place { result.0 + 1 ≡ length caller.new.seen }
-        ensures node { slice_get (nodes_of J.book.session caller.new.seen) result.0 ≡ Some result.1 }
+        requires entry { MayEnter caller.old.seen (entry_on self.old.what who number calls.Exec act.Load answer.Done) 1 }
+        ensures entry { Enters J.book.session caller.old caller.new self.old.seen (entry_on self.old.what who number calls.Exec act.Load answer.Done) 1 }
+        ensures at { IsAt J.book.session caller.new.seen result }
         ensures state { self.new ≡ record self.old { seen = caller.new.seen; syncs = caller.new.syncs } }
-        ensures caller { caller.new ≡ moved_on caller.old caller.new.seen caller.new.syncs 1 }
         ensures shelf { shelf.new ≡ record shelf.old { history = caller.new.seen; syncs = shelf.new.syncs; claimed = shelf.new.claimed } }
-        ensures few { length caller.new.seen ≤ 2 ^ 32 }
     {
         let entry = Entry {
             who,

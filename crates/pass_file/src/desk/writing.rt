@@ -1,15 +1,12 @@
 //! The entries by which the content of a file changes.
-ghost use Rattle.std.specs.Prelude.{◌≡◌, ◌+◌, ◌-◌, ◌≤◌, ◌<◌, ◌^◌, IfOk, Some, length, slice_get};
+ghost use Rattle.std.specs.Prelude.{◌≡◌, ◌+◌, ◌-◌, ◌≤◌, ◌<◌, IfOk, Some, length, slice_get};
 ghost use Rattle.pass_entry.specs.Limits.{file_limit};
 ghost use Rattle.pass_entry.specs.declared.entry.Act.TheVariants as act;
 ghost use Rattle.pass_entry.specs.declared.entry.CallName.TheVariants as calls;
 ghost use Rattle.pass_entry.specs.declared.entry.Reply.TheVariants as answer;
 ghost use Rattle.pass_plain.specs.Files.{file_after, resized, written};
-ghost use Rattle.pass_plain.specs.Legal.{CallerAllows};
-ghost use Rattle.pass_plain.specs.Places.{keeps};
 ghost use Rattle.pass_plain.specs.Versions.{nodes_of};
-ghost use Rattle.pass_hold.specs.Callers.{moved_on};
-ghost use Rattle.pass_hold.specs.Callings.{IsEntered};
+ghost use Rattle.pass_hold.specs.Entering.{MayEnter, Enters};
 ghost use Rattle.pass_file.specs.Desks.{change_records, entry_on};
 
 use crate::desk::FileDesk;
@@ -60,17 +57,14 @@ impl<J: Whose> FileDesk<J> {
         requires room { (at + length bytes ≤ self.old.room) × (1 ≤ self.old.spare) }
         requires list { list.items ≡ change_records J.book.session self.old.seen self.old.what (act.Put 0 at bytes) }
         requires place { 0 < caller.old.held }
-        requires keep { 0 ≡ keeps caller.old.seen (entry_on self.old.what who number calls.Write (act.Put out at bytes) answer.Done) }
         requires who { caller.old.who ≡ who }
-        requires allows { CallerAllows caller.old.seen (entry_on self.old.what who number calls.Write (act.Put out at bytes) answer.Done) }
+        requires entry { MayEnter caller.old.seen (entry_on self.old.what who number calls.Write (act.Put out at bytes) answer.Done) 0 }
         requires source { slice_get (nodes_of J.book.session caller.old.seen) out ≡ Some source.now }
-        ensures entered { IsEntered J.book.session caller.old.seen self.old.seen caller.new.seen (entry_on self.old.what who number calls.Write (act.Put out at bytes) answer.Done) }
+        ensures entry { Enters J.book.session caller.old caller.new self.old.seen (entry_on self.old.what who number calls.Write (act.Put out at bytes) answer.Done) 0 }
         ensures node { slice_get (nodes_of J.book.session caller.new.seen) (length caller.new.seen - 1) ≡ Some result }
         ensures state { self.new ≡ record self.old { seen = caller.new.seen; syncs = caller.new.syncs; spare = self.old.spare - 1; room = self.new.room } }
         ensures content { file_after J.book.session self.new.seen self.new.what ≡ written (file_after J.book.session self.old.seen self.old.what) at bytes }
-        ensures caller { caller.new ≡ moved_on caller.old caller.new.seen caller.new.syncs 0 }
         ensures shelf { shelf.new ≡ record shelf.old { history = caller.new.seen; syncs = shelf.new.syncs; claimed = shelf.new.claimed } }
-        ensures few { length caller.new.seen ≤ 2 ^ 32 }
     {
         let entry = Entry {
             who,
@@ -101,17 +95,14 @@ impl<J: Whose> FileDesk<J> {
         requires room { (size ≤ self.old.room) × (1 ≤ self.old.spare) }
         requires list { list.items ≡ change_records J.book.session self.old.seen self.old.what (act.Cut 0 size) }
         requires place { 0 < caller.old.held }
-        requires keep { 0 ≡ keeps caller.old.seen (entry_on self.old.what who number calls.Truncate (act.Cut out size) answer.Done) }
         requires who { caller.old.who ≡ who }
-        requires allows { CallerAllows caller.old.seen (entry_on self.old.what who number calls.Truncate (act.Cut out size) answer.Done) }
+        requires entry { MayEnter caller.old.seen (entry_on self.old.what who number calls.Truncate (act.Cut out size) answer.Done) 0 }
         requires source { slice_get (nodes_of J.book.session caller.old.seen) out ≡ Some source.now }
-        ensures entered { IsEntered J.book.session caller.old.seen self.old.seen caller.new.seen (entry_on self.old.what who number calls.Truncate (act.Cut out size) answer.Done) }
+        ensures entry { Enters J.book.session caller.old caller.new self.old.seen (entry_on self.old.what who number calls.Truncate (act.Cut out size) answer.Done) 0 }
         ensures node { slice_get (nodes_of J.book.session caller.new.seen) (length caller.new.seen - 1) ≡ Some result }
         ensures state { self.new ≡ record self.old { seen = caller.new.seen; syncs = caller.new.syncs; spare = self.old.spare - 1; room = self.new.room } }
         ensures content { file_after J.book.session self.new.seen self.new.what ≡ resized (file_after J.book.session self.old.seen self.old.what) size }
-        ensures caller { caller.new ≡ moved_on caller.old caller.new.seen caller.new.syncs 0 }
         ensures shelf { shelf.new ≡ record shelf.old { history = caller.new.seen; syncs = shelf.new.syncs; claimed = shelf.new.claimed } }
-        ensures few { length caller.new.seen ≤ 2 ^ 32 }
     {
         let entry = Entry {
             who,

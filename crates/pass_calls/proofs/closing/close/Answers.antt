@@ -9,7 +9,7 @@ use Rattle.pass_proc.specs.Views.{ProcessView}
 use Rattle.pass_answer.specs.Answers.{HasMoved}
 use Rattle.pass_answer.specs.declared.answer.Moved.TheVariants as moved
 use Rattle.pass_calls.proofs.Frame.{answers, asks, has_room, holds, less_room, once, opened, over, rests}
-use Rattle.pass_calls.proofs.SingleStep.{close_step, step_allows, step_keeps, here_moved, here_idle}
+use Rattle.pass_calls.proofs.SingleStep.{close_step, step_may, here_moved, here_idle}
 use Rattle.pass_calls.proofs.closing.close.Goals as goal
 
 pub refused-requires-clause-refused : goal.refused-requires-clause-refused
@@ -35,9 +35,8 @@ detach-requires g c =
     record {
       held = free;
       place = less_room c.begin.new.shelf i.caller.held (has_room o c.held.ensures.call c.begin.new.shelf c.in_ok-number.ensures.places);
-      keep = step_keeps S i.caller.seen p.who n p.state (requests.CloseFd a.fd) p.who (act.Detach a.fd) only o.idle o.some answer.Done;
       who = o.who;
-      allows = step_allows S i.caller.seen p.who n p.state (requests.CloseFd a.fd) p.who (act.Detach a.fd) only o.idle o.some answer.Done;
+      entry = step_may S i.caller.seen p.who n p.state (requests.CloseFd a.fd) p.who (act.Detach a.fd) only o.idle o.some answer.Done;
     }
 
 pub invariant_of-proc : goal.invariant_of-proc
@@ -47,9 +46,9 @@ invariant_of-proc g c =
     let free = asks o (ask.Held a.fd) ∙ c.in_default.ensures.ok.0 refl in
     let s = c.detach in let e = s.new.caller in
     let only = close_step p.who p.state a.fd q.fd free (λ d at. q.object d (sym (holds o a.fd) ∙ at)) in (
-      rests o s.new.self e (λ k. (s.ensures.state k).who) (once i.caller e 0 s.ensures.caller)
-          (subst (λ (v : ProcessView). IsIdle S e.seen v.who n v.state) (sym s.ensures.state) (here_idle S i.caller.seen p.who n p.state (requests.CloseFd a.fd) p.who (act.Detach a.fd) only o.idle o.some answer.Done p.seen e.seen s.ensures.entered refl refl o.idle.lives))
-          s.ensures.few,
+      rests o s.new.self e (λ k. (s.ensures.state k).who) (once i.caller e 0 s.ensures.entry.caller)
+          (subst (λ (v : ProcessView). IsIdle S e.seen v.who n v.state) (sym s.ensures.state) (here_idle S i.caller.seen p.who n p.state (requests.CloseFd a.fd) p.who (act.Detach a.fd) only o.idle o.some answer.Done p.seen e.seen s.ensures.entry.entered refl refl o.idle.lives))
+          s.ensures.entry.few,
       tt,
     )
 
@@ -62,4 +61,4 @@ returns-clause-call g c =
     let only = close_step p.who p.state a.fd q.fd free (λ d at. q.object d (sym (holds o a.fd) ∙ at)) in
     answers o s.new.self e (λ k. (s.ensures.state k).who) g.J.Whose.places (requests.CloseFd a.fd) refl moved.Done
     (subst (λ (v : ProcessView). HasMoved S p.who i.caller.seen e.seen v.state (requests.CloseFd a.fd) moved.Done) (sym s.ensures.state)
-    (here_moved S i.caller.seen p.who n p.state (requests.CloseFd a.fd) p.who (act.Detach a.fd) only o.idle o.some answer.Done p.seen e.seen s.ensures.entered refl refl o.idle.lives moved.Done tt))
+    (here_moved S i.caller.seen p.who n p.state (requests.CloseFd a.fd) p.who (act.Detach a.fd) only o.idle o.some answer.Done p.seen e.seen s.ensures.entry.entered refl refl o.idle.lives moved.Done tt))

@@ -3,14 +3,13 @@ use Rattle.std.specs.Prelude.{Some}
 use Rattle.std.specs.FinMap as finite_map
 use Rattle.pass_entry.specs.declared.entry.Ask.TheVariants as ask
 use Rattle.pass_entry.specs.declared.objects.Descriptor.{Descriptor}
-use Rattle.pass_plain.specs.Legal.{CallerAllows}
-use Rattle.pass_plain.specs.Places.{keeps}
 use Rattle.pass_plain.specs.declared.request.Request.TheVariants as requests
 use Rattle.pass_hold.specs.Callings.{IsEntered}
+use Rattle.pass_hold.specs.Entering.{MayEnter}
 use Rattle.pass_flow.specs.Flows.{freeze_entry}
 use Rattle.pass_answer.specs.declared.answer.Moved.TheVariants as moved
 use Rattle.pass_calls.proofs.Frame.{answers, asks, has_room, holds, once, opened, over, rests}
-use Rattle.pass_calls.proofs.VersionCalls.{freeze_allows, freeze_keeps, frozen_moved, frozen_idle}
+use Rattle.pass_calls.proofs.VersionCalls.{freeze_may, frozen_moved, frozen_idle}
 use Rattle.pass_calls.proofs.freezing.freeze.Goals as goal
 
 pub returns-in_err-number-clause-call : goal.returns-in_err-number-clause-call
@@ -27,8 +26,7 @@ freeze-frozen-requires g c =
     record {
       who = o.who ∙ sym c.pnode-who.ensures;
       place = has_room o c.held.ensures.call c.begin.new.shelf c.in_ok-number.ensures.places;
-      keep = subst (λ who. 0 ≡ keeps i.caller.seen (freeze_entry who n x.what)) (sym c.pnode-who.ensures) (freeze_keeps S i.caller.seen p.who n p.state a.fd x.what o.idle o.some free q.fd its);
-      allows = subst (λ who. CallerAllows i.caller.seen (freeze_entry who n x.what)) (sym c.pnode-who.ensures) (freeze_allows S i.caller.seen p.who n p.state a.fd x.what o.idle o.some free q.fd its);
+      entry = subst (λ who. MayEnter i.caller.seen (freeze_entry who n x.what) 0) (sym c.pnode-who.ensures) (freeze_may S i.caller.seen p.who n p.state a.fd x.what o.idle o.some free q.fd its);
     }
 
 pub invariant_of-proc : goal.invariant_of-proc
@@ -38,8 +36,8 @@ invariant_of-proc g c =
     let x = g.V.Versioned.object a.object.now in let free = asks o (ask.Held a.fd) ∙ q.free in
     let its : (d : Descriptor) → finite_map.get p.state.descriptors a.fd ≡ Some d → x.what ≡ d.pnode = λ d at. q.object d (sym (holds o a.fd) ∙ at) in
     let s = c.freeze-frozen in let e = s.new.caller in
-    let made = subst (λ who. IsEntered S i.caller.seen x.seen e.seen (freeze_entry who n x.what)) c.pnode-who.ensures s.ensures.entered in
-    (rests o p e refl (once i.caller e 0 s.ensures.caller) (frozen_idle S i.caller.seen p.who n p.state a.fd x.what o.idle o.some free q.fd its x.seen e.seen made) s.ensures.few, tt)
+    let made = subst (λ who. IsEntered S i.caller.seen x.seen e.seen (freeze_entry who n x.what)) c.pnode-who.ensures s.ensures.entry.entered in
+    (rests o p e refl (once i.caller e 0 s.ensures.entry.caller) (frozen_idle S i.caller.seen p.who n p.state a.fd x.what o.idle o.some free q.fd its x.seen e.seen made) s.ensures.entry.few, tt)
 
 pub returns-clause-call : goal.returns-clause-call
 returns-clause-call g c =
@@ -48,6 +46,6 @@ returns-clause-call g c =
     let x = g.V.Versioned.object a.object.now in let free = asks o (ask.Held a.fd) ∙ q.free in
     let its : (d : Descriptor) → finite_map.get p.state.descriptors a.fd ≡ Some d → x.what ≡ d.pnode = λ d at. q.object d (sym (holds o a.fd) ∙ at) in
     let s = c.freeze-frozen in let e = s.new.caller in
-    let made = subst (λ who. IsEntered S i.caller.seen x.seen e.seen (freeze_entry who n x.what)) c.pnode-who.ensures s.ensures.entered in
+    let made = subst (λ who. IsEntered S i.caller.seen x.seen e.seen (freeze_entry who n x.what)) c.pnode-who.ensures s.ensures.entry.entered in
     answers o p e refl g.J.Whose.places (requests.FreezeObj a.fd) refl (moved.Frozen s.result.1)
-    (frozen_moved S i.caller.seen p.who n p.state a.fd x.what o.idle o.some free q.fd its x.seen e.seen made s.result.0 s.result.1 s.ensures.place s.ensures.node)
+    (frozen_moved S i.caller.seen p.who n p.state a.fd x.what o.idle o.some free q.fd its x.seen e.seen made s.result.0 s.result.1 s.ensures.at.place s.ensures.at.node)

@@ -5,13 +5,12 @@ use Rattle.std.specs.FinMap as finite_map
 use Rattle.pass_entry.specs.declared.entry.Ask.TheVariants as ask
 use Rattle.pass_entry.specs.declared.entry.Reply.TheVariants as answer
 use Rattle.pass_entry.specs.declared.objects.Descriptor.{Descriptor}
-use Rattle.pass_plain.specs.Legal.{CallerAllows}
 use Rattle.pass_plain.specs.Pipes.{pipe_after}
-use Rattle.pass_plain.specs.Places.{keeps}
 use Rattle.pass_plain.specs.Processes.{changed_at, risen, Process, refusal, is_pipe}
 use Rattle.pass_plain.specs.Replies.{taken}
 use Rattle.pass_plain.specs.declared.request.Request.TheVariants as requests
 use Rattle.pass_hold.specs.Callings.{IsEntered, IsIdle, HasLooked}
+use Rattle.pass_hold.specs.Entering.{MayEnter}
 use Rattle.pass_flow.specs.Flows.{ObjectView}
 use Rattle.pass_pipe.specs.Desks.{take_entry}
 use Rattle.pass_proc.specs.Procs.{ProcView, proc_with}
@@ -23,7 +22,7 @@ use Rattle.pass_answer.specs.declared.answer.Moved.{Moved}
 use Rattle.pass_answer.specs.declared.answer.Moved.TheVariants as moved
 use Rattle.pass_answer.proofs.Between.{looked_on}
 use Rattle.pass_calls.proofs.Frame.{answers, asks, has_room, holds, opened, ready, rests, twice}
-use Rattle.pass_calls.proofs.PipeReads.{read_ready, read_waits, take_allows, take_keeps, gives, gain_allows, gain_keeps, read_moved, read_idle}
+use Rattle.pass_calls.proofs.PipeReads.{read_ready, read_waits, take_may, gives, gain_may, read_moved, read_idle}
 use Rattle.pass_answer.proofs.Ready.{is_there}
 use Rattle.pass_calls.proofs.Readiness.{still_full}
 use Rattle.pass_calls.proofs.pipe_reading.read_pipe.Goals as goal
@@ -75,23 +74,14 @@ take-out-requires-clause-place g c =
     let o = ready (opened S i.process i.number i.caller i.way c.proc-2.invariant.0 a.proc.now (c.proc-2.view_is ∙ c.in-Ok.ensures.same) n c.in-Ok.ensures.number) p c.in_ok-reserve.ensures.same in
     has_room o c.held.ensures.call c.begin.new.shelf c.in-Ok.ensures.places
 
-pub take-out-requires-clause-keep : goal.take-out-requires-clause-keep
-take-out-requires-clause-keep g c =
+pub take-out-requires-clause-entry : goal.take-out-requires-clause-entry
+take-out-requires-clause-entry g c =
     let S = g.J.Whose.book.session in let a = c.args in let q = c.requires in let n = c.in-Ok.number in let i = c.proc-2.inside in let p = c.reserve.new.self in
     let o = ready (opened S i.process i.number i.caller i.way c.proc-2.invariant.0 a.proc.now (c.proc-2.view_is ∙ c.in-Ok.ensures.same) n c.in-Ok.ensures.number) p c.in_ok-reserve.ensures.same in
     let x = a.pipe.now in let free = asks o (ask.ToRead a.fd) ∙ q.free in
     let its : (d : Descriptor) → finite_map.get p.state.descriptors a.fd ≡ Some d → (is_pipe d ≡ true) × (x.what ≡ d.pnode) = λ d at. q.object d (sym (holds o a.fd) ∙ at) in
     let bytes = c.in-Some.bytes in
-    subst (λ who. 2 ≡ keeps i.caller.seen (take_entry who n x.what a.len bytes)) (sym c.pnode-who.ensures) (take_keeps S i.caller.seen p.who n p.state a.fd a.len bytes x.what o.idle o.some free q.fd q.len.0 q.len.1 its)
-
-pub take-out-requires-clause-allows : goal.take-out-requires-clause-allows
-take-out-requires-clause-allows g c =
-    let S = g.J.Whose.book.session in let a = c.args in let q = c.requires in let n = c.in-Ok.number in let i = c.proc-2.inside in let p = c.reserve.new.self in
-    let o = ready (opened S i.process i.number i.caller i.way c.proc-2.invariant.0 a.proc.now (c.proc-2.view_is ∙ c.in-Ok.ensures.same) n c.in-Ok.ensures.number) p c.in_ok-reserve.ensures.same in
-    let x = a.pipe.now in let free = asks o (ask.ToRead a.fd) ∙ q.free in
-    let its : (d : Descriptor) → finite_map.get p.state.descriptors a.fd ≡ Some d → (is_pipe d ≡ true) × (x.what ≡ d.pnode) = λ d at. q.object d (sym (holds o a.fd) ∙ at) in
-    let bytes = c.in-Some.bytes in
-    subst (λ who. CallerAllows i.caller.seen (take_entry who n x.what a.len bytes)) (sym c.pnode-who.ensures) (take_allows S i.caller.seen p.who n p.state a.fd a.len bytes x.what o.idle o.some free q.fd q.len.0 q.len.1 its)
+    subst (λ who. MayEnter i.caller.seen (take_entry who n x.what a.len bytes) 2) (sym c.pnode-who.ensures) (take_may S i.caller.seen p.who n p.state a.fd a.len bytes x.what o.idle o.some free q.fd q.len.0 q.len.1 its)
 
 pub gain-requires-clause-bytes : goal.gain-requires-clause-bytes
 gain-requires-clause-bytes g c =
@@ -100,31 +90,20 @@ gain-requires-clause-bytes g c =
     let x = a.pipe.now in let free = asks o (ask.ToRead a.fd) ∙ q.free in
     let its : (d : Descriptor) → finite_map.get p.state.descriptors a.fd ≡ Some d → (is_pipe d ≡ true) × (x.what ≡ d.pnode) = λ d at. q.object d (sym (holds o a.fd) ∙ at) in
     let bytes = c.in-Some.bytes in let read = c.in_ok-read.read in let copied = c.in_ok-read.ensures.cases in let s = c.take-out in let after = s.new.caller.seen in
-    let takes = subst (λ who. IsEntered S i.caller.seen x.seen after (take_entry who n x.what a.len bytes)) c.pnode-who.ensures s.ensures.entered in
+    let takes = subst (λ who. IsEntered S i.caller.seen x.seen after (take_entry who n x.what a.len bytes)) c.pnode-who.ensures s.ensures.entry.entered in
     gives S i.caller.seen p.who n p.state a.fd a.len bytes x.what o.idle o.some free q.fd q.len.0 q.len.1 its
-    x.seen after s.result.0 s.ensures.place takes ∙ sym copied
+    x.seen after s.result.0 s.ensures.at.place takes ∙ sym copied
 
-pub gain-requires-clause-keep : goal.gain-requires-clause-keep
-gain-requires-clause-keep g c =
+pub gain-requires-clause-entry : goal.gain-requires-clause-entry
+gain-requires-clause-entry g c =
     let S = g.J.Whose.book.session in let a = c.args in let q = c.requires in let n = c.in-Ok.number in let i = c.proc-2.inside in let p = c.reserve.new.self in
     let o = ready (opened S i.process i.number i.caller i.way c.proc-2.invariant.0 a.proc.now (c.proc-2.view_is ∙ c.in-Ok.ensures.same) n c.in-Ok.ensures.number) p c.in_ok-reserve.ensures.same in
     let x = a.pipe.now in let free = asks o (ask.ToRead a.fd) ∙ q.free in
     let its : (d : Descriptor) → finite_map.get p.state.descriptors a.fd ≡ Some d → (is_pipe d ≡ true) × (x.what ≡ d.pnode) = λ d at. q.object d (sym (holds o a.fd) ∙ at) in
     let bytes = c.in-Some.bytes in let s = c.take-out in let after = s.new.caller.seen in
-    let takes = subst (λ who. IsEntered S i.caller.seen x.seen after (take_entry who n x.what a.len bytes)) c.pnode-who.ensures s.ensures.entered in
-    gain_keeps S i.caller.seen p.who n p.state a.fd a.len bytes x.what o.idle o.some free q.fd q.len.0 q.len.1 its
-    x.seen after s.result.0 s.ensures.place takes
-
-pub gain-requires-clause-allows : goal.gain-requires-clause-allows
-gain-requires-clause-allows g c =
-    let S = g.J.Whose.book.session in let a = c.args in let q = c.requires in let n = c.in-Ok.number in let i = c.proc-2.inside in let p = c.reserve.new.self in
-    let o = ready (opened S i.process i.number i.caller i.way c.proc-2.invariant.0 a.proc.now (c.proc-2.view_is ∙ c.in-Ok.ensures.same) n c.in-Ok.ensures.number) p c.in_ok-reserve.ensures.same in
-    let x = a.pipe.now in let free = asks o (ask.ToRead a.fd) ∙ q.free in
-    let its : (d : Descriptor) → finite_map.get p.state.descriptors a.fd ≡ Some d → (is_pipe d ≡ true) × (x.what ≡ d.pnode) = λ d at. q.object d (sym (holds o a.fd) ∙ at) in
-    let bytes = c.in-Some.bytes in let s = c.take-out in let after = s.new.caller.seen in
-    let takes = subst (λ who. IsEntered S i.caller.seen x.seen after (take_entry who n x.what a.len bytes)) c.pnode-who.ensures s.ensures.entered in
-    gain_allows S i.caller.seen p.who n p.state a.fd a.len bytes x.what o.idle o.some free q.fd q.len.0 q.len.1 its
-    x.seen after s.result.0 s.ensures.place takes
+    let takes = subst (λ who. IsEntered S i.caller.seen x.seen after (take_entry who n x.what a.len bytes)) c.pnode-who.ensures s.ensures.entry.entered in
+    gain_may S i.caller.seen p.who n p.state a.fd a.len bytes x.what o.idle o.some free q.fd q.len.0 q.len.1 its
+    x.seen after s.result.0 s.ensures.at.place takes
 
 pub invariant_of-proc-2 : goal.invariant_of-proc-2
 invariant_of-proc-2 g c =
@@ -134,13 +113,13 @@ invariant_of-proc-2 g c =
     let its : (d : Descriptor) → finite_map.get p.state.descriptors a.fd ≡ Some d → (is_pipe d ≡ true) × (x.what ≡ d.pnode) = λ d at. q.object d (sym (holds o a.fd) ∙ at) in
     let bytes = c.in-Some.bytes in let read = c.in_ok-read.read in let copied = c.in_ok-read.ensures.cases in let s = c.take-out in let after = s.new.caller.seen in let w = c.gain in
     let e = w.new.caller in
-    let takes = subst (λ who. IsEntered S i.caller.seen x.seen after (take_entry who n x.what a.len bytes)) c.pnode-who.ensures s.ensures.entered in
+    let takes = subst (λ who. IsEntered S i.caller.seen x.seen after (take_entry who n x.what a.len bytes)) c.pnode-who.ensures s.ensures.entry.entered in
     let state = ap (λ (v : ProcessView). v.state) w.ensures.state ∙ ap (λ bs. record p.state { descriptors = changed_at p.state.descriptors a.fd (risen (length bs)); last_read = bs }) copied in (
-      rests o w.new.self e (λ k. (w.ensures.state k).who) (twice i.caller s.new.caller e 2 0 s.ensures.caller w.ensures.caller)
+      rests o w.new.self e (λ k. (w.ensures.state k).who) (twice i.caller s.new.caller e 2 0 s.ensures.entry.caller w.ensures.entry.caller)
           (subst (λ who. IsIdle S e.seen who n w.new.self.state) (λ k. (sym w.ensures.state k).who)
           (subst (λ (v : Process). IsIdle S e.seen p.who n v) (sym state) (read_idle S i.caller.seen p.who n p.state a.fd a.len bytes x.what o.idle o.some free q.fd q.len.0 q.len.1 its
-          x.seen after s.result.0 s.ensures.place takes p.seen e.seen w.ensures.entered)))
-          w.ensures.few,
+          x.seen after s.result.0 s.ensures.at.place takes p.seen e.seen w.ensures.entry.entered)))
+          w.ensures.entry.few,
       tt,
     )
 
@@ -152,11 +131,11 @@ returns-clause-call g c =
     let its : (d : Descriptor) → finite_map.get p.state.descriptors a.fd ≡ Some d → (is_pipe d ≡ true) × (x.what ≡ d.pnode) = λ d at. q.object d (sym (holds o a.fd) ∙ at) in
     let bytes = c.in-Some.bytes in let read = c.in_ok-read.read in let copied = c.in_ok-read.ensures.cases in let s = c.take-out in let after = s.new.caller.seen in let w = c.gain in
     let e = w.new.caller in
-    let takes = subst (λ who. IsEntered S i.caller.seen x.seen after (take_entry who n x.what a.len bytes)) c.pnode-who.ensures s.ensures.entered in
+    let takes = subst (λ who. IsEntered S i.caller.seen x.seen after (take_entry who n x.what a.len bytes)) c.pnode-who.ensures s.ensures.entry.entered in
     let state = ap (λ (v : ProcessView). v.state) w.ensures.state ∙ ap (λ bs. record p.state { descriptors = changed_at p.state.descriptors a.fd (risen (length bs)); last_read = bs }) copied in
     let m : Moved = moved.Read (length c.as_bytes.result.now) s.result.1 in
     answers o w.new.self e (λ k. (w.ensures.state k).who) g.J.Whose.places (requests.Read a.fd a.len) refl m
     (subst (λ (v : Process). HasMoved S p.who i.caller.seen e.seen v (requests.Read a.fd a.len) m) (sym state)
     (subst (λ bs. HasMoved S p.who i.caller.seen e.seen (record p.state { descriptors = changed_at p.state.descriptors a.fd (risen (length bytes)); last_read = bytes }) (requests.Read a.fd a.len) (moved.Read (length bs) s.result.1)) (sym (c.as_bytes.ensures.bytes ∙ copied))
     (read_moved S i.caller.seen p.who n p.state a.fd a.len bytes x.what o.idle o.some free q.fd q.len.0 q.len.1 its
-    x.seen after s.result.0 s.ensures.place takes p.seen e.seen w.ensures.entered s.result.1 s.ensures.node)))
+    x.seen after s.result.0 s.ensures.at.place takes p.seen e.seen w.ensures.entry.entered s.result.1 s.ensures.at.node)))

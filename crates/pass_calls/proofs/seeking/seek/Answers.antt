@@ -9,7 +9,7 @@ use Rattle.pass_proc.specs.Views.{ProcessView}
 use Rattle.pass_answer.specs.Answers.{HasMoved}
 use Rattle.pass_answer.specs.declared.answer.Moved.TheVariants as moved
 use Rattle.pass_calls.proofs.Frame.{answers, asks, has_room, once, opened, over, rests}
-use Rattle.pass_calls.proofs.SingleStep.{seek_step, step_allows, step_keeps, here_moved, here_idle}
+use Rattle.pass_calls.proofs.SingleStep.{seek_step, step_may, here_moved, here_idle}
 use Rattle.pass_calls.proofs.seeking.seek.Goals as goal
 
 pub refused-requires-clause-refused : goal.refused-requires-clause-refused
@@ -35,9 +35,8 @@ seek-requires g c =
     record {
       fd = q.fd;
       place = has_room o c.held.ensures.call c.begin.new.shelf c.in_ok-number.ensures.places;
-      keep = step_keeps S i.caller.seen p.who n p.state (requests.Seek a.fd a.at) p.who (act.Seek a.fd a.at) only o.idle o.some answer.Done;
       who = o.who;
-      allows = step_allows S i.caller.seen p.who n p.state (requests.Seek a.fd a.at) p.who (act.Seek a.fd a.at) only o.idle o.some answer.Done;
+      entry = step_may S i.caller.seen p.who n p.state (requests.Seek a.fd a.at) p.who (act.Seek a.fd a.at) only o.idle o.some answer.Done;
     }
 
 pub invariant_of-proc : goal.invariant_of-proc
@@ -46,9 +45,9 @@ invariant_of-proc g c =
     let o = opened S i.process i.number i.caller i.way c.proc.invariant.0 a.proc.now (c.proc.view_is ∙ c.in_ok-number.ensures.same) n c.in_ok-number.ensures.number in
     let free = asks o (ask.ToSeek a.fd a.at) ∙ c.in_default.ensures.ok.0 refl in
     let s = c.seek in let e = s.new.caller in let only = seek_step p.who p.state a.fd a.at q.fd free in (
-      rests o s.new.self e (λ k. (s.ensures.state k).who) (once i.caller e 0 s.ensures.caller)
-          (subst (λ (v : ProcessView). IsIdle S e.seen v.who n v.state) (sym s.ensures.state) (here_idle S i.caller.seen p.who n p.state (requests.Seek a.fd a.at) p.who (act.Seek a.fd a.at) only o.idle o.some answer.Done p.seen e.seen s.ensures.entered refl refl o.idle.lives))
-          s.ensures.few,
+      rests o s.new.self e (λ k. (s.ensures.state k).who) (once i.caller e 0 s.ensures.entry.caller)
+          (subst (λ (v : ProcessView). IsIdle S e.seen v.who n v.state) (sym s.ensures.state) (here_idle S i.caller.seen p.who n p.state (requests.Seek a.fd a.at) p.who (act.Seek a.fd a.at) only o.idle o.some answer.Done p.seen e.seen s.ensures.entry.entered refl refl o.idle.lives))
+          s.ensures.entry.few,
       tt,
     )
 
@@ -60,4 +59,4 @@ returns-clause-call g c =
     let s = c.seek in let e = s.new.caller in let only = seek_step p.who p.state a.fd a.at q.fd free in
     answers o s.new.self e (λ k. (s.ensures.state k).who) g.J.Whose.places (requests.Seek a.fd a.at) refl moved.Done
     (subst (λ (v : ProcessView). HasMoved S p.who i.caller.seen e.seen v.state (requests.Seek a.fd a.at) moved.Done) (sym s.ensures.state)
-    (here_moved S i.caller.seen p.who n p.state (requests.Seek a.fd a.at) p.who (act.Seek a.fd a.at) only o.idle o.some answer.Done p.seen e.seen s.ensures.entered refl refl o.idle.lives moved.Done tt))
+    (here_moved S i.caller.seen p.who n p.state (requests.Seek a.fd a.at) p.who (act.Seek a.fd a.at) only o.idle o.some answer.Done p.seen e.seen s.ensures.entry.entered refl refl o.idle.lives moved.Done tt))

@@ -4,16 +4,15 @@ use Rattle.std.specs.FinMap as finite_map
 use Rattle.pass_entry.specs.Texts.{is_name}
 use Rattle.pass_entry.specs.declared.entry.Ask.TheVariants as ask
 use Rattle.pass_entry.specs.declared.objects.Descriptor.{Descriptor}
-use Rattle.pass_plain.specs.Legal.{CallerAllows}
-use Rattle.pass_plain.specs.Places.{keeps}
 use Rattle.pass_plain.specs.declared.request.Request.TheVariants as requests
 use Rattle.pass_hold.specs.Callings.{IsEntered}
+use Rattle.pass_hold.specs.Entering.{MayEnter}
 use Rattle.pass_flow.specs.Flows.{tag_entry}
 use Rattle.pass_flow.specs.Tags.{TagView}
 use Rattle.pass_answer.specs.Answers.{HasMoved}
 use Rattle.pass_answer.specs.declared.answer.Moved.TheVariants as moved
 use Rattle.pass_calls.proofs.Frame.{answers, asks, has_room, holds, once, opened, over, rests}
-use Rattle.pass_calls.proofs.VersionCalls.{tag_allows, tag_keeps, tagged_moved, tagged_idle}
+use Rattle.pass_calls.proofs.VersionCalls.{tag_may, tagged_moved, tagged_idle}
 use Rattle.pass_calls.proofs.tagging.tag.Goals as goal
 
 pub returns-in_err-number-clause-call : goal.returns-in_err-number-clause-call
@@ -33,8 +32,7 @@ tag-requires g c =
     record {
       who = o.who ∙ sym c.pnode-who.ensures;
       place = has_room o c.held.ensures.call c.begin.new.shelf c.in_ok-number.ensures.places;
-      keep = subst (λ who. 0 ≡ keeps i.caller.seen (tag_entry who n x.what room.attr room.value)) (sym c.pnode-who.ensures) (tag_keeps S i.caller.seen p.who n p.state a.fd room.attr room.value x.what o.idle o.some free q.fd attr value its);
-      allows = subst (λ who. CallerAllows i.caller.seen (tag_entry who n x.what room.attr room.value)) (sym c.pnode-who.ensures) (tag_allows S i.caller.seen p.who n p.state a.fd room.attr room.value x.what o.idle o.some free q.fd attr value its);
+      entry = subst (λ who. MayEnter i.caller.seen (tag_entry who n x.what room.attr room.value) 0) (sym c.pnode-who.ensures) (tag_may S i.caller.seen p.who n p.state a.fd room.attr room.value x.what o.idle o.some free q.fd attr value its);
     }
 
 pub invariant_of-proc : goal.invariant_of-proc
@@ -47,8 +45,8 @@ invariant_of-proc g c =
     let x = g.V.Versioned.object a.object.now in let free = asks o (ask.Held a.fd) ∙ q.free in
     let its : (d : Descriptor) → finite_map.get p.state.descriptors a.fd ≡ Some d → x.what ≡ d.pnode = λ d at. q.object d (sym (holds o a.fd) ∙ at) in
     let s = c.tag in let e = s.new.caller in
-    let made = subst (λ who. IsEntered S i.caller.seen x.seen e.seen (tag_entry who n x.what room.attr room.value)) c.pnode-who.ensures s.ensures.entered in
-    (rests o p e refl (once i.caller e 0 s.ensures.caller) (tagged_idle S i.caller.seen p.who n p.state a.fd room.attr room.value x.what o.idle o.some free q.fd attr value its x.seen e.seen made) s.ensures.few, tt)
+    let made = subst (λ who. IsEntered S i.caller.seen x.seen e.seen (tag_entry who n x.what room.attr room.value)) c.pnode-who.ensures s.ensures.entry.entered in
+    (rests o p e refl (once i.caller e 0 s.ensures.entry.caller) (tagged_idle S i.caller.seen p.who n p.state a.fd room.attr room.value x.what o.idle o.some free q.fd attr value its x.seen e.seen made) s.ensures.entry.few, tt)
 
 pub returns-clause-call : goal.returns-clause-call
 returns-clause-call g c =
@@ -60,7 +58,7 @@ returns-clause-call g c =
     let x = g.V.Versioned.object a.object.now in let free = asks o (ask.Held a.fd) ∙ q.free in
     let its : (d : Descriptor) → finite_map.get p.state.descriptors a.fd ≡ Some d → x.what ≡ d.pnode = λ d at. q.object d (sym (holds o a.fd) ∙ at) in
     let s = c.tag in let e = s.new.caller in
-    let made = subst (λ who. IsEntered S i.caller.seen x.seen e.seen (tag_entry who n x.what room.attr room.value)) c.pnode-who.ensures s.ensures.entered in
+    let made = subst (λ who. IsEntered S i.caller.seen x.seen e.seen (tag_entry who n x.what room.attr room.value)) c.pnode-who.ensures s.ensures.entry.entered in
     answers o p e refl g.J.Whose.places (requests.TagObj a.fd a.attr.now a.value.now) refl moved.Done
     (subst (λ (r : TagView). HasMoved S p.who i.caller.seen e.seen p.state (requests.TagObj a.fd r.attr r.value) moved.Done) named
     (tagged_moved S i.caller.seen p.who n p.state a.fd room.attr room.value x.what o.idle o.some free q.fd attr value its x.seen e.seen made))

@@ -27,13 +27,15 @@ enter-place-requires-clause-slip g c =
     c.slip_by-slip.ensures.slip
     ∙ slip_is g.J.Whose.book c.args.caller.now.seen c.args.desk.now c.args.versions.now c.args.entry c.args.source c.requires.object c.requires.what c.requires.act c.requires.source c.requires.given c.args.rest.items c.requires.rest
 
-pub returns-clause-node : goal.returns-clause-node
-returns-clause-node g c =
-    node_at g.J.Whose.book c.args.caller.now.seen c.args.desk.now c.args.versions.now c.args.entry c.args.source c.requires.object c.requires.what c.requires.act c.requires.source c.requires.given
-    c.enter-place.new.self.seen c.enter-place.ensures.entered c.slip_by-slip.new.versions c.slip_by-slip.ensures.lineage c.enter-place.result c.enter-place.ensures.place
-    ∙ ap (λ (n : Node). Some n) (sym c.current.ensures)
+pub returns-clause-at : goal.returns-clause-at
+returns-clause-at g c = record {
+  place = c.enter-place.ensures.place;
+  node = node_at g.J.Whose.book c.args.caller.now.seen c.args.desk.now c.args.versions.now c.args.entry c.args.source c.requires.object c.requires.what c.requires.act c.requires.source c.requires.given
+      c.enter-place.new.self.seen c.enter-place.ensures.entry.entered c.slip_by-slip.new.versions c.slip_by-slip.ensures.lineage c.enter-place.result c.enter-place.ensures.place
+      ∙ ap (λ (n : Node). Some n) (sym c.current.ensures);
+}
 
 pub returns-clause-object : goal.returns-clause-object
 returns-clause-object g c =
     versioned_after g.J.Whose.book c.args.caller.now.seen c.args.desk.now c.args.versions.now c.args.entry c.args.source c.requires.object c.requires.what c.requires.act c.requires.source c.requires.given
-    c.enter-place.new.self.seen c.enter-place.ensures.entered c.slip_by-slip.new.versions c.slip_by-slip.ensures.lineage c.enter-place.new.desk c.enter-place.new.self.syncs c.enter-place.ensures.desk c.enter-place.ensures.few
+    c.enter-place.new.self.seen c.enter-place.ensures.entry.entered c.slip_by-slip.new.versions c.slip_by-slip.ensures.lineage c.enter-place.new.desk c.enter-place.new.self.syncs c.enter-place.ensures.desk c.enter-place.ensures.entry.few

@@ -1,13 +1,16 @@
-use Rattle.std.proofs.Common.{◌≡◌, ◌+◌, ap, refl, sym, ◌∙◌, true}
-use Rattle.std.specs.Prelude.{Ok}
+use Rattle.std.proofs.Common.{◌≡◌, ◌+◌, ap, sym, ◌∙◌, subst, true}
+use Rattle.std.specs.Prelude.{Ok, None}
 use Rattle.pass_plain.specs.Processes.{has_ended}
 use Rattle.pass_book.specs.Tokens.{BookState}
 use Rattle.pass_proc.specs.Procs.{proc_with}
 use Rattle.pass_proc.proofs.Steps.{frees, number_fits}
-use Rattle.pass_answer.proofs.Between.{full_ends, looked_on, steps_end}
+use Rattle.pass_answer.specs.Answers.{Answers}
+use Rattle.pass_answer.proofs.Between.{full_ends, looked_on}
 use Rattle.pass_answer.specs.declared.answer.Moved.TheVariants as moved
 use Rattle.pass_lives.specs.Waits.{request_of}
-use Rattle.pass_lives.proofs.Waits.{child_ready, needed, no_way}
+use Rattle.pass_lives.specs.declared.waiting.ChildWait.{ChildWait}
+use Rattle.pass_lives.specs.declared.waiting.ChildWait.TheVariants as kinds
+use Rattle.pass_lives.proofs.Waits.{child_ready, first_may, needed, no_way, rests, second_may, waited, waiting}
 use Rattle.pass_lives.proofs.waiting.wait_ended.Goals as goal
 
 pub room-requires : goal.room-requires
@@ -41,10 +44,49 @@ returns-in-Err-clause-ready g c =
     ∙ ap (λ w. has_ended c.room.new.shelf.history w) (sym c.requires.child) ∙ c.look.ensures.ended in
     child_ready a.wait g.J.Whose.book.session a.proc.now (proc_with i.process i.number d i.way) a.child c.requires.free ended c.from.result
 
-pub returns-clause-call : goal.returns-clause-call
-returns-clause-call g c =
-    let a = c.args in
-    let i = c.proc.inside in
-    let s = c.wait_steps in
-    steps_end g.J.Whose.book.session g.J.Whose.places i.process i.number i.caller i.way a.proc.now c.proc.view_is (request_of a.wait a.child) (no_way a.wait a.child)
-    s.new.process (i.number + 1) s.new.caller s.ensures.who.0 c.room.new.self c.in_default.ensures.same (Ok moved.Done) s.ensures.call (Ok moved.Done) refl
+pub reap-out-requires-clause-entry : goal.reap-out-requires-clause-entry
+reap-out-requires-clause-entry g c =
+    let w = waiting c.proc.invariant.0 c.proc.inside.way c.args.proc.now c.proc.view_is c.args.child c.requires.free c.room.new.self c.in_default.ensures.same in
+    first_may kinds.Taking w c.pnode-who.ensures c.requires.child
+
+pub gather-requires-clause-child : goal.gather-requires-clause-child
+gather-requires-clause-child g c =
+    let w = waiting c.proc.invariant.0 c.proc.inside.way c.args.proc.now c.proc.view_is c.args.child c.requires.free c.room.new.self c.in_default.ensures.same in
+    w.free
+
+pub gather-requires-clause-entry : goal.gather-requires-clause-entry
+gather-requires-clause-entry g c =
+    let w = waiting c.proc.invariant.0 c.proc.inside.way c.args.proc.now c.proc.view_is c.args.child c.requires.free c.room.new.self c.in_default.ensures.same in
+    second_may kinds.Taking w c.pnode-who.ensures c.requires.child c.reap-out.ensures.entry.entered c.reap-out.result.0 c.reap-out.ensures.at.place
+
+pub invariant_of-proc-in-Taking : goal.invariant_of-proc-in-Taking
+invariant_of-proc-in-Taking g c =
+    let w = waiting c.proc.invariant.0 c.proc.inside.way c.args.proc.now c.proc.view_is c.args.child c.requires.free c.room.new.self c.in_default.ensures.same in
+    (rests kinds.Taking w c.pnode-who.ensures c.requires.child c.reap-out.ensures.entry.entered c.reap-out.result.0 c.reap-out.ensures.at.place c.gather.new.self c.gather.new.caller c.gather.ensures.entry.entered c.gather.ensures.state c.reap-out.new.caller c.reap-out.ensures.entry.caller c.gather.ensures.entry.caller c.gather.ensures.entry.few, tt)
+
+pub returns-in-Taking-clause-call : goal.returns-in-Taking-clause-call
+returns-in-Taking-clause-call g c =
+    let w = waiting c.proc.invariant.0 c.proc.inside.way c.args.proc.now c.proc.view_is c.args.child c.requires.free c.room.new.self c.in_default.ensures.same in
+    subst (λ (k : ChildWait). Answers g.J.Whose.book.session g.J.Whose.places c.args.proc.now (proc_with c.gather.new.self (c.proc.inside.number + 1) c.gather.new.caller None) (request_of k c.args.child) (Ok moved.Done)) (sym c.in-Taking.is)
+    (waited kinds.Taking w c.pnode-who.ensures c.requires.child c.reap-out.ensures.entry.entered c.reap-out.result.0 c.reap-out.ensures.at.place c.gather.new.self c.gather.new.caller c.gather.ensures.entry.entered c.gather.ensures.state g.J.Whose.places)
+
+pub show_end-requires-clause-entry : goal.show_end-requires-clause-entry
+show_end-requires-clause-entry g c =
+    let w = waiting c.proc.invariant.0 c.proc.inside.way c.args.proc.now c.proc.view_is c.args.child c.requires.free c.room.new.self c.in_default.ensures.same in
+    first_may kinds.Quiet w c.pnode-who.ensures c.requires.child
+
+pub release-requires-clause-entry : goal.release-requires-clause-entry
+release-requires-clause-entry g c =
+    let w = waiting c.proc.invariant.0 c.proc.inside.way c.args.proc.now c.proc.view_is c.args.child c.requires.free c.room.new.self c.in_default.ensures.same in
+    second_may kinds.Quiet w c.pnode-who.ensures c.requires.child c.show_end.ensures.entry.entered 0 tt
+
+pub invariant_of-proc-in-Quiet : goal.invariant_of-proc-in-Quiet
+invariant_of-proc-in-Quiet g c =
+    let w = waiting c.proc.invariant.0 c.proc.inside.way c.args.proc.now c.proc.view_is c.args.child c.requires.free c.room.new.self c.in_default.ensures.same in
+    (rests kinds.Quiet w c.pnode-who.ensures c.requires.child c.show_end.ensures.entry.entered 0 tt c.release.new.self c.release.new.caller c.release.ensures.entry.entered c.release.ensures.state c.show_end.new.caller c.show_end.ensures.entry.caller c.release.ensures.entry.caller c.release.ensures.entry.few, tt)
+
+pub returns-in-Quiet-clause-call : goal.returns-in-Quiet-clause-call
+returns-in-Quiet-clause-call g c =
+    let w = waiting c.proc.invariant.0 c.proc.inside.way c.args.proc.now c.proc.view_is c.args.child c.requires.free c.room.new.self c.in_default.ensures.same in
+    subst (λ (k : ChildWait). Answers g.J.Whose.book.session g.J.Whose.places c.args.proc.now (proc_with c.release.new.self (c.proc.inside.number + 1) c.release.new.caller None) (request_of k c.args.child) (Ok moved.Done)) (sym c.in-Quiet.is)
+    (waited kinds.Quiet w c.pnode-who.ensures c.requires.child c.show_end.ensures.entry.entered 0 tt c.release.new.self c.release.new.caller c.release.ensures.entry.entered c.release.ensures.state g.J.Whose.places)

@@ -31,7 +31,7 @@ invariant_of-self g c =
     let t = c.turn.ensures in
     let g1 : FileView = c.turn.new.state in
     let last : FileView = c.enter_version.new.state in
-    let turned = file_now S c.args.caller.now.seen old.seen c.enter_version.new.caller.seen e n.entered old.syncs c.enter_version.new.caller.syncs n.listed n.rising n.durable c.requires.fine f g1 was
+    let turned = file_now S c.args.caller.now.seen old.seen c.enter_version.new.caller.seen e n.entry.entered old.syncs c.enter_version.new.caller.syncs n.listed n.rising n.durable c.requires.fine f g1 was
     (ap (λ (f : FileView). f.bytes) t.state) t.rows t.dirty in
     record {
       version = n.object;
@@ -40,7 +40,7 @@ invariant_of-self g c =
           (subst (λ (f : FileView). IsFileAfter S c.enter_version.new.caller.seen c.enter_version.new.caller.syncs e.what f) (sym n.state)
           (record { bytes = turned.bytes; rows = turned.rows; dirty = turned.dirty })));
       number = subst (λ (d : DeskState). IsFileNumber S d.seen d.what c.self.inside.number) (sym d)
-          (number_entered S c.args.caller.now.seen old.seen c.enter_version.new.caller.seen e old.what c.self.inside.number n.entered i.number);
+          (number_entered S c.args.caller.now.seen old.seen c.enter_version.new.caller.seen e old.what c.self.inside.number n.entry.entered i.number);
     }
 
 pub returns-clause-content : goal.returns-clause-content
@@ -54,7 +54,7 @@ returns-clause-content g c =
     let h = c.enter_version.new.caller.seen in
     let same : e.what ≡ old.what = c.requires.what ∙ sym (ap (λ (v : FileDeskView). v.what) c.self.view_is) in
     let was = subst (λ o. IsFileAfter S old.seen old.syncs o f) (sym same) c.self.invariant.content in
-    let turned = file_now S c.args.caller.now.seen old.seen h e n.entered old.syncs c.enter_version.new.caller.syncs n.listed n.rising n.durable c.requires.fine f c.turn.new.state was
+    let turned = file_now S c.args.caller.now.seen old.seen h e n.entry.entered old.syncs c.enter_version.new.caller.syncs n.listed n.rising n.durable c.requires.fine f c.turn.new.state was
     (ap (λ (f : FileView). f.bytes) t.state) t.rows t.dirty in
     let moved : file_after S h e.what ≡ file_act (file_after S old.seen e.what) e.act =
     sym turned.bytes ∙ ap (λ (f : FileView). f.bytes) t.state ∙ ap (λ bytes. file_act bytes e.act) was.bytes in

@@ -82,7 +82,7 @@ then_now g c =
     let same : AgreeBy e.who l.seen h = subst (λ h. AgreeBy e.who l.seen h) past caller.1 in
     let mine = line_is i.claim.line i.own i.held c.args.self.now l c.self.view_is is in
     let who : l.who ≡ e.who = ap (λ (s : CallerState). s.who) (sym mine) ∙ c.requires.who in
-    let keep : 0 ≡ keeps l.seen e = c.requires.keep ∙ ap (λ (s : CallerState). keeps s.seen e) mine in
+    let keep : 0 ≡ keeps l.seen e = c.requires.entry.keep ∙ ap (λ (s : CallerState). keeps s.seen e) mine in
     let q = c.requires in
     let out = q.born.0 in
     let descriptors = q.born.1 in
@@ -103,7 +103,7 @@ then_now g c =
       at = line;
       seen = refl;
       syncs = refl;
-      kept = subst (λ n. IsKept J n i.own 0 m) (sym unused) (parent_kept J i.claim.unused i.own i.held i.own 0 l m h e kept legal next begins same who refl refl whole keep out descriptors born q.exit);
+      kept = subst (λ n. IsKept J n i.own 0 m) (sym unused) (parent_kept J i.claim.unused i.own i.held i.own 0 l m h e kept legal next begins same who refl refl whole keep out descriptors born q.entry.exit);
       entered = (let told = entered_is fitted.book.session c.args.self.now i.claim.line i.own i.held l c.args.desk.now.seen fitted.history new.history new.history e c.self.view_is is refl
           (ap (λ (b : BookState). b.history) a.book) a.legal a.follows caller.0 caller.1 a.object.0 a.object.1 in subst (λ (b : BookId). IsEntered b.session c.args.self.now.seen c.args.desk.now.seen new.history e) book told);
       longer = (let n = ap length whole in omega (arith, n, length-append h (e ∷ [])));
@@ -111,8 +111,8 @@ then_now g c =
       child_at = its;
       child_who = is_child.1 ∙ q.child.1;
       child_seen = is_child.2;
-      child_kept = child_kept J i.claim.unused i.own i.held i.own 0 l m h e kept legal next begins same who refl refl whole keep out descriptors born q.exit k (is_child.0 ∙ q.child.0) (is_child.1 ∙ q.child.1) (is_child.2 ∙ whole);
-      held = born_held J i.claim.unused i.own i.held i.own 0 l m h e kept legal next begins same who refl refl whole keep out descriptors born q.exit old.claimed c.fit.new.self.claimed (c.fit.new.self.claimed - 1) c.looked_in.new.book.claimed
+      child_kept = child_kept J i.claim.unused i.own i.held i.own 0 l m h e kept legal next begins same who refl refl whole keep out descriptors born q.entry.exit k (is_child.0 ∙ q.child.0) (is_child.1 ∙ q.child.1) (is_child.2 ∙ whole);
+      held = born_held J i.claim.unused i.own i.held i.own 0 l m h e kept legal next begins same who refl refl whole keep out descriptors born q.entry.exit old.claimed c.fit.new.self.claimed (c.fit.new.self.claimed - 1) c.looked_in.new.book.claimed
           held (omega (arith, fits)) refl (omega (arith, took, added, last, fits, all, enough, held)) ∙ ap held_places (sym whole) ∙ ap held_places (sym (ap (λ (b : BookState). b.history) look));
     }
 
@@ -141,7 +141,7 @@ last_now g c =
     let same : AgreeBy e.who l.seen h = subst (λ h. AgreeBy e.who l.seen h) past caller.1 in
     let mine = line_is i.claim.line i.own i.held c.args.self.now l c.self.view_is is in
     let who : l.who ≡ e.who = ap (λ (s : CallerState). s.who) (sym mine) ∙ c.requires.who in
-    let keep : 0 ≡ keeps l.seen e = c.requires.keep ∙ ap (λ (s : CallerState). keeps s.seen e) mine in
+    let keep : 0 ≡ keeps l.seen e = c.requires.entry.keep ∙ ap (λ (s : CallerState). keeps s.seen e) mine in
     let q = c.requires in
     let out = q.born.0 in
     let descriptors = q.born.1 in
@@ -162,7 +162,7 @@ last_now g c =
       at = line;
       seen = refl;
       syncs = refl;
-      kept = subst (λ n. IsKept J n i.own 0 m) (sym unused) (parent_kept J i.claim.unused i.own i.held i.own 0 l m h e kept legal next begins same who refl refl whole keep out descriptors born q.exit);
+      kept = subst (λ n. IsKept J n i.own 0 m) (sym unused) (parent_kept J i.claim.unused i.own i.held i.own 0 l m h e kept legal next begins same who refl refl whole keep out descriptors born q.entry.exit);
       entered = (let told = entered_is fitted.book.session c.args.self.now i.claim.line i.own i.held l c.args.desk.now.seen fitted.history new.history new.history e c.self.view_is is refl
           (ap (λ (b : BookState). b.history) a.book) a.legal a.follows caller.0 caller.1 a.object.0 a.object.1 in subst (λ (b : BookId). IsEntered b.session c.args.self.now.seen c.args.desk.now.seen new.history e) book told);
       longer = (let n = ap length whole in omega (arith, n, length-append h (e ∷ [])));
@@ -170,8 +170,8 @@ last_now g c =
       child_at = its;
       child_who = is_child.1 ∙ q.child.1;
       child_seen = is_child.2;
-      child_kept = child_kept J i.claim.unused i.own i.held i.own 0 l m h e kept legal next begins same who refl refl whole keep out descriptors born q.exit k (is_child.0 ∙ q.child.0) (is_child.1 ∙ q.child.1) (is_child.2 ∙ whole);
-      held = born_held J i.claim.unused i.own i.held i.own 0 l m h e kept legal next begins same who refl refl whole keep out descriptors born q.exit old.claimed c.fit.new.self.claimed (c.fit.new.self.claimed - 1) c.looked_in.new.book.claimed
+      child_kept = child_kept J i.claim.unused i.own i.held i.own 0 l m h e kept legal next begins same who refl refl whole keep out descriptors born q.entry.exit k (is_child.0 ∙ q.child.0) (is_child.1 ∙ q.child.1) (is_child.2 ∙ whole);
+      held = born_held J i.claim.unused i.own i.held i.own 0 l m h e kept legal next begins same who refl refl whole keep out descriptors born q.entry.exit old.claimed c.fit.new.self.claimed (c.fit.new.self.claimed - 1) c.looked_in.new.book.claimed
           held (omega (arith, fits)) refl (omega (arith, took, added, last, fits, all, enough, held)) ∙ ap held_places (sym whole) ∙ ap held_places (sym (ap (λ (b : BookState). b.history) look));
     }
 
@@ -204,10 +204,20 @@ invariant_of-shelf g c =
 caller_now : (g : given.Over) (c : goal.After-new g) → option_map_or (caller_with c.self.inside.own 0) c.add-place.new.claim.line nobody ≡ caller_with c.self.inside.own 0 (last_now g c).l
 caller_now g c = ap (λ (o : Option LineState). option_map_or (caller_with c.self.inside.own 0) o nobody) (last_now g c).at
 
-pub returns-clause-entered : goal.returns-clause-entered
-returns-clause-entered g c =
+pub returns-clause-entry : goal.returns-clause-entry
+returns-clause-entry g c =
+    let i = c.self.inside in
     let n = last_now g c in
-    subst (λ h. IsEntered g.J.Whose.book.session c.args.self.now.seen c.args.desk.now.seen h c.args.entry) (sym (ap (λ (s : CallerState). s.seen) (caller_now g c) ∙ n.seen)) n.entered
+    let seen = ap (λ (s : CallerState). s.seen) (caller_now g c) ∙ n.seen in
+    let (l, is, kept) = some_line (IsKept g.J.Whose.book i.claim.unused i.own i.held) i.claim.line c.self.invariant.1 in
+    let at = ap (λ (k : ClaimState). k.line) c.with_slip.ensures ∙ ap (λ (k : ClaimState). k.line) c.fit.ensures.claim ∙ is in
+    let mine = line_is i.claim.line i.own i.held c.args.self.now l c.self.view_is is in
+    record {
+      entered = subst (λ h. IsEntered g.J.Whose.book.session c.args.self.now.seen c.args.desk.now.seen h c.args.entry) (sym seen) n.entered;
+      caller = subst (λ (o : Option LineState). option_map_or (caller_with i.own 0) o nobody ≡ moved_on c.args.self.now (option_map_or (caller_with i.own 0) o nobody).seen (option_map_or (caller_with i.own 0) o nobody).syncs 0)
+          (sym (c.add-place.ensures.line l at)) (ap (λ (s : CallerState). moved_on s c.add-place.new.self.history c.add-place.new.self.syncs 0) (sym mine));
+      few = (let same = ap length seen in let few = c.len-2.ensures.few in let within = c.len-2.ensures.within in omega (arith, same, few, within));
+    }
 
 pub returns-clause-place : goal.returns-clause-place
 returns-clause-place g c =
@@ -217,24 +227,6 @@ returns-clause-place g c =
     let place = c.add-place.ensures.place in
     let longer = n.longer in
     omega (arith, seen, past, place, longer)
-
-pub returns-clause-few : goal.returns-clause-few
-returns-clause-few g c =
-    let n = last_now g c in
-    let seen = ap length (ap (λ (s : CallerState). s.seen) (caller_now g c) ∙ n.seen) in
-    let few = c.len-2.ensures.few in
-    let within = c.len-2.ensures.within in
-    omega (arith, seen, few, within)
-
-pub returns-clause-caller : goal.returns-clause-caller
-returns-clause-caller g c =
-    let i = c.self.inside in
-    let (l, is, kept) = some_line (IsKept g.J.Whose.book i.claim.unused i.own i.held) i.claim.line c.self.invariant.1 in
-    let at = ap (λ (k : ClaimState). k.line) c.with_slip.ensures ∙ ap (λ (k : ClaimState). k.line) c.fit.ensures.claim ∙ is in
-    let line = c.add-place.ensures.line l at in
-    let mine = line_is i.claim.line i.own i.held c.args.self.now l c.self.view_is is in
-    subst (λ (o : Option LineState). option_map_or (caller_with i.own 0) o nobody ≡ moved_on c.args.self.now (option_map_or (caller_with i.own 0) o nobody).seen (option_map_or (caller_with i.own 0) o nobody).syncs 0) (sym line)
-    (ap (λ (s : CallerState). moved_on s c.add-place.new.self.history c.add-place.new.self.syncs 0) (sym mine))
 
 pub returns-clause-child : goal.returns-clause-child
 returns-clause-child g c =

@@ -1,7 +1,6 @@
 use Rattle.std.proofs.Common.{◌≡◌, ◌≤◌, ◌^◌, length, ap, sym, ◌∙◌, subst, arith}
-use Rattle.pass_plain.specs.Legal.{CallerAllows}
-use Rattle.pass_plain.specs.Places.{keeps}
 use Rattle.pass_hold.specs.Callings.{IsEntered}
+use Rattle.pass_hold.specs.Entering.{MayEnter}
 use Rattle.pass_flow.specs.Flows.{ObjectView}
 use Rattle.pass_pipe.specs.Desks.{join_entry}
 use Rattle.pass_plain.specs.Pipes.{pipe_after}
@@ -28,11 +27,8 @@ enter_on-place-requires-clause-what g c = c.what-what.ensures ∙ ap (λ (v : Ob
 pub enter_on-place-requires-clause-place : goal.enter_on-place-requires-clause-place
 enter_on-place-requires-clause-place g c = λ low. absurd (let has = c.requires.place in omega (arith, low, has))
 
-pub enter_on-place-requires-clause-keep : goal.enter_on-place-requires-clause-keep
-enter_on-place-requires-clause-keep g c = subst (λ o. c.args.keep ≡ keeps c.args.caller.now.seen (join_entry c.args.who c.args.number o c.args.end)) (sym c.what-what.ensures) c.requires.keep
-
-pub enter_on-place-requires-clause-allows : goal.enter_on-place-requires-clause-allows
-enter_on-place-requires-clause-allows g c = subst (λ o. CallerAllows c.args.caller.now.seen (join_entry c.args.who c.args.number o c.args.end)) (sym c.what-what.ensures) c.requires.allows
+pub enter_on-place-requires-clause-entry : goal.enter_on-place-requires-clause-entry
+enter_on-place-requires-clause-entry g c = subst (λ o. MayEnter c.args.caller.now.seen (join_entry c.args.who c.args.number o c.args.end) c.args.keep) (sym c.what-what.ensures) c.requires.entry
 
 pub invariant_of-self : goal.invariant_of-self
 invariant_of-self g c =
@@ -40,17 +36,23 @@ invariant_of-self g c =
     let n = c.show.ensures in (
       c.enter_on-place.ensures.object,
       pipe_there g.J.Whose.book.session c.args.caller.now.seen c.show.new.desk c.enter_on-place.new.desk (join_entry c.args.who c.args.number c.what-what.result c.args.end)
-          (c.what-what.ensures ∙ ap (λ (v : ObjectView). v.what) (sym c.self.view_is) ∙ sym (ap (λ (d : DeskState). d.what) c.show.ensures.desk)) c.enter_on-place.new.caller.seen c.enter_on-place.ensures.entered c.enter_on-place.new.caller.syncs c.enter_on-place.ensures.desk
+          (c.what-what.ensures ∙ ap (λ (v : ObjectView). v.what) (sym c.self.view_is) ∙ sym (ap (λ (d : DeskState). d.what) c.show.ensures.desk)) c.enter_on-place.new.caller.seen c.enter_on-place.ensures.entry.entered c.enter_on-place.new.caller.syncs c.enter_on-place.ensures.desk
           c.self.inside.state c.hold.new.self
           (c.self.invariant.1 ∙ sym (pipe_seen d.seen c.args.shelf.now.history d.what n.object.0 n.object.1) ∙ sym (ap (λ (d : DeskState). pipe_after d.seen d.what) n.desk)) c.hold.ensures,
     )
 
-pub returns-clause-entered : goal.returns-clause-entered
-returns-clause-entered g c =
+pub returns-clause-entry : goal.returns-clause-entry
+returns-clause-entry g c =
     let n = c.show.ensures in
     let d = c.self.inside.desk in
+    let e = c.enter_on-place.new.caller in
     let own : c.what-what.result ≡ d.what = c.what-what.ensures ∙ ap (λ (v : ObjectView). v.what) (sym c.self.view_is) in
-    let shown = subst (λ (m : DeskState). IsEntered g.J.Whose.book.session c.args.caller.now.seen m.seen c.enter_on-place.new.caller.seen (join_entry c.args.who c.args.number c.what-what.result c.args.end)) n.desk c.enter_on-place.ensures.entered in
-    let moved = subst (λ o. IsEntered g.J.Whose.book.session c.args.caller.now.seen c.args.shelf.now.history c.enter_on-place.new.caller.seen (join_entry c.args.who c.args.number o c.args.end)) own shown in
-    let before = entered_before g.J.Whose.book.session c.args.caller.now.seen d.seen c.args.shelf.now.history c.enter_on-place.new.caller.seen (join_entry c.args.who c.args.number d.what c.args.end) n.object.0 n.object.1 moved in
-    subst (λ (v : ObjectView). IsEntered g.J.Whose.book.session c.args.caller.now.seen v.seen c.enter_on-place.new.caller.seen (join_entry c.args.who c.args.number v.what c.args.end)) c.self.view_is before
+    let made = c.enter_on-place.ensures.entry in
+    let shown = subst (λ (m : DeskState). IsEntered g.J.Whose.book.session c.args.caller.now.seen m.seen e.seen (join_entry c.args.who c.args.number c.what-what.result c.args.end)) n.desk made.entered in
+    let moved = subst (λ o. IsEntered g.J.Whose.book.session c.args.caller.now.seen c.args.shelf.now.history e.seen (join_entry c.args.who c.args.number o c.args.end)) own shown in
+    let before = entered_before g.J.Whose.book.session c.args.caller.now.seen d.seen c.args.shelf.now.history e.seen (join_entry c.args.who c.args.number d.what c.args.end) n.object.0 n.object.1 moved in
+    record {
+      entered = subst (λ (v : ObjectView). IsEntered g.J.Whose.book.session c.args.caller.now.seen v.seen e.seen (join_entry c.args.who c.args.number v.what c.args.end)) c.self.view_is before;
+      caller = made.caller;
+      few = made.few;
+    }

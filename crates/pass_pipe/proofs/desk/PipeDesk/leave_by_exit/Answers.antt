@@ -1,6 +1,7 @@
-use Rattle.std.proofs.Common.{ap, sym, ◌∙◌, subst, refl}
+use Rattle.std.proofs.Common.{◌-◌, ap, sym, ◌∙◌, subst, refl}
 use Rattle.pass_plain.specs.Legal.{CallerAllows}
-use Rattle.pass_hold.specs.Callings.{IsEntered}
+use Rattle.pass_hold.specs.Callers.{CallerState}
+use Rattle.pass_hold.specs.Entering.{Enters}
 use Rattle.pass_flow.specs.Flows.{ObjectView}
 use Rattle.pass_pipe.specs.Desks.{leave_entry}
 use Rattle.std.specs.Prelude.{[], None}
@@ -23,15 +24,16 @@ leave-requires-clause-slip g c =
 pub invariant_of-self : goal.invariant_of-self
 invariant_of-self g c = (
   versioned_after g.J.Whose.book c.args.caller.now.seen c.self.inside.desk c.self.inside.versions (leave_entry c.args.who c.args.number calls.Exit c.what-what.result c.args.end) None c.self.invariant.0
-      (c.what-what.ensures ∙ ap (λ (v : ObjectView). v.what) (sym c.self.view_is)) refl refl refl c.leave.new.self.seen c.leave.ensures.entered c.self.inside.versions (alike_itself c.self.inside.versions.lineage)
-      c.leave.new.desk c.leave.new.self.syncs c.leave.ensures.desk c.leave.ensures.few,
+      (c.what-what.ensures ∙ ap (λ (v : ObjectView). v.what) (sym c.self.view_is)) refl refl refl c.leave.new.self.seen c.leave.ensures.entry.entered c.self.inside.versions (alike_itself c.self.inside.versions.lineage)
+      c.leave.new.desk c.leave.new.self.syncs c.leave.ensures.desk c.leave.ensures.entry.few,
   pipe_there g.J.Whose.book.session c.args.caller.now.seen c.self.inside.desk c.leave.new.desk (leave_entry c.args.who c.args.number calls.Exit c.what-what.result c.args.end)
-      (c.what-what.ensures ∙ ap (λ (v : ObjectView). v.what) (sym c.self.view_is)) c.leave.new.self.seen c.leave.ensures.entered c.leave.new.self.syncs c.leave.ensures.desk
+      (c.what-what.ensures ∙ ap (λ (v : ObjectView). v.what) (sym c.self.view_is)) c.leave.new.self.seen c.leave.ensures.entry.entered c.leave.new.self.syncs c.leave.ensures.desk
       c.self.inside.state c.drop_one.new.state c.self.invariant.1 c.drop_one.ensures,
 )
 
-pub returns-clause-entered : goal.returns-clause-entered
-returns-clause-entered g c =
-    subst (λ (v : ObjectView). IsEntered g.J.Whose.book.session c.args.caller.now.seen v.seen c.leave.new.self.seen (leave_entry c.args.who c.args.number calls.Exit v.what c.args.end)) c.self.view_is
-    (subst (λ o. IsEntered g.J.Whose.book.session c.args.caller.now.seen c.self.inside.desk.seen c.leave.new.self.seen (leave_entry c.args.who c.args.number calls.Exit o c.args.end))
-    (c.what-what.ensures ∙ ap (λ (v : ObjectView). v.what) (sym c.self.view_is)) c.leave.ensures.entered)
+pub returns-clause-entry : goal.returns-clause-entry
+returns-clause-entry g c =
+    let k = c.args.caller.now in let old : CallerState = record k { own = k.own - 1 } in
+    subst (λ (v : ObjectView). Enters g.J.Whose.book.session old c.leave.new.self v.seen (leave_entry c.args.who c.args.number calls.Exit v.what c.args.end) 0) c.self.view_is
+    (subst (λ o. Enters g.J.Whose.book.session old c.leave.new.self c.self.inside.desk.seen (leave_entry c.args.who c.args.number calls.Exit o c.args.end) 0)
+    (c.what-what.ensures ∙ ap (λ (v : ObjectView). v.what) (sym c.self.view_is)) c.leave.ensures.entry)

@@ -1,9 +1,7 @@
-use Rattle.std.proofs.Common.{◌≡◌, ap, sym, ◌∙◌, subst}
-use Rattle.pass_plain.specs.Legal.{CallerAllows}
+use Rattle.std.proofs.Common.{ap, sym, ◌∙◌, subst}
 use Rattle.pass_plain.specs.Pipes.{pipe_after}
-use Rattle.pass_plain.specs.Places.{keeps}
 use Rattle.pass_plain.specs.Replies.{taken}
-use Rattle.pass_hold.specs.Callings.{IsEntered}
+use Rattle.pass_hold.specs.Entering.{MayEnter, Enters}
 use Rattle.pass_flow.specs.Flows.{ObjectView}
 use Rattle.pass_pipe.specs.Desks.{take_entry}
 use Rattle.pass_pipe.proofs.Piping.{pipe_there}
@@ -12,13 +10,9 @@ use Rattle.pass_pipe.proofs.desk.PipeDesk.take.Goals as goal
 pub enter_on-requires-clause-what : goal.enter_on-requires-clause-what
 enter_on-requires-clause-what g c = c.what-what.ensures ∙ ap (λ (v : ObjectView). v.what) (sym c.self.view_is)
 
-pub enter_on-requires-clause-keep : goal.enter_on-requires-clause-keep
-enter_on-requires-clause-keep g c =
-    subst (λ o. 2 ≡ keeps c.args.caller.now.seen (take_entry c.args.who c.args.number o c.args.len c.args.bytes)) (sym c.what-what.ensures) c.requires.keep
-
-pub enter_on-requires-clause-allows : goal.enter_on-requires-clause-allows
-enter_on-requires-clause-allows g c =
-    subst (λ o. CallerAllows c.args.caller.now.seen (take_entry c.args.who c.args.number o c.args.len c.args.bytes)) (sym c.what-what.ensures) c.requires.allows
+pub enter_on-requires-clause-entry : goal.enter_on-requires-clause-entry
+enter_on-requires-clause-entry g c =
+    subst (λ o. MayEnter c.args.caller.now.seen (take_entry c.args.who c.args.number o c.args.len c.args.bytes) 2) (sym c.what-what.ensures) c.requires.entry
 
 pub enter_on-requires-clause-replies : goal.enter_on-requires-clause-replies
 enter_on-requires-clause-replies g c =
@@ -29,12 +23,12 @@ pub invariant_of-self : goal.invariant_of-self
 invariant_of-self g c = (
   c.enter_on.ensures.object,
   pipe_there g.J.Whose.book.session c.args.caller.now.seen c.self.inside.desk c.enter_on.new.desk (take_entry c.args.who c.args.number c.what-what.result c.args.len c.args.bytes)
-      (c.what-what.ensures ∙ ap (λ (v : ObjectView). v.what) (sym c.self.view_is)) c.enter_on.new.caller.seen c.enter_on.ensures.entered c.enter_on.new.caller.syncs c.enter_on.ensures.desk
+      (c.what-what.ensures ∙ ap (λ (v : ObjectView). v.what) (sym c.self.view_is)) c.enter_on.new.caller.seen c.enter_on.ensures.entry.entered c.enter_on.new.caller.syncs c.enter_on.ensures.desk
       c.self.inside.state c.skip.new.self c.self.invariant.1 c.skip.ensures,
 )
 
-pub returns-clause-entered : goal.returns-clause-entered
-returns-clause-entered g c =
-    subst (λ (v : ObjectView). IsEntered g.J.Whose.book.session c.args.caller.now.seen v.seen c.enter_on.new.caller.seen (take_entry c.args.who c.args.number v.what c.args.len c.args.bytes)) c.self.view_is
-    (subst (λ o. IsEntered g.J.Whose.book.session c.args.caller.now.seen c.self.inside.desk.seen c.enter_on.new.caller.seen (take_entry c.args.who c.args.number o c.args.len c.args.bytes))
-    (c.what-what.ensures ∙ ap (λ (v : ObjectView). v.what) (sym c.self.view_is)) c.enter_on.ensures.entered)
+pub returns-clause-entry : goal.returns-clause-entry
+returns-clause-entry g c =
+    subst (λ (v : ObjectView). Enters g.J.Whose.book.session c.args.caller.now c.enter_on.new.caller v.seen (take_entry c.args.who c.args.number v.what c.args.len c.args.bytes) 2) c.self.view_is
+    (subst (λ o. Enters g.J.Whose.book.session c.args.caller.now c.enter_on.new.caller c.self.inside.desk.seen (take_entry c.args.who c.args.number o c.args.len c.args.bytes) 2)
+    (c.what-what.ensures ∙ ap (λ (v : ObjectView). v.what) (sym c.self.view_is)) c.enter_on.ensures.entry)

@@ -25,7 +25,7 @@ pub invariant_of-self : goal.invariant_of-self
 invariant_of-self g c = (
   c.enter_on.ensures.object,
   pipe_there g.J.Whose.book.session c.args.caller.now.seen c.self.inside.desk c.enter_on.new.desk c.args.entry
-      (c.requires.what ∙ ap (λ (v : ObjectView). v.what) (sym c.self.view_is)) c.enter_on.new.caller.seen c.enter_on.ensures.entered c.enter_on.new.caller.syncs c.enter_on.ensures.desk
+      (c.requires.what ∙ ap (λ (v : ObjectView). v.what) (sym c.self.view_is)) c.enter_on.new.caller.seen c.enter_on.ensures.entry.entered c.enter_on.new.caller.syncs c.enter_on.ensures.desk
       c.self.inside.state c.self.inside.state c.self.invariant.1
       (sym (ap (λ (r : Reply). if is_fault r then c.self.inside.state else pipe_act c.self.inside.state c.args.entry.act) c.requires.done ∙ flow_leaves c.self.inside.state c.args.entry.act c.requires.act)),
 )

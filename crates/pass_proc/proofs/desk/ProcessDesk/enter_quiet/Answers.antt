@@ -29,7 +29,7 @@ invariant_of-self g c =
     let e : Entry = c.args.entry in
     let p : ProcessView = process_of i.who i.desk.seen i.holdings i.versions in
     let own : e.what ≡ i.who = c.requires.own.1 ∙ sym (ap (λ (p : ProcessView). p.who) c.self.view_is) in
-    let n = quiet_now S c.args.caller.now.seen c.enter.new.self.seen p c.self.invariant.2 e c.requires.done own c.enter.ensures.entered c.requires.act c.enter.ensures.few c.apply.new.self.room in
+    let n = quiet_now S c.args.caller.now.seen c.enter.new.self.seen p c.self.invariant.2 e c.requires.done own c.enter.ensures.entry.entered c.requires.act c.enter.ensures.entry.few c.apply.new.self.room in
     let state : c.apply.new.self.state ≡ process_act [] i.holdings.state e.act = c.apply.ensures.state [] ((quiet_plain e.act c.requires.act).gains [] []) in (
       ap (λ (d : DeskState). d.book) d ∙ c.self.invariant.0,
       ap (λ (d : DeskState). d.what) d ∙ c.self.invariant.1,

@@ -54,8 +54,8 @@ invariant_of-self g c =
     let v : VersionState = c.take-taken.new.self in
     let none : room_needed e.act ≡ 0 = (take_of e.act c.requires.act).roomless in
     let room = c.apply.ensures.room in
-    let n = taken_now S line p e c.args.source.now c.self.invariant.2 c.requires.act c.requires.done own c.requires.source c.enter.new.self.seen c.enter.ensures.entered
-    v.lineage c.take-taken.ensures.linked c.enter.ensures.few (omega (arith, low, spare, count)) v.spare c.take-taken.ensures.spare in
+    let n = taken_now S line p e c.args.source.now c.self.invariant.2 c.requires.act c.requires.done own c.requires.source c.enter.new.self.seen c.enter.ensures.entry.entered
+    v.lineage c.take-taken.ensures.linked c.enter.ensures.entry.few (omega (arith, low, spare, count)) v.spare c.take-taken.ensures.spare in
     let same : c.apply.new.self.room ≡ i.holdings.room = omega (arith, none, room) in
     let state : c.apply.new.self.state ≡ process_act line i.holdings.state e.act = c.apply.ensures.state line c.requires.gained in (
       ap (λ (d : DeskState). d.book) d ∙ c.self.invariant.0,

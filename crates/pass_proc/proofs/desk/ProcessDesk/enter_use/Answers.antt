@@ -36,7 +36,7 @@ invariant_of-self g c =
     let need = c.requires.sources in
     let spare = ap (λ (p : ProcessView). p.spare) c.self.view_is in
     let count = ap (λ (p : ProcessView). len p.state.children) c.self.view_is in
-    let n = use_now S c.args.caller.now.seen c.enter-place.new.self.seen p c.self.invariant.2 e c.requires.done own c.enter-place.ensures.entered c.requires.act c.enter-place.ensures.few (omega (arith, need, spare, count)) c.apply.new.self.room in
+    let n = use_now S c.args.caller.now.seen c.enter-place.new.self.seen p c.self.invariant.2 e c.requires.done own c.enter-place.ensures.entry.entered c.requires.act c.enter-place.ensures.entry.few (omega (arith, need, spare, count)) c.apply.new.self.room in
     let state : c.apply.new.self.state ≡ process_act [] i.holdings.state e.act = c.apply.ensures.state [] ((use_plain e.act c.requires.act).gains [] []) in (
       ap (λ (d : DeskState). d.book) d ∙ c.self.invariant.0,
       ap (λ (d : DeskState). d.what) d ∙ c.self.invariant.1,
@@ -45,10 +45,13 @@ invariant_of-self g c =
           (subst (λ h. IsProcess S (record p { seen = h; state = process_act [] p.state e.act; lineage = used p.lineage; room = c.apply.new.self.room })) (sym (ap (λ (d : DeskState). d.seen) d)) n)),
     )
 
-pub returns-clause-node : goal.returns-clause-node
-returns-clause-node g c =
+pub returns-clause-at : goal.returns-clause-at
+returns-clause-at g c =
     let i = c.self.inside in
     let own : c.args.entry.what ≡ i.who = c.requires.own.1 ∙ sym (ap (λ (p : ProcessView). p.who) c.self.view_is) in
-    use_node g.J.Whose.book.session c.args.caller.now.seen c.enter-place.new.self.seen (process_of i.who i.desk.seen i.holdings i.versions) c.self.invariant.2 c.args.entry c.requires.done own
-    c.enter-place.ensures.entered c.requires.act c.enter-place.result c.enter-place.ensures.place
-    ∙ ap (λ (n : Node). Some n) (sym c.mark-node.ensures.answer)
+    record {
+      place = c.enter-place.ensures.place;
+      node = use_node g.J.Whose.book.session c.args.caller.now.seen c.enter-place.new.self.seen (process_of i.who i.desk.seen i.holdings i.versions) c.self.invariant.2 c.args.entry c.requires.done own
+          c.enter-place.ensures.entry.entered c.requires.act c.enter-place.result c.enter-place.ensures.place
+          ∙ ap (λ (n : Node). Some n) (sym c.mark-node.ensures.answer);
+    }

@@ -53,8 +53,8 @@ invariant_of-self g c =
     let state : c.apply.new.self.state ≡ record i.holdings.state { last_read = [] } = c.apply.ensures.state [] tt in
     let was = c.apply.ensures.room in
     let room : c.apply.new.self.room ≡ i.holdings.room = omega (arith, was) in
-    let n = exec_now S c.args.caller.now.seen p c.args.number c.args.out c.room.inside.name c.room.inside.args c.args.source.now c.self.invariant.2 c.requires.source c.enter.new.self.seen c.enter.ensures.entered
-    v.lineage c.begin_version.ensures.lineage c.enter.ensures.few (omega (arith, low, spare, count)) v.spare c.begin_version.ensures.spare in (
+    let n = exec_now S c.args.caller.now.seen p c.args.number c.args.out c.room.inside.name c.room.inside.args c.args.source.now c.self.invariant.2 c.requires.source c.enter.new.self.seen c.enter.ensures.entry.entered
+    v.lineage c.begin_version.ensures.lineage c.enter.ensures.entry.few (omega (arith, low, spare, count)) v.spare c.begin_version.ensures.spare in (
       ap (λ (d : DeskState). d.book) d ∙ c.self.invariant.0,
       ap (λ (d : DeskState). d.what) d ∙ c.self.invariant.1,
       subst (λ (s : Process). IsProcess S (record p { seen = c.enter.new.desk.seen; state = s; lineage = v.lineage; spare = v.spare; room = c.apply.new.self.room })) (sym state)

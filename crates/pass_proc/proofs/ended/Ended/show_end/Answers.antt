@@ -13,7 +13,7 @@ invariant_of-self g c =
     let d = c.enter.ensures.desk in
     let i = c.self.inside in
     let p : EndedView = record { who = i.who; seen = i.desk.seen; lineage = i.versions.lineage } in
-    let n = end_shown S c.args.caller.now.seen c.enter.new.self.seen p c.self.invariant.2 c.args.who c.args.number c.enter.ensures.entered in (
+    let n = end_shown S c.args.caller.now.seen c.enter.new.self.seen p c.self.invariant.2 c.args.who c.args.number c.enter.ensures.entry.entered in (
       ap (λ (d : DeskState). d.book) d ∙ c.self.invariant.0,
       ap (λ (d : DeskState). d.what) d ∙ c.self.invariant.1,
       subst (λ h. HasEnded S (record p { seen = h })) (sym (ap (λ (d : DeskState). d.seen) d)) n,

@@ -58,8 +58,8 @@ begin-requires-clause-process g c =
     let child : c.current-child.result.pnode ≡ a.room.child = ap (λ (n : Node). n.pnode) (c.current-child.ensures ∙ l.version.node) in
     let desk = c.parted-desk.ensures.desk in
     let entered = entered_is S line after c.parted-desk.result.0.seen a.who a.number a.out c.current-child.result.pnode a.room.child c.linked-versions.result.2 a.room.descriptors
-    (ap (λ (d : DeskState). d.seen) desk) child l.descriptors.0 e.entered in
-    let is = born_process S line after a.who a.number a.room.child a.out a.room.descriptors entered c.requires.new a.source.now c.requires.source e.few c.linked-versions.result.0 l.version in
+    (ap (λ (d : DeskState). d.seen) desk) child l.descriptors.0 e.entry.entered in
+    let is = born_process S line after a.who a.number a.room.child a.out a.room.descriptors entered c.requires.new a.source.now c.requires.source e.entry.few c.linked-versions.result.0 l.version in
     let same = view_is c.born-born.new.desk.what a.room.child c.born-born.new.desk.seen after c.linked-versions.result.3 a.room.descriptors c.linked-versions.result.0
     (ap (λ (d : DeskState). d.what) e.desk ∙ ap (λ (d : DeskState). d.what) desk ∙ child) (ap (λ (d : DeskState). d.seen) e.desk) l.descriptors.1 in
     subst (λ (p : ProcessView). IsProcess S p) (sym same) is
@@ -75,9 +75,9 @@ begin-requires-clause-caller g c =
     let child : c.current-child.result.pnode ≡ a.room.child = ap (λ (n : Node). n.pnode) (c.current-child.ensures ∙ l.version.node) in
     let desk = c.parted-desk.ensures.desk in
     let entered = entered_is S line after c.parted-desk.result.0.seen a.who a.number a.out c.current-child.result.pnode a.room.child c.linked-versions.result.2 a.room.descriptors
-    (ap (λ (d : DeskState). d.seen) desk) child l.descriptors.0 e.entered in
+    (ap (λ (d : DeskState). d.seen) desk) child l.descriptors.0 e.entry.entered in
     let caller : CallerState = c.born-born.result.1 in
-    let is = born_caller S line after a.who a.number a.room.child a.out a.room.descriptors entered c.requires.new e.few c.linked-versions.result.0 caller (e.child.0 ∙ child) e.places.0 e.child.1 in
+    let is = born_caller S line after a.who a.number a.room.child a.out a.room.descriptors entered c.requires.new e.entry.few c.linked-versions.result.0 caller (e.child.0 ∙ child) e.places.0 e.child.1 in
     let same = view_is c.born-born.new.desk.what a.room.child c.born-born.new.desk.seen after c.linked-versions.result.3 a.room.descriptors c.linked-versions.result.0
     (ap (λ (d : DeskState). d.what) e.desk ∙ ap (λ (d : DeskState). d.what) desk ∙ child) (ap (λ (d : DeskState). d.seen) e.desk) l.descriptors.1 in
     subst (λ (p : ProcessView). IsCallerOf S p 0 caller) (sym same) is

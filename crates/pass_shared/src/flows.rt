@@ -5,8 +5,7 @@ ghost use Rattle.pass_plain.specs.declared.request.Request.TheVariants as reques
 ghost use Rattle.pass_answer.specs.Answers.{Answers};
 ghost use Rattle.pass_answer.specs.declared.answer.CallEnd.TheVariants as ends;
 
-use crate::refusing::refuse;
-use pass_answer::{CallEnd, Moved};
+use pass_answer::{CallEnd, Moved, refused};
 use pass_entry::{Ask, CallName, Text};
 use pass_hold::Whose;
 use pass_outside::Gate;
@@ -31,7 +30,8 @@ pub fn pass_freeze<R: Wait, J: Whose, G: Gate>(
     let d = match asked(proc, fd, &ask) {
         Ok(d) => d,
         Err(fault) => {
-            return Err(refuse(locks, rt, alloc, proc, CallName::FreezeObj, ask, fault));
+            let mut shelf = locks.book.lock(rt);
+            return Err(refused(alloc, &mut shelf, proc, CallName::FreezeObj, ask, fault));
         }
     };
     let mut slot = locks.object(rt, alloc, &d);
@@ -63,7 +63,8 @@ pub fn tag<R: Wait, J: Whose, G: Gate>(
     let d = match asked(proc, fd, &ask) {
         Ok(d) => d,
         Err(fault) => {
-            return Err(refuse(locks, rt, alloc, proc, CallName::TagObj, ask, fault));
+            let mut shelf = locks.book.lock(rt);
+            return Err(refused(alloc, &mut shelf, proc, CallName::TagObj, ask, fault));
         }
     };
     let mut slot = locks.object(rt, alloc, &d);

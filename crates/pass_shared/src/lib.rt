@@ -11,13 +11,13 @@
 //! no entry of theirs (`one`, `HasMet`). No program here calls `exit` or `meet`.
 #![tactic(auto)]
 
+mod call;
 mod disclosing;
 mod exiting;
 mod flows;
 mod forking;
 mod meeting;
 mod naming;
-mod refusing;
 mod running;
 mod transfers;
 mod waiting;

@@ -6,6 +6,7 @@ ghost use Rattle.pass_plain.specs.Processes.{same_mode};
 ghost use Rattle.pass_plain.specs.declared.request.Request.TheVariants as requests;
 ghost use Rattle.pass_answer.specs.Answers.{Answers};
 
+use crate::call::Call;
 use pass_answer::{CallEnd, Moved};
 use pass_entry::{Mode, Pnode, Text};
 use pass_hold::Whose;
@@ -103,22 +104,17 @@ pub fn unlink<R: Wait, J: Whose, G: Gate>(
     pass_calls::unlink(alloc, &mut registry, &mut shelf, proc, name)
 }
 
-/// Lets the registry make a pipe, whose room for bytes is not laid yet.
-fn pipe_made<R: Wait, J: Whose, G: Gate>(
-    locks: &Locks<'_, J, G>,
-    rt: &R,
-    alloc: Global,
-    proc: &mut Proc<J>,
-    reader: u8,
-    writer: u8,
-) -> Result<Moved, CallEnd>
-    requires numbers { (reader < 64) × (writer < 64) }
-    ensures call { Answers J.book.session J.places proc.old proc.new (requests.MakePipe reader writer) result }
-{
-    let mut registry = locks.registry.lock(rt);
-    locks.gate.inside(REGISTRY);
-    let mut shelf = locks.book.lock(rt);
-    pass_calls::make_pipe(alloc, &mut registry, &mut shelf, proc, reader, writer)
+impl<R: Wait, J: Whose, G: Gate> Call<'_, '_, R, J, G> {
+    /// Lets the registry make a pipe, whose room for bytes is not laid yet.
+    fn pipe_made(&self, proc: &mut Proc<J>, reader: u8, writer: u8) -> Result<Moved, CallEnd>
+        requires numbers { (reader < 64) × (writer < 64) }
+        ensures call { Answers J.book.session J.places proc.old proc.new (requests.MakePipe reader writer) result }
+    {
+        let mut registry = self.locks.registry.lock(self.rt);
+        self.locks.gate.inside(REGISTRY);
+        let mut shelf = self.locks.book.lock(self.rt);
+        pass_calls::make_pipe(self.alloc, &mut registry, &mut shelf, proc, reader, writer)
+    }
 }
 
 /// Makes a pipe, and holds one end for reading and the other for writing.
@@ -134,7 +130,7 @@ pub fn pipe<R: Wait, J: Whose, G: Gate>(
     ensures call { Answers J.book.session J.places proc.old proc.new (requests.MakePipe reader writer) result }
 {
     let state = PipeState::new(alloc)?;
-    let answer = pipe_made(locks, rt, alloc, proc, reader, writer);
+    let answer = Call { locks, rt, alloc }.pipe_made(proc, reader, writer);
     // Nobody else has a descriptor of it yet.
     if let Some(pipe) = made_by(&answer) {
         locks.lay_pipe(rt, alloc, pipe, state);

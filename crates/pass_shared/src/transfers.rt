@@ -1,24 +1,16 @@
 //! The calls on what a process holds open.
-ghost use Rattle.std.specs.Prelude.{◌≡◌, ◌<◌, ◌≤◌, IsErrOf, None, Some, false, length, true};
-ghost use Rattle.std.specs.FinMap as finite_map;
+ghost use Rattle.std.specs.Prelude.{◌<◌, ◌≤◌, IsErrOf};
 ghost use Rattle.pass_entry.specs.Limits.{transfer_limit};
-ghost use Rattle.pass_entry.specs.declared.entry.Ask.TheVariants as ask;
-ghost use Rattle.pass_entry.specs.declared.objects.Descriptor.{Descriptor as AnyDescriptor};
 ghost use Rattle.pass_plain.specs.declared.request.Request.TheVariants as requests;
-ghost use Rattle.pass_plain.specs.Processes.{is_file, is_pipe, refusal};
-ghost use Rattle.pass_proc.specs.Procs.{is_way};
 ghost use Rattle.pass_answer.specs.Answers.{Answers};
 ghost use Rattle.pass_answer.specs.declared.answer.CallEnd.TheVariants as ends;
 ghost use Rattle.pass_answer.specs.Ready.{IsReadyIfFull};
 
-use crate::refusing::refuse;
-use pass_answer::{CallEnd, Moved};
+use pass_answer::{CallEnd, Moved, refused};
 use pass_entry::{Ask, Bytes, CallName};
-use pass_file::FileDesk;
 use pass_flow::Versioned;
 use pass_hold::Whose;
 use pass_outside::Gate;
-use pass_pipe::PipeDesk;
 use pass_proc::Proc;
 use pass_slots::{Locks, Slot, asked, held_pipe, see_way};
 use std::alloc::Global;
@@ -89,7 +81,8 @@ pub fn pass_read<R: Wait, J: Whose, G: Gate>(
     let d = match asked(proc, fd, &ask) {
         Ok(d) => d,
         Err(fault) => {
-            return Err(refuse(locks, rt, alloc, proc, CallName::Read, ask, fault));
+            let mut shelf = locks.book.lock(rt);
+            return Err(refused(alloc, &mut shelf, proc, CallName::Read, ask, fault));
         }
     };
     let mut slot = locks.object(rt, alloc, &d);
@@ -102,7 +95,7 @@ pub fn pass_read<R: Wait, J: Whose, G: Gate>(
     }
 }
 
-/// Writes all these bytes.
+/// Writes all these bytes. What a file's change makes of records is made before the book is held.
 pub fn pass_write<R: Wait, J: Whose, G: Gate>(
     locks: &Locks<'_, J, G>,
     rt: &R,
@@ -120,19 +113,28 @@ pub fn pass_write<R: Wait, J: Whose, G: Gate>(
     let d = match asked(proc, fd, &ask) {
         Ok(d) => d,
         Err(fault) => {
-            return Err(refuse(locks, rt, alloc, proc, CallName::Write, ask, fault));
+            let mut shelf = locks.book.lock(rt);
+            return Err(refused(alloc, &mut shelf, proc, CallName::Write, ask, fault));
         }
     };
     let mut slot = locks.object(rt, alloc, &d);
     locks.gate.inside(d.pnode);
     match &mut *slot {
-        Slot::File(file) => write_file(locks, rt, alloc, file, proc, fd, bytes),
-        Slot::Pipe(pipe) => write_pipe(locks, rt, alloc, pipe, proc, fd, bytes),
+        Slot::File(file) => {
+            locks.note_changed(rt, file.what());
+            let ready = pass_calls::ready_write(alloc, file, proc, fd, bytes)?;
+            let mut shelf = locks.book.lock(rt);
+            pass_calls::write_file(alloc, file, &mut shelf, proc, fd, ready)
+        }
+        Slot::Pipe(pipe) => {
+            let mut shelf = locks.book.lock(rt);
+            pass_calls::write_pipe(alloc, pipe, &mut shelf, proc, fd, bytes)
+        }
         _ => unreachable!(),
     }
 }
 
-/// Sets the size of a file.
+/// Sets the size of a file. What its change makes of records is made before the book is held.
 pub fn truncate<R: Wait, J: Whose, G: Gate>(
     locks: &Locks<'_, J, G>,
     rt: &R,
@@ -148,78 +150,19 @@ pub fn truncate<R: Wait, J: Whose, G: Gate>(
     let d = match asked(proc, fd, &ask) {
         Ok(d) => d,
         Err(fault) => {
-            return Err(refuse(locks, rt, alloc, proc, CallName::Truncate, ask, fault));
+            let mut shelf = locks.book.lock(rt);
+            return Err(refused(alloc, &mut shelf, proc, CallName::Truncate, ask, fault));
         }
     };
     let mut slot = locks.object(rt, alloc, &d);
     locks.gate.inside(d.pnode);
     match &mut *slot {
-        Slot::File(file) => truncate_file(locks, rt, alloc, file, proc, fd, size),
+        Slot::File(file) => {
+            locks.note_changed(rt, file.what());
+            let list = pass_calls::ready_cut(alloc, file, size)?;
+            let mut shelf = locks.book.lock(rt);
+            pass_calls::truncate(alloc, file, &mut shelf, proc, fd, size, list)
+        }
         _ => unreachable!(),
     }
-}
-
-/// Writes to a held file, whose records are made before the book is held.
-fn write_file<R: Wait, J: Whose, G: Gate>(
-    locks: &Locks<'_, J, G>,
-    rt: &R,
-    alloc: Global,
-    file: &mut FileDesk<J>,
-    proc: &mut Proc<J>,
-    fd: u8,
-    bytes: &Bytes,
-) -> Result<Moved, CallEnd>
-    requires fd { fd < 64 }
-    requires free { refusal proc.old.state (ask.ToWrite fd (length bytes.now)) ≡ None }
-    requires object { (d : AnyDescriptor) → finite_map.get proc.old.state.descriptors fd ≡ Some d → (is_file d ≡ true) × (file.old.what ≡ d.pnode) }
-    requires new { is_way proc.old.way fd bytes.now ≡ false }
-    ensures call { Answers J.book.session J.places proc.old proc.new (requests.Write fd bytes.now) result }
-    ensures what { file.new.what ≡ file.old.what }
-{
-    locks.note_changed(rt, file.what());
-    let ready = pass_calls::ready_write(alloc, file, proc, fd, bytes)?;
-    let mut shelf = locks.book.lock(rt);
-    pass_calls::write_file(alloc, file, &mut shelf, proc, fd, ready)
-}
-
-/// Gives a held file a size, with its records made before the book is held.
-fn truncate_file<R: Wait, J: Whose, G: Gate>(
-    locks: &Locks<'_, J, G>,
-    rt: &R,
-    alloc: Global,
-    file: &mut FileDesk<J>,
-    proc: &mut Proc<J>,
-    fd: u8,
-    size: u64,
-) -> Result<Moved, CallEnd>
-    requires fd { fd < 64 }
-    requires free { refusal proc.old.state (ask.ToCut fd size) ≡ None }
-    requires object { (d : AnyDescriptor) → finite_map.get proc.old.state.descriptors fd ≡ Some d → file.old.what ≡ d.pnode }
-    ensures call { Answers J.book.session J.places proc.old proc.new (requests.Truncate fd size) result }
-    ensures what { file.new.what ≡ file.old.what }
-{
-    locks.note_changed(rt, file.what());
-    let list = pass_calls::ready_cut(alloc, file, size)?;
-    let mut shelf = locks.book.lock(rt);
-    pass_calls::truncate(alloc, file, &mut shelf, proc, fd, size, list)
-}
-
-/// Writes to a held pipe.
-fn write_pipe<R: Wait, J: Whose, G: Gate>(
-    locks: &Locks<'_, J, G>,
-    rt: &R,
-    alloc: Global,
-    pipe: &mut PipeDesk<J>,
-    proc: &mut Proc<J>,
-    fd: u8,
-    bytes: &Bytes,
-) -> Result<Moved, CallEnd>
-    requires fd { fd < 64 }
-    requires free { refusal proc.old.state (ask.ToWrite fd (length bytes.now)) ≡ None }
-    requires object { (d : AnyDescriptor) → finite_map.get proc.old.state.descriptors fd ≡ Some d → (is_pipe d ≡ true) × (pipe.old.what ≡ d.pnode) }
-    ensures call { Answers J.book.session J.places proc.old proc.new (requests.Write fd bytes.now) result }
-    ensures what { pipe.new.what ≡ pipe.old.what }
-{
-    let mut shelf = locks.book.lock(rt);
-    pass_calls::write_pipe(alloc, pipe, &mut shelf, proc, fd, bytes)
 }

@@ -1,6 +1,6 @@
 use Rattle.std.proofs.Common.{◌≡◌}
 use Rattle.pass_lives.specs.Forks.{IsForking}
-use Rattle.pass_shared.proofs.forking.join_all.Given as goal
+use Rattle.pass_shared.proofs.call.Call.join_all.Given as goal
 
 abbrev pub invariant-loop : goal.invariant-loop
 invariant-loop g l =

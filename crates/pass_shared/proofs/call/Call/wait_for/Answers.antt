@@ -7,29 +7,29 @@ use Rattle.pass_answer.specs.declared.answer.CallEnd.{CallEnd}
 use Rattle.pass_answer.proofs.Ready.{refusal_ready}
 use Rattle.pass_lives.specs.Waits.{request_of}
 use Rattle.pass_lives.proofs.Waits.{asked, needed, no_way, ordinary}
-use Rattle.pass_shared.proofs.waiting.wait_for.Goals as goal
+use Rattle.pass_shared.proofs.call.Call.wait_for.Goals as goal
 
-pub refuse-requires-clause-refused : goal.refuse-requires-clause-refused
-refuse-requires-clause-refused g c = (c.deny.ensures.fault c.in-Err.fault).0 c.in-Err.is
+pub refused-requires-clause-refused : goal.refused-requires-clause-refused
+refused-requires-clause-refused g c = (c.deny.ensures.fault c.in-Err.fault).0 c.in-Err.is
 
-pub refuse-requires-clause-some : goal.refuse-requires-clause-some
-refuse-requires-clause-some g c =
+pub refused-requires-clause-some : goal.refused-requires-clause-some
+refused-requires-clause-some g c =
     let a = c.args in
     record { request = request_of a.wait a.child; named = sym (c.call.ensures a.child); asked = asked a.wait a.child; within = (ordinary a.wait a.child).1 }
 
-pub refuse-requires-clause-need : goal.refuse-requires-clause-need
-refuse-requires-clause-need g c = let a = c.args in ap need_of (c.call.ensures a.child) ∙ needed a.wait a.child
+pub refused-requires-clause-need : goal.refused-requires-clause-need
+refused-requires-clause-need g c = let a = c.args in ap need_of (c.call.ensures a.child) ∙ needed a.wait a.child
 
 pub returns-in-Err-clause-call : goal.returns-in-Err-clause-call
 returns-in-Err-clause-call g c =
     let a = c.args in
-    c.refuse.ensures.call (request_of a.wait a.child) (sym (c.call.ensures a.child)) (asked a.wait a.child) (ordinary a.wait a.child).1 (no_way a.wait a.child a.proc.now.way)
+    c.refused.ensures.call (request_of a.wait a.child) (sym (c.call.ensures a.child)) (asked a.wait a.child) (ordinary a.wait a.child).1 (no_way a.wait a.child a.proc.now.way)
 
 pub returns-in-Err-clause-ready : goal.returns-in-Err-clause-ready
 returns-in-Err-clause-ready g c =
     let a = c.args in
-    refusal_ready g.J.Whose.book.session a.proc.now c.refuse.new.proc (request_of a.wait a.child) (ask.Child a.child) c.in-Err.fault (asked a.wait a.child)
-    ((c.deny.ensures.fault c.in-Err.fault).0 c.in-Err.is) c.refuse.result
+    refusal_ready g.J.Whose.book.session a.proc.now c.refused.new.proc (request_of a.wait a.child) (ask.Child a.child) c.in-Err.fault (asked a.wait a.child)
+    ((c.deny.ensures.fault c.in-Err.fault).0 c.in-Err.is) c.refused.result
 
 pub returns-in-Living-clause-ready : goal.returns-in-Living-clause-ready
 returns-in-Living-clause-ready g c =

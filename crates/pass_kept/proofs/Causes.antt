@@ -1,14 +1,12 @@
 -- The causes of a call's end, where the vault gave no answer.
 use Rattle.std.proofs.Common.{◌≡◌, ℕ, subst, sym}
-use Rattle.std.specs.Prelude.{IfErr, Result, Ok, Err}
 use Rattle.pass_outside.specs.Moments.{Moment}
-use Rattle.pass_vault.specs.declared.vault.Receipt.{Receipt}
 use Rattle.pass_answer.specs.declared.answer.CallEnd.{CallEnd}
 use Rattle.pass_answer.specs.declared.answer.CallEnd.TheVariants as ends
 use Rattle.pass_safe.specs.Syncings.{HasRisen, IsNoDiskFault, end_of}
 use Rattle.pass_safe.specs.declared.fault.SafeFault.{SafeFault}
 use Rattle.pass_safe.specs.declared.fault.SafeFault.TheVariants.{DiskFault, NoMemory}
-use Rattle.pass_kept.specs.Stops.{HasCause, IsStopped, answer_of}
+use Rattle.pass_kept.specs.Stops.{HasCause, IsStopped}
 use Rattle.pass_safe.specs.Safes.{IsFaultSince}
 
 pub risen_of : {D : Type 0} (view : D → Moment) (opened : ℕ) (f : SafeFault) → IsFaultSince view opened f → HasRisen f
@@ -32,10 +30,3 @@ uncaused view opened ends.NoMemory other = tt {0}
 pub stopped_by : {D : Type 0} (view : D → Moment) (opened : ℕ) (f : SafeFault) (answer : CallEnd) → IsFaultSince view opened f → answer ≡ end_of f → IsStopped view opened answer
 stopped_by view opened (DiskFault first now) answer since is = subst (λ (e : CallEnd). IsStopped view opened e) (sym is) since
 stopped_by view opened NoMemory answer since is = subst (λ (e : CallEnd). IsStopped view opened e) (sym is) (tt {0})
-
--- settling stops by one
-pub stopped_as : {D : Type 0} (view : D → Moment) (opened : ℕ) (settled : Result Receipt SafeFault) (answer : Result Receipt CallEnd) → answer ≡ answer_of settled
-    → IfErr settled (IsFaultSince view opened) → IfErr answer (IsStopped view opened)
-stopped_as view opened (Ok r) answer is since = subst (λ (a : Result Receipt CallEnd). IfErr a (IsStopped view opened)) (sym is) (tt {0})
-stopped_as view opened (Err (DiskFault first now)) answer is since = subst (λ (a : Result Receipt CallEnd). IfErr a (IsStopped view opened)) (sym is) since
-stopped_as view opened (Err NoMemory) answer is since = subst (λ (a : Result Receipt CallEnd). IfErr a (IsStopped view opened)) (sym is) (tt {0})

@@ -6,13 +6,11 @@ use Rattle.pass_plain.specs.Sessions.{Session}
 use Rattle.pass_book.proofs.Prefixes.{prefix_length}
 use Rattle.pass_book.specs.declared.view.VaultSync.{VaultSync}
 use Rattle.pass_vault.specs.declared.vault.Receipt.{Receipt}
-use Rattle.pass_answer.specs.declared.answer.CallEnd.{CallEnd}
 use Rattle.pass_proc.specs.Procs.{ProcView}
 use Rattle.pass_safe.proofs.Ends.{looked_twice, synced_on}
 use Rattle.pass_answer.specs.Syncs.{HasSynced}
 use Rattle.pass_safe.specs.declared.fault.SafeFault.{SafeFault}
 use Rattle.pass_safe.specs.declared.saving.Saved.{Saved}
-use Rattle.pass_kept.specs.Stops.{answer_of}
 use Rattle.pass_kept.specs.Meetings.{HasLookedOn}
 use Rattle.pass_answer.specs.Lives.{HasMet}
 use Rattle.pass_kept.specs.Settlings.{HasSettled}
@@ -55,8 +53,3 @@ settled_with session old mid new s r met whole is synced = record {
   since = let begins = prefix_length old.seen mid.seen met.looked.begins in let same = ap (λ (r : Receipt). r.entries) is in omega (arith, begins, whole, same);
   synced = synced;
 }
-
--- the answer of a call
-pub settled_as : (old new : ProcView) (settled : Result Receipt SafeFault) (answer : Result Receipt CallEnd) → answer ≡ answer_of settled → IfOk settled (HasSettled old new) → IfOk answer (HasSettled old new)
-settled_as old new (Ok r) answer is has = subst (λ (a : Result Receipt CallEnd). IfOk a (HasSettled old new)) (sym is) has
-settled_as old new (Err e) answer is has = subst (λ (a : Result Receipt CallEnd). IfOk a (HasSettled old new)) (sym is) (tt {0})

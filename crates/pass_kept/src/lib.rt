@@ -1,7 +1,8 @@
 //! The calls by which entries and blocks of a store become durable while its other calls go on: `pass_sync`, `trickle` and `settle`.
 //!
 //! They stand over the locks of `pass_slots` and the lock of the vault. A call takes an object's lock or the registry's first, then the
-//! vault's, then the book's. While the disk is at work the book is free.
+//! vault's, then the book's. While the disk is at work the book is free. A file that a call takes out of its lock lies there again when
+//! the lock is given back (`object`, `file`).
 //!
 //! `pass_sync` answers as `SyncAnswers` of `pass_answer` says (`call`). It makes its device calls with no lock held but the vault's and its
 //! object's, and no frame where another's has its first entry: this is how it is written, and no clause says so.
@@ -15,6 +16,7 @@
 #![tactic(auto)]
 
 mod answering;
+mod context;
 mod flushing;
 mod syncing;
 mod trickling;

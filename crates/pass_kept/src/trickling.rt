@@ -1,162 +1,90 @@
 //! The call `trickle`, while the store's other calls go on.
-ghost use Rattle.std.specs.Prelude.{◌≤◌, IfErr, IfOk};
+ghost use Rattle.std.specs.Prelude.{◌≡◌, ◌≤◌, IfErr, IfOk, ℕ};
 ghost use Rattle.pass_safe.specs.Safes.{IsFaultSince};
 ghost use Rattle.pass_kept.specs.Stops.{IsStopped};
+ghost use Rattle.pass_slots.specs.Slots.{Has};
+ghost use Rattle.pass_slots.specs.declared.slot.Sought.TheVariants as sought;
 
 use crate::answering::ended_by;
+use crate::context::Context;
 use pass_answer::CallEnd;
 use pass_entry::Pnode;
-use pass_file::FileDesk;
-use pass_hold::Shelf;
 use pass_outside::{Disk, Gate};
 use pass_safe::{Opening, Safe, SafeFault};
 use pass_slots::{Locks, Slot};
-use pass_vault::Receipt;
-use std::alloc::{AllocError, Global};
+use std::alloc::Global;
 use std::collections::BTreeSet;
 use std::mem;
 use std::sync::{Mutex, Wait};
 
-/// Lets changed blocks of a file wait in memory, under the vault's lock.
-fn stage_held<R: Wait, J: Opening, D: Disk>(
-    rt: &R,
-    alloc: Global,
-    file: FileDesk<J>,
-    vault: &Mutex<Safe<J, D>>,
-    book: &Mutex<Shelf<J>>,
-    limit: u32,
-) -> (FileDesk<J>, Result<u32, SafeFault>)
-    ensures few { IfOk result.1 (λ n. n ≤ limit) }
-    ensures fault { IfErr result.1 (IsFaultSince D.view J.ground.opened) }
-{
-    let mut vault = vault.lock(rt);
-    vault.stage_file(rt, alloc, book, file, limit)
-}
-
-/// The same of the file that lies in a slot.
-fn stage_in<R: Wait, J: Opening, D: Disk>(
-    rt: &R,
-    alloc: Global,
-    slot: &mut Slot<J>,
-    vault: &Mutex<Safe<J, D>>,
-    book: &Mutex<Shelf<J>>,
-    limit: u32,
-) -> Result<u32, SafeFault>
-    ensures few { IfOk result (λ n. n ≤ limit) }
-    ensures fault { IfErr result (IsFaultSince D.view J.ground.opened) }
-{
-    if !matches!(slot, Slot::File(_)) {
-        return Ok(0);
-    }
-    match mem::replace(slot, Slot::Empty) {
-        Slot::File(file) => {
-            let (file, staged) = stage_held(rt, alloc, file, vault, book, limit);
-            slot.lay(Slot::File(file));
-            staged
-        }
-        other => {
-            slot.lay(other);
-            Ok(0)
+impl<R: Wait, J: Opening, D: Disk, G: Gate> Context<'_, '_, R, J, D, G> {
+    /// Lets changed blocks of the file that lies in a slot wait in memory. It lies there again then.
+    fn stage_in(&self, slot: &mut Slot<J>, limit: u32) -> Result<u32, SafeFault>
+        ensures file { (what : ℕ) → Has slot.old sought.File what → Has slot.new sought.File what }
+        ensures few { IfOk result (λ n. n ≤ limit) }
+        ensures fault { IfErr result (IsFaultSince D.view J.ground.opened) }
+    {
+        match mem::replace(slot, Slot::Empty) {
+            Slot::File(file) => {
+                let (file, staged) = self
+                    .vault()
+                    .stage_file(self.rt, self.alloc, &self.locks.book, file, limit);
+                slot.lay(Slot::File(file));
+                staged
+            }
+            other => {
+                slot.lay(other);
+                Ok(0)
+            }
         }
     }
-}
 
-/// Adds a file to a list.
-fn list(files: &mut BTreeSet<Pnode>, file: Pnode) -> Result<(), AllocError> {
-    files.insert(file)?;
-    Ok(())
-}
-
-/// Makes the entries durable that were made before. Registry and book are free while the disk is at work.
-fn flush_entries<R: Wait, J: Opening, D: Disk, G: Gate>(
-    locks: &Locks<'_, J, G>,
-    vault: &Mutex<Safe<J, D>>,
-    rt: &R,
-    alloc: Global,
-) -> Result<Receipt, SafeFault>
-    ensures { IfErr result (IsFaultSince D.view J.ground.opened) }
-{
-    let registry = locks.registry.lock(rt);
-    let mut vault = vault.lock(rt);
-    vault.flush_history(rt, alloc, &locks.book, registry)
-}
-
-/// Lets changed blocks of a file wait in memory.
-fn stage_object<R: Wait, J: Opening, D: Disk, G: Gate>(
-    locks: &Locks<'_, J, G>,
-    vault: &Mutex<Safe<J, D>>,
-    rt: &R,
-    alloc: Global,
-    file: Pnode,
-    limit: u32,
-) -> Result<u32, SafeFault>
-    ensures few { IfOk result (λ n. n ≤ limit) }
-    ensures fault { IfErr result (IsFaultSince D.view J.ground.opened) }
-{
-    let Some(lock) = locks.slot(file) else {
-        return Ok(0);
-    };
-    let mut slot = lock.lock(rt);
-    stage_in(rt, alloc, &mut slot, vault, &locks.book, limit)
-}
-
-/// Lets changed blocks of these files wait in memory, until they are so many in all. It takes those from the list that have no more.
-fn stage_listed<R: Wait, J: Opening, D: Disk, G: Gate>(
-    locks: &Locks<'_, J, G>,
-    vault: &Mutex<Safe<J, D>>,
-    rt: &R,
-    alloc: Global,
-    files: &mut BTreeSet<Pnode>,
-    limit: u32,
-) -> Result<u32, SafeFault>
-    ensures few { IfOk result (λ n. n ≤ limit) }
-    ensures fault { IfErr result (IsFaultSince D.view J.ground.opened) }
-{
-    let mut staged = 0;
-    while let Some(file) = files.pop_first() {
-        staged += stage_object(locks, vault, rt, alloc, file, limit - staged)?;
-        if staged == limit {
-            list(files, file)?;
-            return Ok(staged);
-        }
+    /// Lets changed blocks of a file wait in memory.
+    fn stage_object(&self, file: Pnode, limit: u32) -> Result<u32, SafeFault>
+        ensures few { IfOk result (λ n. n ≤ limit) }
+        ensures fault { IfErr result (IsFaultSince D.view J.ground.opened) }
+    {
+        let Some(lock) = self.locks.slot(file) else {
+            return Ok(0);
+        };
+        let mut slot = lock.lock(self.rt);
+        self.stage_in(&mut slot, limit)
     }
-    Ok(staged)
-}
 
-/// Lets changed blocks wait in memory, by ascending numbers of the files, until they are so many in all.
-fn stage_files<R: Wait, J: Opening, D: Disk, G: Gate>(
-    locks: &Locks<'_, J, G>,
-    vault: &Mutex<Safe<J, D>>,
-    rt: &R,
-    alloc: Global,
-    limit: u32,
-) -> Result<u32, SafeFault>
-    ensures few { IfOk result (λ n. n ≤ limit) }
-    ensures fault { IfErr result (IsFaultSince D.view J.ground.opened) }
-{
-    let mut files = locks.take_changed(rt, alloc);
-    let staged = stage_listed(locks, vault, rt, alloc, &mut files, limit);
-    let kept = locks.keep_changed(rt, files);
-    // A fault of the disk is told before want of memory for the list.
-    let count = staged?;
-    kept?;
-    Ok(count)
-}
+    /// Lets changed blocks of these files wait in memory, until they are so many in all. It takes those from the list that have no more.
+    fn stage_listed(&self, files: &mut BTreeSet<Pnode>, limit: u32) -> Result<u32, SafeFault>
+        ensures few { IfOk result (λ n. n ≤ limit) }
+        ensures fault { IfErr result (IsFaultSince D.view J.ground.opened) }
+    {
+        let mut staged = 0;
+        while let Some(file) = files.pop_first() {
+            staged += self.stage_object(file, limit - staged)?;
+            if staged == limit {
+                return match files.insert(file) {
+                    Ok(_) => Ok(staged),
+                    Err(_) => Err(SafeFault::NoMemory),
+                };
+            }
+        }
+        Ok(staged)
+    }
 
-/// Makes the entries durable, and then lets changed blocks wait.
-fn stage_each<R: Wait, J: Opening, D: Disk, G: Gate>(
-    locks: &Locks<'_, J, G>,
-    vault: &Mutex<Safe<J, D>>,
-    rt: &R,
-    alloc: Global,
-    limit: u32,
-) -> Result<u32, SafeFault>
-    ensures few { IfOk result (λ n. n ≤ limit) }
-    ensures fault { IfErr result (IsFaultSince D.view J.ground.opened) }
-{
-    match flush_entries(locks, vault, rt, alloc) {
-        Ok(_) => stage_files(locks, vault, rt, alloc, limit),
-        Err(fault) => Err(fault),
+    /// Makes the entries durable, and then lets changed blocks wait, by ascending numbers of the files, until they are so many in all.
+    /// Registry and book are free while the disk is at work.
+    fn stage_all(&self, limit: u32) -> Result<u32, SafeFault>
+        ensures few { IfOk result (λ n. n ≤ limit) }
+        ensures fault { IfErr result (IsFaultSince D.view J.ground.opened) }
+    {
+        let registry = self.locks.registry.lock(self.rt);
+        self.vault()
+            .flush_history(self.rt, self.alloc, &self.locks.book, registry)?;
+        let mut files = self.locks.take_changed(self.rt, self.alloc);
+        let staged = self.stage_listed(&mut files, limit);
+        let kept = self.locks.keep_changed(self.rt, files);
+        // A fault of the disk is told before want of memory for the list.
+        let count = staged?;
+        kept?;
+        Ok(count)
     }
 }
 
@@ -174,7 +102,13 @@ pub fn trickle<R: Wait, J: Opening, D: Disk, G: Gate>(
     ensures few { IfOk result (λ n. n ≤ limit) }
     ensures stopped { IfErr result (IsStopped D.view J.ground.opened) }
 {
-    match stage_each(locks, vault, rt, alloc, limit) {
+    let context = Context {
+        locks,
+        vault,
+        rt,
+        alloc,
+    };
+    match context.stage_all(limit) {
         Ok(count) => Ok(count),
         Err(fault) => Err(ended_by(fault)),
     }

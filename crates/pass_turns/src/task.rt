@@ -1,17 +1,18 @@
 //! The processes of a run as tasks.
-ghost use Rattle.std.specs.Prelude.{◌≡◌, ◌<◌, ◌≤◌, ◌+◌, ◌++◌, vec_len, vec_capacity, false, true, Some, None, IsNone, IsSome, length};
+ghost use Rattle.std.specs.Prelude.{◌≡◌, ◌<◌, ◌≤◌, ◌+◌, ◌++◌, vec_len, vec_capacity, false, true, Option, Some, None, IsNone, IsSome, length};
 ghost use Rattle.pass_trace.specs.TraceLines.{plain_trace};
 ghost use Rattle.pass_sched.specs.Turns.{Rises};
 ghost use Rattle.pass_turns.specs.Meetings.{GoesOn, IsLater};
 ghost use Rattle.pass_turns.specs.Turners.{IsKnown, IsStill, task_trail};
 ghost use Rattle.pass_turns.specs.Tasks.{kid_tasks, new_task};
-ghost use Rattle.pass_walk.specs.Walkers.{IsKidIfAny, IsLivingOf, IsWalkerOf, WalkerWent};
+ghost use Rattle.pass_walk.specs.declared.walker.Living.{Living as AnyLiving};
+ghost use Rattle.pass_walk.specs.Walkers.{IsKidIfAny, IsLivingOf, IsWalkerOf, WalkerWent, left_of};
 
 use pass_hold::Whose;
 use pass_proc::Trail;
 use pass_progress::Calls;
 use pass_sched::{Task, Turn};
-use pass_walk::{Cause, Ground, Living, Walker, Went, met};
+use pass_walk::{Cause, Ground, Living, Walker, Went, met, step};
 use std::marker::Model;
 use std::mem;
 
@@ -85,14 +86,7 @@ impl<'a, J: Whose, S: Calls<J>> Task for Turner<'a, J, S> {
     }
 
     fn turn(&mut self, born: &mut Vec<Turner<'a, J, S>>) -> Turn {
-        let walker = mem::replace(&mut self.walker, Walker::Gone);
-        let Went {
-            walker,
-            answer,
-            kid,
-        } = go(walker, self.ground);
-        bear(self.ground, kid, born);
-        drop(mem::replace(&mut self.walker, walker));
+        let answer = walk(&mut self.walker, self.ground, born);
         self.turns = one_more(self.turns);
         self.last = Some(answer);
         self.waits = is_waiting(answer);
@@ -128,6 +122,47 @@ fn bear<'a, J: Whose, S: Calls<J>>(
     if let Some(kid) = kid {
         born.push_reserved(Turner::new(ground, kid));
     }
+}
+
+/// Takes a turn of a process, where it lies if that is the call of a line, and puts a child that it bears behind those that were born.
+fn walk<'a, J: Whose, S: Calls<J>>(
+    walker: &mut Walker<J>,
+    ground: &'a Ground<'a, S>,
+    born: &mut Vec<Turner<'a, J, S>>,
+) -> Turn
+    requires walker { IsWalkerOf J.book.session J.places (plain_trace ground.now.plan.now) walker.old }
+    requires room { vec_len born.old + left_of (plain_trace ground.now.plan.now) walker.old ≤ vec_capacity born.old }
+    ensures went { (kid : Option (AnyLiving _)) × WalkerWent J.book.session J.places (plain_trace ground.now.plan.now) walker.old (record { walker = walker.new; answer = result; kid = kid })
+        × (born.new.items ≡ born.old.items ++ kid_tasks ground.now.plan.now kid) }
+    ensures room { vec_capacity born.old ≤ vec_capacity born.new }
+{
+    match step(walker, ground) {
+        Some(answer) => answer,
+        None => walk_out(walker, ground, born),
+    }
+}
+
+/// The same of a process that is taken out of its place for it. Few turns are so: it is large.
+fn walk_out<'a, J: Whose, S: Calls<J>>(
+    walker: &mut Walker<J>,
+    ground: &'a Ground<'a, S>,
+    born: &mut Vec<Turner<'a, J, S>>,
+) -> Turn
+    requires walker { IsWalkerOf J.book.session J.places (plain_trace ground.now.plan.now) walker.old }
+    requires room { vec_len born.old + left_of (plain_trace ground.now.plan.now) walker.old ≤ vec_capacity born.old }
+    ensures went { (kid : Option (AnyLiving _)) × WalkerWent J.book.session J.places (plain_trace ground.now.plan.now) walker.old (record { walker = walker.new; answer = result; kid = kid })
+        × (born.new.items ≡ born.old.items ++ kid_tasks ground.now.plan.now kid) }
+    ensures room { vec_capacity born.old ≤ vec_capacity born.new }
+{
+    let taken = mem::replace(walker, Walker::Gone);
+    let Went {
+        walker: after,
+        answer,
+        kid,
+    } = go(taken, ground);
+    bear(ground, kid, born);
+    drop(mem::replace(walker, after));
+    answer
 }
 
 /// A turn of a process, which makes none where it has made its exit or was left.

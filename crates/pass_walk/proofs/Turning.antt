@@ -20,7 +20,9 @@ use Rattle.pass_walk.specs.declared.walker.Went.{Went}
 use Rattle.pass_progress.specs.Calls.{request_with}
 use Rattle.pass_walk.specs.Calls.{HasForked, HasNotForked}
 use Rattle.pass_walk.specs.Lefts.{left_at}
-use Rattle.pass_walk.specs.Outcomes.{HasBorne, IsAfter, outcome_of, unfinished_of}
+use Rattle.pass_walk.specs.declared.walker.Outcome.{Outcome}
+use Rattle.pass_walk.specs.declared.walker.Outcome.TheVariants as outcomes
+use Rattle.pass_walk.specs.Outcomes.{HasBorne, IsAfter, gone_on, outcome_of, unfinished_of}
 use Rattle.pass_walk.specs.Walkers.{HasWent, IsLivingOf, pnode_among}
 use Rattle.pass_walk.proofs.CallTurns.{called, line_call, may_make, request_is}
 use Rattle.pass_walk.proofs.Forks.{forked, may_fork, not_forked}
@@ -34,6 +36,17 @@ fork_at lines place m there child is l at = ap (λ (l : Line). l.call) (sym (som
 pub other_at : (lines : List TraceLine) (place : ℕ) (m : TraceLine) → slice_get lines place ≡ Some m → ((child : ℕ) → call_of m.command ≢ fork_as child)
     → (l : Line) (child : ℕ) → slice_get (plain_trace lines) place ≡ Some l → l.call ≢ fork_as child
 other_at lines place m there apart l child at forks = apart child (ap (λ (l : Line). l.call) (some_is (plain_line m) l (sym (plain_at lines place m there) ∙ at)) ∙ forks)
+
+-- a process that has gone on is as after its call
+settled : {J : Type 0} (outcome : Outcome) (next : Option ℕ) (left : ℕ) (l : Living J) (w : Went J) → IsAfter outcome (gone_on outcome next l).line left (gone_on outcome next l) w → IsAfter outcome next left l w
+settled outcomes.Goes next left l w is = is
+settled outcomes.Waits next left l w is = is
+settled (outcomes.Fails cause) next left l w is = is
+
+pub after_going_on : {J : Type 0} (outcome found : Outcome) (next : Option ℕ) (left : ℕ) (l gone : Living J) (w : Went J) → found ≡ outcome → gone ≡ gone_on found next l
+    → IsAfter found gone.line left gone w → IsAfter outcome next left l w
+after_going_on outcome found next left l gone w same is after =
+    subst (λ o. IsAfter o next left l w) same (settled found next left l w (subst (λ (x : Living _). IsAfter found x.line left x w) is after))
 
 module _ {J : Type 0} (session : Session) (lines : List TraceLine) (behind : AreLinesBehind [] (plain_trace lines)) (l : Living J) (is : IsLivingOf session (plain_trace lines) l) (place : ℕ) (line : l.line ≡ Some place) where
   module _ (m : TraceLine) (there : slice_get lines place ≡ Some m) where

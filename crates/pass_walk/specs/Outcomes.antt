@@ -1,5 +1,5 @@
 -- What the answer of a store makes of a process.
-use Rattle.std.specs.Prelude.{ℕ, ◌==◌, ◌≡◌, Option, Some, None, Result, Ok, Err, if◌then◌else◌}
+use Rattle.std.specs.Prelude.{ℕ, ◌==◌, ◌≡◌, List, Option, Some, None, Result, Ok, Err, if◌then◌else◌}
 use Rattle.pass_answer.specs.declared.answer.CallEnd.{CallEnd}
 use Rattle.pass_answer.specs.declared.answer.CallEnd.TheVariants as ends
 use Rattle.pass_answer.specs.declared.answer.Moved.{Moved}
@@ -15,7 +15,10 @@ use Rattle.pass_walk.specs.declared.walker.Outcome.{Outcome}
 use Rattle.pass_walk.specs.declared.walker.Outcome.TheVariants as outcomes
 use Rattle.pass_walk.specs.declared.walker.Walker.TheVariants as walker
 use Rattle.pass_walk.specs.declared.walker.Went.{Went}
-use Rattle.pass_walk.specs.Walkers.{pnode_among}
+use Rattle.pass_plain.specs.Sessions.{Session}
+use Rattle.pass_plain.specs.Traces.{Line}
+use Rattle.pass_walk.specs.Lefts.{left_at}
+use Rattle.pass_walk.specs.Walkers.{HasWent, pnode_among}
 
 abbrev pub unfinished_of : Cause → CallEnd → Outcome
 unfinished_of after_fault ends.Again = outcomes.Waits
@@ -38,6 +41,17 @@ abbrev pub IsAfter : {J : Type 0} → Outcome → Option ℕ → ℕ → Living 
 IsAfter outcomes.Goes next left l w = w ≡ record { walker = walker.Living (record l { line = next }); answer = turn.Moved; kid = None }
 IsAfter outcomes.Waits next left l w = w ≡ record { walker = walker.Living l; answer = turn.Waiting; kid = None }
 IsAfter (outcomes.Fails cause) next left l w = w ≡ record { walker = walker.Left (left_as l left cause); answer = turn.Failed; kid = None }
+
+-- a call that is over goes on with the next line
+abbrev pub gone_on : {J : Type 0} → Outcome → Option ℕ → Living J → Living J
+gone_on outcomes.Goes next l = record l { line = next }
+gone_on outcomes.Waits next l = l
+gone_on (outcomes.Fails cause) next l = l
+
+-- a process has made the call of its line where it lies: it has taken its turn, but is still to be left where that failed
+abbrev pub HasMade : {J : Type 0} → Session → ℕ → List Line → Living J → Outcome → Living J → Type 0
+HasMade {J} session places trace before outcome l =
+    (w : Went J) → IsAfter outcome l.line (left_at trace before.process before.line) l w → HasWent session places trace before w
 
 -- the process after a fork: at its next line, with this child more
 pub record HasBorne {J : Type 0} (child : ℕ) (born : ProcView) (next first : Option ℕ) (l : Living J) (w : Went J) : Type 0 where

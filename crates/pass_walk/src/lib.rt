@@ -38,4 +38,4 @@ pub use ends::{Cause, Last, Ran};
 pub use ground::Ground;
 pub use meeting::met;
 pub use plan::Plan;
-pub use walker::{Ended, Left, Living, Walker, Went};
+pub use walker::{Ended, Left, Living, Walker, Went, step};

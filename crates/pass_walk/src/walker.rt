@@ -1,10 +1,13 @@
 //! A process of a trace over a store, and its turns.
 ghost use Rattle.std.specs.HashMap.{spare};
-ghost use Rattle.std.specs.Prelude.{◌≡◌, ◌≢◌, ◌<◌, ◌≤◌, ℕ, None, Some, IfSome, IsSome, slice_get, true};
+ghost use Rattle.std.specs.Prelude.{◌≡◌, ◌≢◌, ◌<◌, ◌≤◌, ℕ, None, Some, IfSome, IsNone, IsSome, slice_get, true};
 ghost use Rattle.pass_plain.specs.Traces.{Line as AnyLine, fork_as, waited_for};
 ghost use Rattle.pass_trace.specs.TraceLines.{call_of, plain_trace};
-ghost use Rattle.pass_walk.specs.Outcomes.{HasBorne, IsAfter, left_as, outcome_of, unfinished_of};
-ghost use Rattle.pass_walk.specs.Walkers.{HasWent, IsLivingOf, pnode_among};
+ghost use Rattle.pass_walk.specs.declared.walker.Living.{Living as AnyLiving};
+ghost use Rattle.pass_walk.specs.declared.walker.Walker.TheVariants as kinds;
+ghost use Rattle.pass_walk.specs.Lefts.{left_at};
+ghost use Rattle.pass_walk.specs.Outcomes.{HasBorne, HasMade, IsAfter, gone_on, left_as, outcome_of, unfinished_of};
+ghost use Rattle.pass_walk.specs.Walkers.{HasWent, IsLivingOf, IsWalkerOf, WalkerWent, pnode_among};
 
 use crate::children::Children;
 use crate::ends::Cause;
@@ -18,6 +21,7 @@ use pass_progress::{Calls, between};
 use pass_sched::Turn;
 use pass_trace::Command;
 use std::alloc::Global;
+use std::mem;
 
 /// A living process: its number in the trace, the place of its next line, the children that it has forked, and its state.
 #[derive(Drop)]
@@ -256,16 +260,105 @@ impl<J: Whose> Living<J> {
         requires other { (l : AnyLine) (child : ℕ) → slice_get (plain_trace ground.now.plan.now) place ≡ Some l → l.call ≢ fork_as child }
         ensures { HasWent J.book.session J.places (plain_trace ground.now.plan.now) self result }
     {
+        let mut living = self;
+        let left = left_to(&living, ground);
+        let outcome = living.make(ground, place);
+        let next = living.line;
+        living.after(outcome, next, left)
+    }
+
+    /// Makes the call of its line where it lies, and goes on to its next line if that is over. If it fails the process is to be left.
+    fn make<'a, S: Calls<J>>(&mut self, ground: &Ground<'a, S>, place: usize) -> Outcome
+        requires living { IsLivingOf J.book.session (plain_trace ground.now.plan.now) self.old }
+        requires line { self.old.line ≡ Some place }
+        requires other { (l : AnyLine) (child : ℕ) → slice_get (plain_trace ground.now.plan.now) place ≡ Some l → l.call ≢ fork_as child }
+        ensures { HasMade J.book.session J.places (plain_trace ground.now.plan.now) self.old result self.new }
+    {
         standing();
         lives();
         ground.plan.ordered();
-        let mut living = self;
-        between(&living.proc);
-        let left = ground.plan.left(living.process, living.line);
+        between(&self.proc);
         let next = ground.plan.next(place);
         let command = &ground.plan.line(place).command;
-        let waited = living.waited(command);
-        let end = ground.make(&mut living.proc, command, waited);
-        living.after(answered(&end), next, left)
+        let waited = self.waited(command);
+        let end = ground.make(&mut self.proc, command, waited);
+        let outcome = answered(&end);
+        self.go_on(outcome, next);
+        outcome
+    }
+
+    /// Goes on to this line if its call is over.
+    fn go_on(&mut self, outcome: Outcome, next: Option<usize>)
+        ensures { self.new ≡ gone_on outcome next self.old }
+    {
+        match outcome {
+            Outcome::Goes => self.line = next,
+            Outcome::Waits | Outcome::Fails(_) => {}
+        }
+    }
+
+    /// Makes the call of its next line where it lies. It makes none, and stays as it is, where it has no such line or that is a fork.
+    fn step<'a, S: Calls<J>>(&mut self, ground: &Ground<'a, S>) -> Option<Outcome>
+        requires { IsLivingOf J.book.session (plain_trace ground.now.plan.now) self.old }
+        ensures made { IfSome result (λ outcome. HasMade J.book.session J.places (plain_trace ground.now.plan.now) self.old outcome self.new) }
+        ensures none { IsNone result → self.new ≡ self.old }
+    {
+        let Some(place) = self.line else {
+            return None;
+        };
+        let line = ground.plan.line(place);
+        match &line.command {
+            Command::Fork { .. } => None,
+            _ => {
+                ground.calls.at_line(line.process, line.number);
+                Some(self.make(ground, place))
+            }
+        }
+    }
+}
+
+/// How many turns are left to a living process.
+fn left_to<'a, J: Whose, S>(living: &Living<J>, ground: &Ground<'a, S>) -> u64
+    requires { IsLivingOf J.book.session (plain_trace ground.now.plan.now) living.now }
+    ensures { result ≡ left_at (plain_trace ground.now.plan.now) living.now.process living.now.line }
+{
+    ground.plan.left(living.process, living.line)
+}
+
+/// A living process makes no further turn.
+fn leave<J: Whose>(walker: &mut Walker<J>, left: u64, cause: Cause)
+    requires { (l : AnyLiving _) × (walker.old ≡ kinds.Living l) }
+    ensures { (l : AnyLiving _) → walker.old ≡ kinds.Living l → walker.new ≡ kinds.Left (left_as l left cause) }
+{
+    match mem::replace(walker, Walker::Gone) {
+        Walker::Living(living) => {
+            drop(mem::replace(walker, Walker::Left(living.leave(left, cause))));
+        }
+        _ => unreachable!(),
+    }
+}
+
+/// Takes a turn of a process where it lies, if that is the call of a line. It takes none, and all stays as it is, where the turn is a
+/// fork or an exit, or where the process makes no further turn.
+pub fn step<'a, J: Whose, S: Calls<J>>(
+    walker: &mut Walker<J>,
+    ground: &Ground<'a, S>,
+) -> Option<Turn>
+    requires { IsWalkerOf J.book.session J.places (plain_trace ground.now.plan.now) walker.old }
+    ensures went { IfSome result (λ answer. WalkerWent J.book.session J.places (plain_trace ground.now.plan.now) walker.old (record { walker = walker.new; answer = answer; kid = None })) }
+    ensures none { IsNone result → walker.new ≡ walker.old }
+{
+    let Walker::Living(living) = walker else {
+        return None;
+    };
+    let left = left_to(living, ground);
+    match living.step(ground) {
+        None => None,
+        Some(Outcome::Goes) => Some(Turn::Moved),
+        Some(Outcome::Waits) => Some(Turn::Waiting),
+        Some(Outcome::Fails(cause)) => {
+            leave(walker, left, cause);
+            Some(Turn::Failed)
+        }
     }
 }

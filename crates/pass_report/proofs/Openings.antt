@@ -1,5 +1,5 @@
 -- What two starts that differ in the bytes of their files have in common, and the versions of a sound one.
-use Rattle.std.proofs.Common.{◌≡◌, ◌+◌, ◌==◌, ℕ, List, [], ◌∷◌, ◌++◌, length, ◌∙◌, ap, sym, refl, Bool, true, false, ◌||◌, map}
+use Rattle.std.proofs.Common.{◌≡◌, ◌==◌, ℕ, List, [], ◌∷◌, ◌++◌, length, ◌∙◌, ap, sym, refl, Bool, true, false, ◌||◌, map}
 use Rattle.std.specs.Prelude.{Option, Some, None, find, filter_map, is_some, option_map, if◌then◌else◌}
 use Rattle.std.specs.Option.{option_map_or}
 use Rattle.std.specs.List.{cons_option}

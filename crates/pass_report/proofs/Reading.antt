@@ -16,7 +16,7 @@ use Rattle.pass_trace.specs.TraceLines.{plain_line, plain_trace}
 use Rattle.pass_entry.specs.declared.entry.Entry.{Entry}
 use Rattle.pass_entry.specs.declared.entry.Act.TheVariants as act
 use Rattle.pass_entry.specs.declared.objects.Kind.TheVariants as kind
-use Rattle.pass_entry.proofs.Places.{take_one_more, parted, slice_get-last}
+use Rattle.pass_entry.proofs.Places.{take_one_more, slice_get-last}
 use Rattle.pass_plain.specs.declared.request.Request.TheVariants as requests
 use Rattle.pass_plain.specs.Histories.{call_entries, pnode_of}
 use Rattle.pass_plain.specs.Sessions.{Session}

@@ -2,6 +2,7 @@ pub mod Reports
 pub mod Passing
 pub mod Trails
 pub mod Logging
+pub mod Answered
 pub mod Recorders
 pub mod Standings
 pub mod Callers

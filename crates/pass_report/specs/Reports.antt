@@ -1,6 +1,6 @@
 -- The report of a run: what each call was answered, the version graph, the objects, who waits, and how it ended.
 -- The format is this project's own.
-use Rattle.std.specs.Prelude.{ℕ, ◌-◌, ◌≡◌, Bool, false, not, ◌&&◌, List, [], ◌∷◌, ◌++◌, Option, Some, None, codes, length, map, filter_map, flat_map, find, fold, zip, slice_get, option_map, if◌then◌else◌, ◌==◌}
+use Rattle.std.specs.Prelude.{ℕ, ◌-◌, Bool, false, not, ◌&&◌, List, [], ◌∷◌, ◌++◌, Option, Some, None, codes, length, filter_map, flat_map, find, fold, zip, slice_get, option_map, if◌then◌else◌, ◌==◌}
 use Rattle.std.specs.Option.{option_map_or, option_to_list}
 use Rattle.std.specs.List.{enumerate_from, list_any}
 use Rattle.std.specs.Ordering.{nat_cmp}
@@ -21,7 +21,6 @@ use Rattle.pass_entry.specs.declared.objects.Node.{Node}
 use Rattle.pass_entry.specs.declared.record.Record.{Record}
 use Rattle.pass_entry.specs.declared.record.Record.TheVariants as log
 use Rattle.pass_plain.specs.declared.start.Start.{Start}
-use Rattle.pass_plain.specs.declared.start.StartFile.{StartFile}
 use Rattle.pass_plain.specs.Histories.{bytes_at, made_object}
 use Rattle.pass_plain.specs.Sessions.{Session}
 use Rattle.pass_plain.specs.Outlines.{SameButBytes}

@@ -1,5 +1,5 @@
 //! One file without its bytes.
-ghost use Rattle.std.specs.Prelude.{ℕ, ◌≡◌, ◌==◌, ◌||◌, ◌&&◌, ◌+◌, ◌*◌, ◌<◌, ◌≤◌, ◌^◌, nat_lt, vec_len, IfOk};
+ghost use Rattle.std.specs.Prelude.{ℕ, ◌≡◌, ◌≢◌, ◌==◌, ◌||◌, ◌&&◌, ◌+◌, ◌*◌, ◌<◌, ◌≤◌, ◌^◌, nat_lt, vec_len, IfOk};
 ghost use Rattle.std.specs.List.{list_any};
 ghost use Rattle.pass_entry.specs.Limits.{block_count, block_size};
 ghost use Rattle.pass_plain.specs.Sessions.{opening_size as opening_size_of, opening_rows as opening_rows_of};
@@ -26,6 +26,19 @@ fn touches(at: u64, len: u64, block: u64) -> bool
     ensures { result ≡ touches_of at len block }
 {
     len > 0 && block * BLOCK_SIZE < at + len && at < (block + 1) * BLOCK_SIZE
+}
+
+// From which block to before which one of a file these bytes lie.
+fn blocks_between(low: u64, high: u64) -> (u64, u64)
+    requires { low ≤ high }
+    ensures order { (result.0 ≤ result.1) × (result.1 ≤ block_count) }
+    ensures low { result.0 * block_size ≤ low }
+    ensures high { (block : ℕ) → result.1 ≤ block → block < block_count → high ≤ block * block_size }
+{
+    let count = u64::from(BLOCK_COUNT);
+    let first = low / BLOCK_SIZE;
+    let end = high / BLOCK_SIZE + 1;
+    (first.min(count), end.min(count))
 }
 
 // How many bytes of a block lie within a size.
@@ -73,14 +86,35 @@ impl Blocks {
             && range_len(self.size, block) != range_len(size, block)
     }
 
+    // From where to where in the file bytes change where some are written and the file gets a size.
+    fn stretch(&self, at: u64, len: u64, size: u64) -> (u64, u64)
+        requires { 0 < len → at + len < 2 ^ 63 }
+        ensures order { result.0 ≤ result.1 }
+        ensures written { 0 < len → (result.0 ≤ at) × (at + len ≤ result.1) }
+        ensures sized { self.now.size ≢ size → (result.0 ≤ self.now.size) × (result.0 ≤ size) × (self.now.size ≤ result.1) × (size ≤ result.1) }
+    {
+        if len > 0 && size == self.size {
+            return (at, at + len);
+        }
+        let low = self.size.min(size);
+        let high = self.size.max(size);
+        if len > 0 {
+            (low.min(at), high.max(at + len))
+        } else {
+            (low, high)
+        }
+    }
+
     // How many blocks get a digest where bytes are written and the file gets a size.
     fn digests(&self, at: u64, len: u64, size: u64) -> u64
         requires { 0 < len → at + len < 2 ^ 63 }
         ensures count { result ≡ passing (gets_digest (row_at self.now.rows.items) self.now.size at len size) block_count }
         ensures few { result ≤ block_count }
     {
+        let (low, high) = self.stretch(at, len, size);
+        let (first, end) = blocks_between(low, high);
         let mut digests = 0;
-        for block in 0..u64::from(BLOCK_COUNT) {
+        for block in first..end {
             if touches(at, len, block) || self.is_stretched(size, block) {
                 digests += 1;
             }
@@ -94,7 +128,11 @@ impl Blocks {
         ensures size { self.new.size ≡ self.old.size }
         ensures rows { (block : ℕ) → block < block_count → row_at self.new.rows.items block ≡ (row_at self.old.rows.items block || touches_of at len block) }
     {
-        for block in 0..u64::from(BLOCK_COUNT) {
+        if len == 0 {
+            return;
+        }
+        let (first, end) = blocks_between(at, at + len);
+        for block in first..end {
             if touches(at, len, block) {
                 self.rows[block as usize] = true;
             }

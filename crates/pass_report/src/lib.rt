@@ -1,11 +1,12 @@
 //! The report of a run: what each call was answered, the version graph, the objects, and who waits.
 //!
-//! `report` of a run's history is, byte for byte, the report that the definitions give (`Reports`): each answered call with its
+//! `report` of a run's history is, byte for byte, the report that the definitions give (`Reports`), whatever the workers: each answered call with its
 //! nodes, the edges of the history's records, the objects with their last versions, who waits, and the counts. It keeps one
 //! `Versions` per object and compares nothing with the slow reference; the clause does. For a report a history has to be legal in a
 //! session with that start, and no more.
 #![tactic(auto)]
 
+mod answers;
 mod blocks;
 mod calls;
 mod files;

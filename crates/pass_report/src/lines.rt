@@ -6,7 +6,7 @@ ghost use Rattle.pass_entry.specs.Words.{kind_word, node_text};
 ghost use Rattle.pass_report.specs.Reports as reports;
 
 use crate::processes::bytes_at;
-use crate::trail::Trail;
+use crate::trail::node_at;
 use md5::{Digest, Md5};
 use pass_entry::{Act, Entry, Kind, Node, Pnode, Reply};
 use std::alloc::AllocError;
@@ -19,50 +19,50 @@ pub type Edge = (Node, Node);
 pub fn write_call(
     text: &mut String,
     history: &[Entry],
-    trail: &Trail,
+    nodes: &[Node],
     entry: &Entry,
     node: Node,
 ) -> Result<(), AllocError>
-    ensures { OnOk result (string_bytes text.new ≡ string_bytes text.old ++ reports.call_line history.now trail.now.nodes.items entry.now node) }
+    ensures { OnOk result (string_bytes text.new ≡ string_bytes text.old ++ reports.call_line history.now nodes.now entry.now node) }
 {
     write!(
         text,
         "call {} {} {} ",
         entry.who.0, entry.number, entry.call
     )?;
-    write_answer(text, history, trail, entry, node)?;
+    write_answer(text, history, nodes, entry, node)?;
     text.push_str("\n")
 }
 
 fn write_answer(
     text: &mut String,
     history: &[Entry],
-    trail: &Trail,
+    nodes: &[Node],
     entry: &Entry,
     node: Node,
 ) -> Result<(), AllocError>
-    ensures { OnOk result (string_bytes text.new ≡ string_bytes text.old ++ reports.answer_of history.now trail.now.nodes.items node entry.now.act entry.now.reply) }
+    ensures { OnOk result (string_bytes text.new ≡ string_bytes text.old ++ reports.answer_of history.now nodes.now node entry.now.act entry.now.reply) }
 {
     match &entry.reply {
         Reply::Fault(fault) => write!(text, "fault {fault}"),
-        _ => write_done(text, history, trail, &entry.act, node),
+        _ => write_done(text, history, nodes, &entry.act, node),
     }
 }
 
 fn write_done(
     text: &mut String,
     history: &[Entry],
-    trail: &Trail,
+    nodes: &[Node],
     act: &Act,
     node: Node,
 ) -> Result<(), AllocError>
-    ensures { OnOk result (string_bytes text.new ≡ string_bytes text.old ++ reports.act_answer history.now trail.now.nodes.items node act.now) }
+    ensures { OnOk result (string_bytes text.new ≡ string_bytes text.old ++ reports.act_answer history.now nodes.now node act.now) }
 {
     match act {
         Act::Attach { descriptor, .. } => write!(text, "pnode {}", descriptor.pnode),
         Act::AttachPipe { pnode, .. } => write!(text, "pnode {pnode}"),
         Act::Born { .. } => write!(text, "pnode {}", node.pnode),
-        Act::Gain { out, .. } => write_read(text, bytes_at(history, *out), trail.node_at(*out)),
+        Act::Gain { out, .. } => write_read(text, bytes_at(history, *out), node_at(nodes, *out)),
         Act::Put { bytes, .. } => write_written(text, bytes.as_bytes().len(), node),
         Act::Push { bytes, .. } => write_written(text, bytes.as_bytes().len(), node),
         Act::Freeze => write!(text, "node {node}"),

@@ -1,19 +1,18 @@
 //! One pass over a history.
-ghost use Rattle.std.specs.Prelude.{◌≡◌, ◌++◌, ◌+◌, ◌<◌, ◌&&◌, [], not, length, IfOk, OnOk, string_bytes, if◌then◌else◌};
+ghost use Rattle.std.specs.Prelude.{◌≡◌, ◌+◌, ◌<◌, ◌&&◌, not, length, IfOk, OnOk};
 ghost use Rattle.pass_entry.specs.declared.entry.Entry.{Entry as AnyEntry};
 ghost use Rattle.std.specs.Prelude.{List};
 ghost use Rattle.pass_plain.specs.Sessions.{Session};
 ghost use Rattle.pass_plain.specs.Legal.{is_start};
-ghost use Rattle.pass_report.specs.Reports.{IsLegalFrom, call_line};
+ghost use Rattle.pass_report.specs.Reports.{IsLegalFrom};
 ghost use Rattle.pass_report.specs.Recorders.{HasPassed};
 
 use crate::calls::Calls;
 use crate::kinds::Kinds;
-use crate::lines::write_call;
 use crate::logged::Logged;
 use crate::processes::Processes;
 use crate::trail::Trail;
-use pass_entry::{CallName, Entry, Node};
+use pass_entry::{CallName, Entry};
 use pass_plain::Start;
 use std::alloc::{AllocError, Global};
 
@@ -24,29 +23,18 @@ pub struct Recorder {
     pub calls: Calls,
     pub kinds: Kinds,
     pub logged: Logged,
-    pub text: String,
+    /// For each entry, whether it ends a call that a process made.
+    pub answered: Vec<bool>,
     processes: Processes,
 }
 
-// Adds the line of the call that an entry ends, if it ends one.
-fn write_ended(
-    text: &mut String,
-    history: &[Entry],
-    trail: &Trail,
-    entry: &Entry,
-    node: Node,
-    ended: bool,
-) -> Result<(), AllocError>
-    ensures { OnOk result (string_bytes text.new ≡ string_bytes text.old ++ (if not (is_start entry.now.call) && ended then call_line history.now trail.now.nodes.items entry.now node else [])) }
+// The entry is the last one of a call that a process made.
+fn is_answered(entry: &Entry, ended: bool) -> bool
+    ensures { result ≡ (not (is_start entry.now.call) && ended) }
 {
     match entry.call {
-        CallName::Start => Ok(()),
-        _ => {
-            if ended {
-                write_call(text, history, trail, entry, node)?;
-            }
-            Ok(())
-        }
+        CallName::Start => false,
+        _ => ended,
     }
 }
 
@@ -61,7 +49,7 @@ impl Recorder {
             calls: Calls::new(alloc),
             kinds: Kinds::new(alloc),
             logged,
-            text: String::new(alloc),
+            answered: Vec::new(alloc),
             processes: Processes::new(alloc),
         })
     }
@@ -76,14 +64,7 @@ impl Recorder {
         let entry = &history[place];
         let turn = self.trail.note(start, entry)?;
         let ended = self.processes.ends_call(entry);
-        write_ended(
-            &mut self.text,
-            history,
-            &self.trail,
-            entry,
-            turn.node,
-            ended,
-        )?;
+        self.answered.push(is_answered(entry, ended))?;
         self.calls.note(entry, ended)?;
         self.kinds.note(entry)?;
         self.processes.note(&history[..place], entry)?;

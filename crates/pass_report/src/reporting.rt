@@ -11,6 +11,7 @@ ghost use Rattle.pass_report.specs.Kinds.{AreKinds};
 ghost use Rattle.pass_report.specs.Recorders.{HasPassed};
 ghost use Rattle.pass_report.specs.Standings.{lines_in, done_by, waiting_text};
 
+use crate::answers::write_answers;
 use crate::calls::Calls;
 use crate::kinds::Kinds;
 use crate::lines::{Edge, write_edge, write_end, write_object, write_waiting};
@@ -22,18 +23,22 @@ use pass_plain::Start;
 use pass_trace::Trace;
 use std::alloc::{AllocError, Global};
 use std::collections::BTreeSet;
+use std::thread::Threads;
 
 /// The report of a run of a trace: its calls' answers, the edges of its records, its objects, who waits, and how it ended.
 ///
 /// `start` may lack the bytes of its files: the report is that of each start that has them and of which the history is a run
-/// of the trace. It says `stuck` where a process of the trace is open, also where one could still move.
-pub fn report(
+/// of the trace. It says `stuck` where a process of the trace is open, also where one could still move. So many workers at most write the
+/// lines of the calls.
+pub fn report<R: Threads + Sync>(
+    rt: &R,
     alloc: Global,
     start: &Start,
     history: &[Entry],
     trace: &Trace,
+    workers: u32,
 ) -> Result<Vec<u8>, AllocError>
-    requires { (session : Session) × IsLegalFrom start.now history.now session }
+    requires known { (session : Session) × IsLegalFrom start.now history.now session }
     ensures { IfOk result (λ v. (full : AnyStart) → IsRunFrom start.now history.now trace.now.lines.items full → v.items ≡ report_of full history.now trace.now.lines.items) }
 {
     let recorder = record(alloc, start, history)?;
@@ -42,11 +47,21 @@ pub fn report(
         calls,
         kinds,
         logged,
-        mut text,
+        answered,
         ..
     } = recorder;
     let first = first_process(start, history);
     let standing = Standing::of(alloc, &trace.lines, &calls, first)?;
+    let mut text = write_answers(
+        rt,
+        alloc,
+        history,
+        trail.nodes(),
+        answered.as_slice(),
+        0,
+        history.len(),
+        workers,
+    )?;
     write_edges(&mut text, &logged.edges)?;
     write_objects(&mut text, start, &kinds, &trail)?;
     write_standing(&mut text, &standing)?;

@@ -134,6 +134,13 @@ fn out_of(act: &Act) -> Option<u64>
     }
 }
 
+/// The node at a place.
+pub(crate) fn node_at(nodes: &[Node], place: u64) -> Option<Node>
+    ensures { result ≡ slice_get nodes.now place }
+{
+    nodes.get(place as usize).copied()
+}
+
 impl Trail {
     /// Before the first entry.
     pub fn new(alloc: Global) -> Trail
@@ -146,11 +153,18 @@ impl Trail {
         }
     }
 
+    /// The nodes of the entries, by their places.
+    pub fn nodes(&self) -> &[Node]
+        ensures { result.now ≡ self.now.nodes.items }
+    {
+        self.nodes.as_slice()
+    }
+
     /// The node of the entry at a place.
     pub fn node_at(&self, place: u64) -> Option<Node>
         ensures { result ≡ slice_get self.now.nodes.items place }
     {
-        self.nodes.get(place as usize).copied()
+        node_at(self.nodes(), place)
     }
 
     /// The last version of an object.

@@ -1,6 +1,6 @@
 -- A run that follows another one over the same disk.
-use Rattle.std.proofs.Common.{◌≡◌, ◌≤◌, ◌<◌, ◌+◌, ◌*◌, ◌⊎◌, ℕ, Bool, true, List, [], ◌∷◌, ◌++◌, length, take, map, refl, ap, sym, subst, ◌∙◌, ⊎_elim, arith}
-use Rattle.std.specs.Prelude.{Option, Some, None, Ok, IsTrue, is_some, option_map, slice_get}
+use Rattle.std.proofs.Common.{◌≡◌, ◌≤◌, ◌<◌, ◌+◌, ◌*◌, ℕ, true, List, [], ◌∷◌, length, take, refl, ap, sym, subst, ◌∙◌, ⊎_elim, arith}
+use Rattle.std.specs.Prelude.{Option, Some, None, IsTrue, is_some, option_map, slice_get}
 use Rattle.std.specs.Option.{option_map_or}
 use Rattle.std.proofs.lemmas.List.{take_all}
 use Rattle.pass_entry.specs.declared.entry.Entry.{Entry}
@@ -21,7 +21,7 @@ use Rattle.pass_plain.specs.Sessions.{opened_file, opening_bytes}
 use Rattle.pass_plain.specs.WellLogged.{IsWellLogged, size_of}
 use Rattle.pass_plain.proofs.Lists.{some_is}
 use Rattle.pass_range.specs.Lawful.{IsOpened}
-use Rattle.pass_range.specs.Places.{place, found_there, stands_there, Holds}
+use Rattle.pass_range.specs.Places.{place, found_there, Holds}
 use Rattle.md5.specs.Md5.{md5}
 use Rattle.pass_range.specs.Rows.{range, row_of, files_of, number_of, IsUnmatched}
 use Rattle.pass_range.specs.declared.range.Range.{Range}

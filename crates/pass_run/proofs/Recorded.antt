@@ -13,7 +13,6 @@ use Rattle.pass_outside.specs.Moments.{Moment}
 use Rattle.pass_plain.specs.declared.start.Start.{Start}
 use Rattle.pass_plain.specs.Runs.{IsRun}
 use Rattle.pass_plain.specs.Sound.{IsSound}
-use Rattle.pass_book.specs.declared.view.VaultSync.{VaultSync}
 use Rattle.pass_store.specs.Closings.{IsClosed, IsSettled}
 use Rattle.pass_store.proofs.Closing.{files_kept}
 use Rattle.pass_trace.specs.TraceLines.{plain_trace, session_of_trace}

@@ -1,8 +1,8 @@
 -- A store that reads what a crash left since a sync.
-use Rattle.std.proofs.Common.{◌≡◌, ◌<◌, ℕ, List, ap, subst}
-use Rattle.std.specs.Prelude.{IsTrue, Some}
+use Rattle.std.proofs.Common.{ℕ, List, subst}
+use Rattle.std.specs.Prelude.{IsTrue}
 use Rattle.pass_entry.specs.declared.record.Record.{Record}
-use Rattle.pass_keep.specs.Kept.{HasRecords, list_to}
+use Rattle.pass_keep.specs.Kept.{list_to}
 use Rattle.pass_keep.proofs.Keeping.{one_list}
 use Rattle.pass_outside.specs.Areas.{Image}
 use Rattle.pass_outside.specs.Moments.{Moment}

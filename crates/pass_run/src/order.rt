@@ -8,3 +8,11 @@ pub enum Order {
     /// Each where its line stands, or as soon behind it as it is ready.
     Lines,
 }
+
+/// How many workers there are.
+pub(crate) fn workers_of(order: Order) -> u32 {
+    match order {
+        Order::Passes { workers } => workers,
+        Order::Lines => 1,
+    }
+}

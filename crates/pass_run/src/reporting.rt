@@ -6,13 +6,21 @@ ghost use Rattle.pass_report.specs.Reports.{IsLegalFrom, IsRunFrom, report_of};
 ghost use Rattle.pass_run.specs.Stored.{IsEnd};
 
 use crate::ending::RunEnd;
+use crate::order::{Order, workers_of};
 use pass_report::report;
 use pass_status::Status;
 use pass_trace::Trace;
 use std::alloc::Global;
+use std::thread::Threads;
 
 /// The end of a run with the report of one that came to its end; where memory is refused for it, the status says so.
-pub(crate) fn reported<D>(alloc: Global, trace: &Trace, ended: RunEnd<D>) -> RunEnd<D>
+pub(crate) fn reported<R: Threads + Sync, D>(
+    rt: &R,
+    alloc: Global,
+    trace: &Trace,
+    order: Order,
+    ended: RunEnd<D>,
+) -> RunEnd<D>
     requires legal { IsEnd ended.status → (session : Session) × IsLegalFrom ended.start ended.history.items session }
     requires silent { ended.report.items ≡ [] }
     ensures same { result ≡ record ended { status = result.status; report = result.report } }
@@ -33,7 +41,7 @@ pub(crate) fn reported<D>(alloc: Global, trace: &Trace, ended: RunEnd<D>) -> Run
         report: nothing,
         disk,
     } = ended;
-    let (status, report) = match report(alloc, &start, &history, trace) {
+    let (status, report) = match report(rt, alloc, &start, &history, trace, workers_of(order)) {
         Ok(text) => (status, text),
         Err(_refused) => (Status::NoMemory, nothing),
     };

@@ -27,12 +27,12 @@ use std::thread::Threads;
 /// How many changed blocks are put aside at once, to be written later.
 const ASIDE: u32 = 1024;
 
-/// A store, with what its calls wait by and take memory from, and the gate before each call of a line.
+/// A store, with what its calls wait by and take memory from.
+#[derive_where(Clone, Copy)]
 pub(crate) struct Served<'a, 'g, R, J: Opening, D: Disk, G: Gate> {
     pub rt: &'a R,
     pub alloc: Global,
     pub store: &'a Store<'g, J, D, G>,
-    pub gate: &'a G,
 }
 
 impl<'a, 'g, R: Wait, J: Opening, D: Disk, G: Gate> Served<'a, 'g, R, J, D, G> {
@@ -62,7 +62,8 @@ impl<'a, 'g, R: Wait, J: Opening, D: Disk, G: Gate> Served<'a, 'g, R, J, D, G> {
 
 impl<'a, 'g, R: Wait, J: Opening, D: Disk, G: Gate> Calls<J> for Served<'a, 'g, R, J, D, G> {
     fn at_line(&self, process: u32, line: u32) {
-        self.gate.enter(process, line);
+        let store = self.store;
+        store.locks.gate.enter(process, line);
     }
 
     fn call(&self, proc: &mut Proc<J>, command: &Command, waited: Pnode) -> Result<Moved, CallEnd> {
@@ -140,21 +141,12 @@ impl<'a, 'g, R: Wait, J: Opening, D: Disk, G: Gate> Calls<J> for Served<'a, 'g, 
 }
 
 /// Runs a trace over a store that has just begun.
-pub(crate) fn serve<
-    'g,
-    R: Threads + Wait + Sync,
-    J: Opening + Send,
-    D: Disk + Send,
-    G: Gate + Sync,
->(
-    rt: &R,
-    alloc: Global,
-    store: &Store<'g, J, D, G>,
+pub(crate) fn serve<R: Threads + Wait + Sync, J: Opening + Send, D: Disk + Send, G: Gate + Sync>(
+    served: &Served<'_, '_, R, J, D, G>,
     first: Proc<J>,
     plan: &Plan<'_>,
     room: Vec<Trail<J>>,
     order: Order,
-    gate: &G,
 ) -> Ran<J>
     requires order { IsOrder order }
     requires first { (first.who ≡ J.book.session.start.ceiling + 1) × (first.number ≡ 0) }
@@ -162,21 +154,10 @@ pub(crate) fn serve<
     ensures ran { IsRanBy J.book.session J.places (plain_trace plan.now) result.trails.items result.last }
     ensures replayed { order ≡ Order.Lines → IsReplayedBy J.book.session (plain_trace plan.now) result.trails.items }
 {
-    let served = Served {
-        rt,
-        alloc,
-        store,
-        gate,
-    };
-    let ran = match order {
-        Order::Passes { workers } => in_passes(rt, alloc, &served, first, plan, room, workers),
-        Order::Lines => in_order(rt, alloc, &served, first, plan, room),
-    };
-    let Served {
-        rt: _,
-        alloc: _,
-        store: _,
-        gate: _,
-    } = served;
-    ran
+    let rt = served.rt;
+    let alloc = served.alloc;
+    match order {
+        Order::Passes { workers } => in_passes(rt, alloc, served, first, plan, room, workers),
+        Order::Lines => in_order(rt, alloc, served, first, plan, room),
+    }
 }

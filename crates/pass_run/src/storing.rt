@@ -17,7 +17,7 @@ use crate::ending::{RunEnd, unopened};
 use crate::needs::places_of;
 use crate::order::Order;
 use crate::reporting::reported;
-use crate::serving::serve;
+use crate::serving::{Served, serve};
 use pass_graph::laws::{edges, graph};
 use pass_order::laws::replays;
 use pass_outside::{Disk, Gate};
@@ -75,21 +75,22 @@ pub fn run_trace<R: Threads + Wait + Sync, D: Disk + Send, G: Gate + Sync>(
 {
     let first = Snapshot::of(&disk);
     let ended = run_unreported(rt, alloc, trace, order, disk, gate);
-    with_report(alloc, trace, order, first, ended)
+    with_report(rt, alloc, trace, order, first, ended)
 }
 
 /// A run over a disk that was found in its first state, with its report.
-fn with_report<D: Disk>(
+fn with_report<R: Threads + Sync, D: Disk>(
+    rt: &R,
     alloc: Global,
     trace: &Trace,
     order: Order,
     first: Snapshot<D>,
     ended: RunEnd<D>,
 ) -> RunEnd<D>
-    requires { IsRunOver D.view (D.view first.value) trace.now.lines.items order ended }
+    requires over { IsRunOver D.view (D.view first.value) trace.now.lines.items order ended }
     ensures { IsReportedOver D.view (D.view first.value) trace.now.lines.items order result }
 {
-    reported(alloc, trace, ended)
+    reported(rt, alloc, trace, order, ended)
 }
 
 /// Runs a trace over the store of a disk, and keeps what it records there.
@@ -200,7 +201,12 @@ fn run_opened<R: Threads + Wait + Sync, J: Opening + Send, D: Disk + Send, G: Ga
         Ok(begun) => begun,
         Err(disk) => return unopened(alloc, Status::NoMemory, disk),
     };
-    let Ran { trails, last } = serve(rt, alloc, &store, process, plan, room, order, gate);
+    let served = Served {
+        rt,
+        alloc,
+        store: &store,
+    };
+    let Ran { trails, last } = serve(&served, process, plan, room, order);
     let finished = store.finish(alloc, trails);
     graph();
     edges();

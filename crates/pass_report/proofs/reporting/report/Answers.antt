@@ -1,4 +1,4 @@
-use Rattle.std.proofs.Common.{◌≡◌, ◌++◌, ◌∷◌, [], List, length, take, ap, subst, ◌∙◌, arith}
+use Rattle.std.proofs.Common.{◌≡◌, ◌++◌, ◌∷◌, [], List, length, map, take, ap, subst, ◌∙◌, arith}
 use Rattle.std.specs.Prelude.{flat_map, codes, if◌then◌else◌}
 use Rattle.std.specs.Fmt.{decimal}
 use Rattle.std.proofs.lemmas.List.{take_all}
@@ -9,7 +9,9 @@ use Rattle.pass_plain.specs.Traces.{Line}
 use Rattle.pass_plain.specs.Runs.{IsRun, pnode_in, first_begun}
 use Rattle.pass_trace.specs.declared.trace.TraceLine.{TraceLine}
 use Rattle.pass_trace.specs.TraceLines.{plain_trace, session_of_trace}
-use Rattle.pass_report.specs.Reports.{IsLegalFrom, edge_line, object_line}
+use Rattle.pass_report.specs.Answered.{lines_to}
+use Rattle.pass_report.specs.Reports.{IsLegalFrom, edge_line, is_answered, object_line}
+use Rattle.pass_report.proofs.Advancing.{lines_before}
 use Rattle.pass_report.specs.Trails.{IsTrail}
 use Rattle.pass_report.specs.CallTables.{IsCallTable}
 use Rattle.pass_report.specs.Kinds.{AreKinds}
@@ -20,7 +22,7 @@ use Rattle.pass_report.proofs.Finishing.{waiting_is, stuck_is, short_zip}
 use Rattle.pass_report.proofs.reporting.report.Goals as goal
 
 pub returns : goal.returns
-returns c = λ full told.
+returns g c = λ full told.
     let start = c.args.start.now in
     let history = c.args.history.now in
     let lines = c.args.trace.now.lines.items in
@@ -38,7 +40,12 @@ returns c = λ full told.
     → c.first_process-first.result ≡ pnode_in (first_begun session history) 1 → HasLooked session (plain_trace ls) history (plain_trace ls) c.in_ok-standing.standing in
     let first = c.first_process-first.ensures session told.same.ceiling in
     let looked = (subst Looked c.deref.ensures.value c.in_ok-standing.ensures.looked) session history told.run table first in
-    let calls = passed.text ∙ ap (flat_map (entry_line history (nodes_of session history))) (short_zip history (nodes_of session history)) in
+    let marked = passed.answered ∙ ap (map (is_answered history)) all in
+    let calls =
+    c.in_ok-text.ensures
+    ∙ (λ i. lines_to history (c.nodes.ensures i) (c.as_slice.ensures.value i) (length history))
+    ∙ (λ i. lines_to history (trail.nodes i) (marked i) (length history))
+    ∙ lines_before session history (length history) (omega arith) ∙ ap (flat_map (entry_line history (nodes_of session history))) (short_zip history (nodes_of session history)) in
     let objects = c.in_ok-write_objects.ensures session history kinds trail in
     let waiting = waiting_is session trace history r.calls told.run table c.in_ok-standing.standing looked in
     let stuck = c.is_stuck-stuck.ensures ∙ stuck_is session trace history r.calls told.run table c.in_ok-standing.standing looked in

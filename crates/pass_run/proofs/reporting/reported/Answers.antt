@@ -5,8 +5,8 @@ use Rattle.pass_status.specs.declared.status.Status.TheVariants as status
 use Rattle.pass_run.specs.Stored.{IsEnd}
 use Rattle.pass_run.proofs.reporting.reported.Goals as goal
 
-pub report-requires : goal.report-requires
-report-requires g c =
+pub report-requires-clause-known : goal.report-requires-clause-known
+report-requires-clause-known g c = λ lives within.
     let s = c.args.ended.status in
     let ends = ⊎_elim (λ (is : s ≡ status.Done). subst IsEnd (sym is) tt) (λ (is : s ≡ status.Stuck). subst IsEnd (sym is) tt) c.in-Done.is in
     let (session, legal) = c.requires.legal ends in

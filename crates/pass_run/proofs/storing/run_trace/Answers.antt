@@ -5,8 +5,8 @@ use Rattle.pass_run.specs.Stored.{session_fault, IsStoreJudged, HasEnded}
 use Rattle.pass_run.specs.Orders.{HasReplayed}
 use Rattle.pass_run.proofs.storing.run_trace.Goals as goal
 
-pub with_report-requires : goal.with_report-requires
-with_report-requires g c =
+pub with_report-requires-clause-over : goal.with_report-requires-clause-over
+with_report-requires-clause-over g c = λ lives within.
     let view = g.D.Disk.view in
     let u = c.run_unreported-ended.ensures in
     subst (λ d. IsRunOver view (view d) c.args.trace.now.lines.items c.args.order c.run_unreported-ended.result) (sym c.of-first.ensures) (record {

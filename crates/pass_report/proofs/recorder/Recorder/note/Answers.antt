@@ -1,16 +1,13 @@
-use Rattle.std.proofs.Common.{◌&&◌, [], ◌++◌, not, length, take, sym, refl, subst, ◌∙◌, arith}
-use Rattle.std.specs.Prelude.{if◌then◌else◌}
+use Rattle.std.proofs.Common.{[], ◌∷◌, ◌++◌, length, take, ap, sym, refl, subst, ◌∙◌, arith}
 use Rattle.std.proofs.lemmas.Option.{slice_get_read}
-use Rattle.pass_plain.specs.Legal.{is_start}
 use Rattle.pass_plain.proofs.Calling.{legal_take}
-use Rattle.pass_report.specs.Reports.{call_line}
 use Rattle.pass_report.specs.Trails.{IsTrail}
 use Rattle.pass_report.specs.CallTables.{IsCallTable}
 use Rattle.pass_report.specs.Kinds.{AreKinds}
 use Rattle.pass_report.specs.Callers.{AreProcesses}
 use Rattle.pass_report.specs.Logging.{IsLogged}
 use Rattle.pass_report.proofs.Answering.{on_then}
-use Rattle.pass_report.proofs.Advancing.{next_of, follows, one_further, text_next}
+use Rattle.pass_report.proofs.Advancing.{answered_next, follows, next_of, one_further}
 use Rattle.pass_report.proofs.recorder.Recorder.note.Goals as goal
 
 pub note-requires : goal.note-requires
@@ -59,8 +56,8 @@ returns c = on_then c.note-5.result _ _ c.note-5.ensures (λ logged. λ session 
       kinds = subst (λ h. AreKinds start session h c.note-3.new.self) (sym more) (c.in_ok-note-2.ensures start session past next passed.kinds);
       processes = subst (λ h. AreProcesses h c.note-4.new.self) (sym more) c.in_ok-note-3.ensures;
       logged = subst (λ h. IsLogged start session h c.note-5.new.self) (sym more) (logged session past next turned passed.logged);
-      text =
-          c.in_ok-write_ended.ensures
-          ∙ (λ i. passed.text i ++ (if not (is_start e.call) && c.ends_call-ended.result then call_line history (trail.nodes i) e (turned.node i) else []))
-          ∙ sym (text_next session history from.legal place e at c.ends_call-ended.result ends);
+      answered =
+          c.in_ok-push.ensures.items
+          ∙ ap (λ b. c.args.self.now.answered.items ++ b ∷ []) c.is_answered.ensures
+          ∙ answered_next session history from.legal place e at c.args.self.now.answered.items passed.answered c.ends_call-ended.result ends;
     })

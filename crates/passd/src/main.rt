@@ -23,7 +23,7 @@ use pass_outside::{NoDisk, OpenGate};
 use std::alloc::AllocError;
 use std::fs::File;
 use std::process::ExitCode;
-use std::{env, io};
+use std::{env, io, mem};
 
 /// The exit status where the folder or one of its files can't be opened.
 const UNOPENED: u8 = 11;
@@ -60,7 +60,10 @@ fn main(rt: HostRuntime) -> ExitCode {
     );
     tell_failed(&rt, &ended.history);
     tell_advice(&rt, folder, words, ended.status);
-    ExitCode::from(ended.status.number())
+    let status = ended.status.number();
+    // The program ends, and its memory with it: nothing of the history is given back piece by piece.
+    mem::forget(ended);
+    ExitCode::from(status)
 }
 
 // Tells how many calls of a run failed, where some did.

@@ -1,5 +1,5 @@
 -- Where a search by halves finds a value, or would put it, and the row with it.
-use Rattle.std.proofs.Common.{ℕ, ◌≡◌, ◌≤◌, ◌<◌, ◌+◌, zero, suc, false, ◌⊎◌, inl, inr, refl, sym, ap, ◌∙◌, subst, List, [], ◌∷◌, length, get_or, arith}
+use Rattle.std.proofs.Common.{ℕ, ◌≡◌, ◌≤◌, ◌<◌, ◌+◌, ◌-◌, zero, suc, false, ◌⊎◌, inl, inr, refl, sym, ap, ◌∙◌, subst, List, [], ◌∷◌, length, get_or, arith}
 use Rattle.std.specs.Prelude.{Contains}
 use Rattle.std.proofs.Common.{Ordering}
 use Rattle.std.specs.Cmp.{IsTotalOrder}
@@ -20,6 +20,15 @@ module _ {K : Type 0} {R : K → K → Ordering} (o : IsTotalOrder R) where
     where
       not_below : (k : ℕ) (d : K) → k + 1 < length xs → is_lt (R (get_or xs (k + 1) d) (get_or xs k d)) ≡ false
       not_below k d below = ap is_lt (o.antisymm (get_or xs (k + 1) d) (get_or xs k d) ∙ ap ordering_reverse (Less-from_sorted R xs k (k + 1) d up (omega arith) below))
+
+  -- a row whose last value is below another is below it
+  pub all_below : (xs : List K) (x : K) → ((d : K) → R (get_or xs (length xs - 1) d) x ≡ Less) → IsNonDecreasingBy (λ y. ordering_index (R y x)) xs → AllWithin (λ y. R y x ≡ Less) xs 0 (length xs)
+  all_below xs x less up k d low below = least (R (get_or xs k d) x) (subst (λ r. ordering_index (R (get_or xs k d) x) ≤ ordering_index r) (less d) (up k (length xs - 1) d (omega (arith, below)) (omega (arith, below))))
+    where
+      least : (r : Ordering) → ordering_index r ≤ 0 → r ≡ Less
+      least Less most = refl
+      least Equal most = absurd (omega (arith, most))
+      least Greater most = absurd (omega (arith, most))
 
   -- what is below a value at a place is below each value of the row from there on
   above_all : (x : K) (zs : List K) → AllByRecursion (λ y. R x y ≡ Less) zs → (i : ℕ) (d : K) → i < length zs → R x (get_or zs i d) ≡ Less

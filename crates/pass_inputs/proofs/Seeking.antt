@@ -10,9 +10,9 @@ use Rattle.pass_graph.proofs.Noding.{same_node_is}
 use Rattle.pass_leaf.specs.Leaves.{Leaf}
 use Rattle.pass_leaf.specs.Contents.{content_after, content_of, is_of, last_content}
 use Rattle.pass_leaf.proofs.Lists.{last_content-push}
-use Rattle.pass_leaf.proofs.Putting.{IsSeeking, seeking_found, seeking_more}
-use Rattle.pass_inputs.specs.Plans.{IsPlace, IsPlaced, followed}
-use Rattle.pass_inputs.proofs.Rows.{one_more}
+use Rattle.pass_leaf.proofs.Putting.{followed, IsSeeking, seeking_found, seeking_more}
+use Rattle.pass_inputs.specs.Plans.{IsPlace, IsPlaced}
+use Rattle.pass_plain.proofs.Replays.{take-next}
 
 -- what is known of a node when the first leaves were seen
 abbrev pub IsSought : List Leaf → ℕ → Node → Option ℕ → Type 0
@@ -50,7 +50,7 @@ noted_is node n place old = by_test (same_node node n) refl
 -- one leaf more
 module _ (leaves : List Leaf) (seen : ℕ) (leaf : Leaf) (within : seen < length leaves) (is : leaf ≡ get_or leaves seen leaf) where
   pub content_more : (file : ℕ) → last_content (take (seen + 1) leaves) file ≡ followed file (last_content (take seen leaves) file) leaf
-  content_more file = ap (λ (l : List Leaf). last_content l file) (one_more leaves seen leaf within is) ∙ last_content-push (take seen leaves) leaf file
+  content_more file = ap (λ (l : List Leaf). last_content l file) (take-next leaves seen leaf within is) ∙ last_content-push (take seen leaves) leaf file
 
   pub leaf_there : (other : Leaf) → slice_get leaves seen ≡ Some other → leaf ≡ other
   leaf_there other at = is ∙ get_or_from_slice_get leaves seen other leaf at

@@ -8,12 +8,13 @@ use Rattle.std.proofs.lemmas.List.{length-replicate, get_or-take, get_or-drop, g
 use Rattle.pass_entry.specs.Limits.{block_size}
 use Rattle.pass_plain.specs.Files.{extended, resized}
 use Rattle.pass_leaf.specs.declared.leaf.LeafBlock.{LeafBlock}
-use Rattle.pass_leaf.specs.Contents.{with_block}
+use Rattle.pass_leaf.specs.Leaves.{Leaf, IsFormed, AreBlocks}
+use Rattle.pass_leaf.specs.Contents.{with_block, laid}
 use Rattle.pass_leaf.specs.Keeping.{part, is_alike, differs, block_of, block_total}
 use Rattle.pass_leaf.specs.Laws.{LaidLaw}
 
 -- the byte at a place; behind the end a content counts as zero
-abbrev byte : List ℕ → ℕ → ℕ
+abbrev pub byte : List ℕ → ℕ → ℕ
 byte content i = get_or content i 0
 
 zeros_past : (n i : ℕ) → byte (replicate n 0) i ≡ 0
@@ -32,13 +33,13 @@ pub length-resized : (content : List ℕ) (size : ℕ) → length (resized conte
 length-resized content size =
     omega (arith, length-take size (extended content size), length-append content (replicate (size - length content) 0), length-replicate {A = ℕ} (size - length content) 0)
 
-byte_resized : (content : List ℕ) (size i : ℕ) → i < size → byte (resized content size) i ≡ byte content i
+pub byte_resized : (content : List ℕ) (size i : ℕ) → i < size → byte (resized content size) i ≡ byte content i
 byte_resized content size i below = get_or-take size (extended content size) i 0 below ∙ byte_extended content size i
 
-byte_part : (content : List ℕ) (block i : ℕ) → i < block_size → byte (part content block) i ≡ byte content (block * block_size + i)
+pub byte_part : (content : List ℕ) (block i : ℕ) → i < block_size → byte (part content block) i ≡ byte content (block * block_size + i)
 byte_part content block i below = get_or-take block_size (drop (block * block_size) content) i 0 below ∙ get_or-drop (block * block_size) content i 0
 
-length-part : (content : List ℕ) (block : ℕ) → length (part content block) ≡ min block_size (length content - block * block_size)
+pub length-part : (content : List ℕ) (block : ℕ) → length (part content block) ≡ min block_size (length content - block * block_size)
 length-part content block = omega (arith, length-take block_size (drop (block * block_size) content), length-drop (block * block_size) content)
 
 -- contents that are alike have the same bytes
@@ -80,7 +81,7 @@ length-with_block content b within =
       length-drop (at + length b.bytes) content,
     )
 
-byte_before : (content : List ℕ) (b : LeafBlock) (i : ℕ) → b.number * block_size + length b.bytes ≤ length content → i < b.number * block_size → byte (with_block content b) i ≡ byte content i
+pub byte_before : (content : List ℕ) (b : LeafBlock) (i : ℕ) → b.number * block_size + length b.bytes ≤ length content → i < b.number * block_size → byte (with_block content b) i ≡ byte content i
 byte_before content b i within below =
     let at = b.number * block_size in
     let front : length (take at content) ≡ at = omega (arith, within, length-take at content) in
@@ -96,7 +97,7 @@ byte_within content b i within above below =
     get_or_append_left (take at content ++ b.bytes) (drop (at + length b.bytes) content) 0 i (omega (arith, below, front, length-append (take at content) b.bytes))
     ∙ get_or-append_right (take at content) b.bytes at i 0 front above
 
-byte_behind : (content : List ℕ) (b : LeafBlock) (i : ℕ) → b.number * block_size + length b.bytes ≤ length content → b.number * block_size + length b.bytes ≤ i → byte (with_block content b) i ≡ byte content i
+pub byte_behind : (content : List ℕ) (b : LeafBlock) (i : ℕ) → b.number * block_size + length b.bytes ≤ length content → b.number * block_size + length b.bytes ≤ i → byte (with_block content b) i ≡ byte content i
 byte_behind content b i within above =
     let at = b.number * block_size in
     let front : length (take at content ++ b.bytes) ≡ at + length b.bytes = omega (arith, within, length-take at content, length-append (take at content) b.bytes) in
@@ -224,3 +225,13 @@ covers old new i lt =
 pub laid_again : LaidLaw
 laid_again old new node =
     covered_all new (filter (differs old new) (range_with_len 0 (block_total (length new)))) (resized old (length new)) (length-resized old (length new)) (below_range (differs old new) (length new) 0 (block_total (length new)) (omega arith)) (covers old new)
+
+-- a leaf makes a content of its size
+length-put : (size from : ℕ) (blocks : List LeafBlock) (now : List ℕ) → length now ≡ size → AreBlocks size from blocks → length (fold with_block now blocks) ≡ size
+length-put size from [] now long are = long
+length-put size from (b ∷ blocks) now long are =
+    let within : b.number * block_size + length b.bytes ≤ length now = omega (arith, are.0.long, are.0.within, long) in
+    length-put size (b.number + 1) blocks (with_block now b) (length-with_block now b within ∙ long) are.1
+
+pub length-laid : (old : List ℕ) (leaf : Leaf) → IsFormed leaf → length (laid old leaf) ≡ leaf.size
+length-laid old leaf formed = length-put leaf.size 0 leaf.blocks (resized old leaf.size) (length-resized old leaf.size) formed.blocks

@@ -3,7 +3,7 @@ pub mod Blocks
 pub mod Laying
 pub mod Lists
 pub mod Walks
-pub mod Knowing
+pub mod Placing
 pub mod Putting
 pub mod Alike
 pub mod Appending

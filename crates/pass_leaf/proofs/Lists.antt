@@ -1,13 +1,11 @@
 -- Lists of leaves with one leaf more.
-use Rattle.std.proofs.Common.{◌≡◌, ℕ, ◌<◌, ◌==◌, ◌||◌, Bool, true, false, List, [], ◌∷◌, ◌++◌, refl, sym, ◌∙◌, ap, subst, append_assoc}
-use Rattle.std.specs.Prelude.{fold, if◌then◌else◌, Some, None}
+use Rattle.std.proofs.Common.{◌≡◌, ℕ, ◌<◌, ◌==◌, ◌||◌, Bool, true, false, List, [], ◌∷◌, ◌++◌, refl, sym, subst, append_assoc}
+use Rattle.std.specs.Prelude.{fold, if◌then◌else◌, Some, None, Result, Ok, Err, OnOk, OnErr}
 use Rattle.std.specs.List.{list_any}
-use Rattle.std.specs.BTreeMap.{BTreeMap}
 use Rattle.std.proofs.lemmas.List.{append-nil}
 use Rattle.pass_entry.specs.declared.objects.Node.{Node}
 use Rattle.pass_leaf.specs.Leaves.{Leaf, IsFormed}
 use Rattle.pass_leaf.specs.Contents.{laid, last_content, last_version, is_of, content_after, AreLeavesAfter, AreLeaves}
-use Rattle.pass_leaf.specs.Reads.{version_at, AreVersions}
 
 fold-push : {A B : Type 0} (f : B → A → B) (z : B) (xs : List A) (x : A) → fold f z (xs ++ x ∷ []) ≡ f (fold f z xs) x
 fold-push f z [] x = refl
@@ -27,6 +25,12 @@ are_after-push past (one ∷ leaves) leaf are formed above =
 pub are-push : (leaves : List Leaf) (leaf : Leaf) → AreLeaves leaves → IsFormed leaf → last_version leaves leaf.node.pnode < leaf.node.version → AreLeaves (leaves ++ leaf ∷ [])
 are-push leaves leaf are formed above = are_after-push [] leaves leaf are formed above
 
+-- one leaf more, or none
+pub are_either : {T E : Type 0} (old new : List Leaf) (leaf : Leaf) (result : Result T E) → AreLeaves old → IsFormed leaf → last_version old leaf.node.pnode < leaf.node.version
+    → OnOk result (new ≡ old ++ leaf ∷ []) → OnErr result (new ≡ old) → AreLeaves new
+are_either old new leaf (Ok x) are formed above more same = subst AreLeaves (sym more) (are-push old leaf are formed above)
+are_either old new leaf (Err x) are formed above more same = subst AreLeaves (sym same) are
+
 -- the first ones of leaves
 are_after-front : (past leaves more : List Leaf) → AreLeavesAfter past (leaves ++ more) → AreLeavesAfter past leaves
 are_after-front past [] more are = tt
@@ -34,12 +38,6 @@ are_after-front past (leaf ∷ leaves) more are = (are.0, are.1, are_after-front
 
 pub are-front : (leaves more : List Leaf) → AreLeaves (leaves ++ more) → AreLeaves leaves
 are-front leaves more are = are_after-front [] leaves more are
-
--- a table with the version of the next leaf
-pub versions-push : (old new : BTreeMap ℕ ℕ) (leaves : List Leaf) (leaf : Leaf) → AreVersions old leaves → ((pnode : ℕ) → version_at new pnode ≡ (if leaf.node.pnode == pnode then leaf.node.version else version_at old pnode))
-    → AreVersions new (leaves ++ leaf ∷ [])
-versions-push old new leaves leaf are noted pnode =
-    noted pnode ∙ ap (λ (v : ℕ). if leaf.node.pnode == pnode then leaf.node.version else v) (are pnode) ∙ sym (last_version-push leaves leaf pnode)
 
 -- the content of a node among leaves that stand behind others
 pub none_has : (past leaves : List Leaf) (node : Node) → list_any (is_of node) leaves ≡ false → content_after past leaves node ≡ None

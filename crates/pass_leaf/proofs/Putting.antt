@@ -41,14 +41,9 @@ module _ (size : ℕ) (old now : List ℕ) (blocks : List LeafBlock) (i : ℕ) (
     same = ap (λ (l : List ℕ). fold with_block l (drop (i + 1) blocks)) put ∙ sym (ap (fold with_block now) next) ∙ p.same;
   }
 
--- leaves that are left to be followed
+-- a content behind one leaf more, which may be another file's
 abbrev pub followed : ℕ → List ℕ → Leaf → List ℕ
 followed pnode content leaf = if leaf.node.pnode == pnode then laid content leaf else content
-
-pub follow_more : (pnode : ℕ) (leaves : List Leaf) (i : ℕ) (leaf : Leaf) (now new : List ℕ) → i < length leaves → leaf ≡ get_or leaves i leaf → fold (followed pnode) now (drop i leaves) ≡ last_content leaves pnode
-    → new ≡ followed pnode now leaf → fold (followed pnode) new (drop (i + 1) leaves) ≡ last_content leaves pnode
-follow_more pnode leaves i leaf now new lt is so_far put =
-    ap (λ (l : List ℕ). fold (followed pnode) l (drop (i + 1) leaves)) put ∙ sym (ap (fold (followed pnode) now) (next_item leaves i leaf lt is)) ∙ so_far
 
 -- a node's content is sought
 pub record IsSeeking (leaves : List Leaf) (node : Node) (content : List ℕ) (i : ℕ) : Type 0 where

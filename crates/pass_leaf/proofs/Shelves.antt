@@ -9,7 +9,7 @@ use Rattle.pass_leaf.specs.Leaves.{Leaf, leaf_bytes}
 use Rattle.pass_leaf.specs.Contents.{last_version, AreLeaves}
 use Rattle.pass_leaf.specs.Keeping.{FileVersion, is_above}
 use Rattle.pass_leaf.specs.Gatherings.{frames_size}
-use Rattle.pass_leaf.specs.Reads.{AreVersions, AreContents, EndsThere, IsBatch, IsGathered}
+use Rattle.pass_leaf.specs.Reads.{AreContents, EndsThere, IsBatch, IsGathered}
 use Rattle.pass_leaf.specs.Open.{IsOpen, IsUnkept}
 use Rattle.pass_leaf.proofs.Answering.{above_lt, next_of, grown, gathered_size}
 
@@ -17,16 +17,15 @@ use Rattle.pass_leaf.proofs.Answering.{above_lt, next_of, grown, gathered_size}
 pub parts : (w : ℕ) (leaves : List Leaf) → take w leaves ++ drop w leaves ≡ leaves
 parts w leaves = take-append-drop w leaves
 
-module _ (m : Moment) (old new : Stock) (tail : Tail) (o : IsOpen m old tail) (versions : AreVersions new.versions new.leaves.items) (contents : AreContents new.contents new.leaves.items) where
+module _ (m : Moment) (old new : Stock) (tail : Tail) (o : IsOpen m old tail) (contents : AreContents new.contents new.leaves) where
   -- no leaf more
-  pub open_same : new.leaves.items ≡ old.leaves.items → new.written ≡ old.written → new.frames.items ≡ old.frames.items → IsOpen m new tail
+  pub open_same : new.leaves ≡ old.leaves → new.written ≡ old.written → new.frames.items ≡ old.frames.items → IsOpen m new tail
   open_same leaves written frames = record {
     stocked = record {
       are = subst AreLeaves (sym leaves) o.stocked.are;
-      versions_are = versions;
       contents_are = contents;
       few = omega (arith, o.stocked.few, written, ap length leaves);
-      gathered_are = subst (λ (b : List ℕ). IsGathered b (drop new.written new.leaves.items)) (sym frames)
+      gathered_are = subst (λ (b : List ℕ). IsGathered b (drop new.written new.leaves)) (sym frames)
           (subst (IsGathered old.frames.items) (λ i. drop (sym written i) (sym leaves i)) o.stocked.gathered_are);
     };
     ends = subst (λ (l : List Leaf). EndsThere tail l m) (λ i. take (sym written i) (sym leaves i)) o.ends;
@@ -34,16 +33,15 @@ module _ (m : Moment) (old new : Stock) (tail : Tail) (o : IsOpen m old tail) (v
   }
 
   -- one leaf more
-  pub open_more : (leaf : Leaf) → new.leaves.items ≡ old.leaves.items ++ leaf ∷ [] → new.written ≡ old.written → AreLeaves (old.leaves.items ++ leaf ∷ [])
-      → IsBatch new.frames.items (drop old.written old.leaves.items ++ leaf ∷ []) → tail.end + length new.frames.items < 2 ^ 39 → IsOpen m new tail
+  pub open_more : (leaf : Leaf) → new.leaves ≡ old.leaves ++ leaf ∷ [] → new.written ≡ old.written → AreLeaves (old.leaves ++ leaf ∷ [])
+      → IsBatch new.frames.items (drop old.written old.leaves ++ leaf ∷ []) → tail.end + length new.frames.items < 2 ^ 39 → IsOpen m new tail
   open_more leaf leaves written are batch room =
-      let more = grown old.written new.written old.leaves.items new.leaves.items leaf o.stocked.few written leaves in
+      let more = grown old.written new.written old.leaves new.leaves leaf o.stocked.few written leaves in
       record {
         stocked = record {
           are = subst AreLeaves (sym leaves) are;
-          versions_are = versions;
           contents_are = contents;
-          few = omega (arith, o.stocked.few, written, ap length leaves, length-append old.leaves.items (leaf ∷ []));
+          few = omega (arith, o.stocked.few, written, ap length leaves, length-append old.leaves (leaf ∷ []));
           gathered_are = inr (subst (IsBatch new.frames.items) (sym more.1) batch);
         };
         ends = subst (λ (l : List Leaf). EndsThere tail l m) (sym more.0) o.ends;
@@ -51,27 +49,26 @@ module _ (m : Moment) (old new : Stock) (tail : Tail) (o : IsOpen m old tail) (v
       }
 
 -- all leaves are on the disk
-pub open_settled : (m : Moment) (old new : Stock) (tail : Tail) → AreLeaves old.leaves.items → AreVersions new.versions new.leaves.items → AreContents new.contents new.leaves.items → new.leaves.items ≡ old.leaves.items
-    → new.written ≡ length old.leaves.items → new.frames.items ≡ [] → EndsThere tail (take old.written old.leaves.items ++ drop old.written old.leaves.items) m → IsOpen m new tail
-open_settled m old new tail are versions contents leaves written frames ends =
-    let few : length new.leaves.items ≤ new.written = omega (arith, written, ap length leaves) in
+pub open_settled : (m : Moment) (old new : Stock) (tail : Tail) → AreLeaves old.leaves → AreContents new.contents new.leaves → new.leaves ≡ old.leaves
+    → new.written ≡ length old.leaves → new.frames.items ≡ [] → EndsThere tail (take old.written old.leaves ++ drop old.written old.leaves) m → IsOpen m new tail
+open_settled m old new tail are contents leaves written frames ends =
+    let few : length new.leaves ≤ new.written = omega (arith, written, ap length leaves) in
     record {
       stocked = record {
         are = subst AreLeaves (sym leaves) are;
-        versions_are = versions;
         contents_are = contents;
         few = omega (arith, written, ap length leaves);
-        gathered_are = inl (frames, drop_all new.written new.leaves.items few);
+        gathered_are = inl (frames, drop_all new.written new.leaves few);
       };
-      ends = subst (λ (l : List Leaf). EndsThere tail l m) (parts old.written old.leaves.items ∙ sym leaves ∙ sym (take_all new.written new.leaves.items few)) ends;
+      ends = subst (λ (l : List Leaf). EndsThere tail l m) (parts old.written old.leaves ∙ sym leaves ∙ sym (take_all new.written new.leaves few)) ends;
       room = inl frames;
     }
 
-pub settled_parts : (old new : Stock) → new.leaves.items ≡ old.leaves.items → new.written ≡ length old.leaves.items
-    → (take new.written new.leaves.items ≡ take old.written old.leaves.items ++ drop old.written old.leaves.items) × (drop new.written new.leaves.items ≡ [])
+pub settled_parts : (old new : Stock) → new.leaves ≡ old.leaves → new.written ≡ length old.leaves
+    → (take new.written new.leaves ≡ take old.written old.leaves ++ drop old.written old.leaves) × (drop new.written new.leaves ≡ [])
 settled_parts old new leaves written =
-    let few : length new.leaves.items ≤ new.written = omega (arith, written, ap length leaves) in
-    (take_all new.written new.leaves.items few ∙ leaves ∙ sym (parts old.written old.leaves.items), drop_all new.written new.leaves.items few)
+    let few : length new.leaves ≤ new.written = omega (arith, written, ap length leaves) in
+    (take_all new.written new.leaves few ∙ leaves ∙ sym (parts old.written old.leaves), drop_all new.written new.leaves few)
 
 -- all that was found is on the disk
 pub whole_of : (leaves all : List Leaf) (w : ℕ) → all ≡ leaves → w ≡ length leaves → (take w all ≡ leaves) × (drop w all ≡ [])

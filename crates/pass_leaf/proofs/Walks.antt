@@ -1,7 +1,6 @@
 -- How the frames of an archive are judged one after another.
 use Rattle.std.proofs.Common.{◌≡◌, ◌⊎◌, ℕ, ◌+◌, ◌<◌, ◌≤◌, ◌^◌, true, List, [], ◌∷◌, ◌++◌, length, take, drop, map, get_or, inl, inr, refl, sym, ◌∙◌, ap, subst, arith, append_assoc, length-append}
 use Rattle.std.specs.Int.{w32, to_be_bytes}
-use Rattle.std.specs.BTreeMap.{BTreeMap}
 use Rattle.std.proofs.lemmas.List.{take_at, drop_at, map-append}
 use Rattle.pass_outside.specs.Moments.{Moment}
 use Rattle.pass_log.specs.declared.fault.LogFault.{LogFault}
@@ -17,24 +16,23 @@ use Rattle.pass_leaf.specs.declared.fault.OldFault.TheVariants as faults
 use Rattle.pass_leaf.specs.Leaves.{Leaf, leaf_bytes}
 use Rattle.pass_leaf.specs.Contents.{AreLeaves}
 use Rattle.pass_leaf.specs.Archives.{IsArchive, is_open, IsBroken, MayNotStand, IsMisplaced, HasBadFrame, IsUnread}
-use Rattle.pass_leaf.specs.Reads.{AreVersions, IsNextLeaf}
+use Rattle.pass_leaf.specs.Reads.{IsNextLeaf}
 use Rattle.pass_leaf.proofs.Lists.{are-push}
 
 -- the frames in front of the rest are these leaves
-pub record IsWalking (bytes rest : List ℕ) (place : ℕ) (leaves : List Leaf) (versions : BTreeMap ℕ ℕ) : Type 0 where
+pub record IsWalking (bytes rest : List ℕ) (place : ℕ) (leaves : List Leaf) : Type 0 where
   pub front : List ℕ
   pub is : bytes ≡ front ++ rest
   pub size : length front ≡ place
   pub passes : IsFront front (map leaf_bytes leaves)
   pub are : AreLeaves leaves
-  pub versions_are : AreVersions versions leaves
   pub some : 0 < length rest
 
-pub walking_none : (bytes : List ℕ) (versions : BTreeMap ℕ ℕ) → AreVersions versions [] → 0 < length bytes → IsWalking bytes bytes 0 [] versions
-walking_none bytes versions none some = record { front = []; is = refl; size = refl; passes = front_nil; are = tt; versions_are = none; some = some }
+pub walking_none : (bytes : List ℕ) → 0 < length bytes → IsWalking bytes bytes 0 []
+walking_none bytes some = record { front = []; is = refl; size = refl; passes = front_nil; are = tt; some = some }
 
 -- one frame more
-module _ (bytes rest : List ℕ) (place : ℕ) (leaves : List Leaf) (versions : BTreeMap ℕ ℕ) (w : IsWalking bytes rest place leaves versions)
+module _ (bytes rest : List ℕ) (place : ℕ) (leaves : List Leaf) (w : IsWalking bytes rest place leaves)
     (frame after : List ℕ) (fits : length frame < 2 ^ 32) (is : rest ≡ 1 ∷ to_be_bytes w32 (length frame) ++ frame ++ after) (more : 0 < length after) where
   one : List ℕ
   one = 1 ∷ to_be_bytes w32 (length frame) ++ frame
@@ -50,9 +48,9 @@ module _ (bytes rest : List ℕ) (place : ℕ) (leaves : List Leaf) (versions : 
   unfolding one
   parts = w.is ∙ ap (λ (l : List ℕ). w.front ++ l) is ∙ sym (append_assoc w.front (1 ∷ to_be_bytes w32 (length frame) ++ frame) after)
 
-  pub walking_more : (new : List Leaf) (next : BTreeMap ℕ ℕ) → IsNextLeaf leaves frame new → AreVersions next new → IsWalking bytes after (place + (5 + length frame)) new next
+  pub walking_more : (new : List Leaf) → IsNextLeaf leaves frame new → IsWalking bytes after (place + (5 + length frame)) new
   unfolding one
-  walking_more new next n known =
+  walking_more new n =
       let list : map leaf_bytes leaves ++ frame ∷ [] ≡ map leaf_bytes new =
       ap (λ (f : List ℕ). map leaf_bytes leaves ++ f ∷ []) (sym n.bytes) ∙ sym (map-append leaf_bytes leaves (n.leaf ∷ [])) ∙ ap (map leaf_bytes) (sym n.put) in
       record {
@@ -61,7 +59,6 @@ module _ (bytes rest : List ℕ) (place : ℕ) (leaves : List Leaf) (versions : 
         size = omega (arith, length-append w.front one, one_size, w.size);
         passes = subst (IsFront (w.front ++ one)) list (front_append w.front one (map leaf_bytes leaves) (frame ∷ []) w.passes (front_frame frame fits));
         are = subst AreLeaves (sym n.put) (are-push leaves n.leaf w.are n.formed n.above);
-        versions_are = known;
         some = more;
       }
 
@@ -85,9 +82,9 @@ module _ (bytes rest : List ℕ) (place : ℕ) (leaves : List Leaf) (versions : 
           ∙ drop_at (1 ∷ to_be_bytes w32 (length frame)) (frame ++ after) 5 (omega (arith, four))
 
 -- the frame of an open gate here is bad
-pub walking_bad : (bytes rest : List ℕ) (place : ℕ) (leaves : List Leaf) (versions : BTreeMap ℕ ℕ) → IsWalking bytes rest place leaves versions → is_open rest ≡ true
+pub walking_bad : (bytes rest : List ℕ) (place : ℕ) (leaves : List Leaf) → IsWalking bytes rest place leaves → is_open rest ≡ true
     → IsBroken rest ⊎ IsMisplaced leaves rest → HasBadFrame bytes place
-walking_bad bytes rest place leaves versions w gate bad =
+walking_bad bytes rest place leaves w gate bad =
     let here : drop place bytes ≡ rest = ap (drop place) w.is ∙ drop_at w.front rest place w.size in
     let front : take place bytes ≡ w.front = ap (take place) w.is ∙ take_at w.front rest place w.size in
     record {
@@ -106,10 +103,10 @@ frame_fault bytes place leaf_faults.Bad r bad memory has = inr (place, bad refl,
 frame_fault bytes place leaf_faults.NoMemory r bad memory has = inl (memory refl)
 
 -- no gate is open here: these are all frames
-pub walking_done : (bytes rest : List ℕ) (place : ℕ) (leaves : List Leaf) (versions : BTreeMap ℕ ℕ) → IsWalking bytes rest place leaves versions → (get_or rest 0 0 ≡ 1 → ⊥)
+pub walking_done : (bytes rest : List ℕ) (place : ℕ) (leaves : List Leaf) → IsWalking bytes rest place leaves → (get_or rest 0 0 ≡ 1 → ⊥)
     → 1 < length bytes → length bytes ≤ longest → IsArchive bytes leaves place
-walking_done bytes [] place leaves versions w shut some fits = absurd (omega (arith, w.some))
-walking_done bytes (gate ∷ tail) place leaves versions w shut some fits = record {
+walking_done bytes [] place leaves w shut some fits = absurd (omega (arith, w.some))
+walking_done bytes (gate ∷ tail) place leaves w shut some fits = record {
   frames = image_scan bytes some fits ∙ scan_rests (map leaf_bytes leaves) place bytes (record { front = w.front; gate = gate; tail = tail; is = w.is; shut = shut; passes = w.passes; place = w.size });
   are = w.are;
 }

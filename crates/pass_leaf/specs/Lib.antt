@@ -1,5 +1,6 @@
 pub mod Leaves
 pub mod Contents
+pub mod Places
 pub mod Archives
 pub mod Keeping
 pub mod Gatherings

@@ -18,17 +18,17 @@ use Rattle.pass_leaf.specs.Reads.{IsStock, EndsThere}
 -- the first leaves are those of the disk, and there is room for the others
 pub record IsOpen (m : Moment) (stock : Stock) (tail : Tail) : Type 0 where
   pub stocked : IsStock stock
-  pub ends : EndsThere tail (take stock.written stock.leaves.items) m
+  pub ends : EndsThere tail (take stock.written stock.leaves) m
   pub room : (stock.frames.items ≡ []) ⊎ (tail.end + length stock.frames.items < 2 ^ 39)
 
 -- its parts, as contracts see them
 abbrev pub archive_of : {A : Type 0} → Shelf A → Archive A
 archive_of shelf = record {
   disk = shelf.disk;
-  leaves = take shelf.stock.written shelf.stock.leaves.items;
+  leaves = take shelf.stock.written shelf.stock.leaves;
   end = shelf.tail.end;
   opened = shelf.tail.opened;
-  gathered = drop shelf.stock.written shelf.stock.leaves.items;
+  gathered = drop shelf.stock.written shelf.stock.leaves;
 }
 
 -- what an archive has, with no batch written yet

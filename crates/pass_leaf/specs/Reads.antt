@@ -1,22 +1,20 @@
 -- What the readers of leaves and archives tell, and what an open archive keeps.
-use Rattle.std.specs.Prelude.{ℕ, ◌*◌, ◌<◌, ◌≤◌, ◌≡◌, ◌⊎◌, ◌↔◌, ◌^◌, List, [], ◌∷◌, ◌++◌, length, map, drop, fold, slice_get, IsTrue, IfSome}
+use Rattle.std.specs.Prelude.{ℕ, ◌*◌, ◌<◌, ◌≤◌, ◌≡◌, ◌⊎◌, ◌↔◌, ◌^◌, List, [], ◌∷◌, ◌++◌, length, map, drop, IsTrue, IfSome, Vec}
 use Rattle.std.specs.Int.{w16, w32, to_be_bytes}
-use Rattle.std.specs.Option.{option_map_or, MatchOption}
 use Rattle.std.specs.Ordering.{nat_cmp}
 use Rattle.std.specs.BTreeMap.{BTreeMap, get}
+use Rattle.std.specs.declared.alloc.Global.{Global}
 use Rattle.pass_entry.specs.Limits.{block_size}
 use Rattle.pass_plain.specs.Records.{range_len}
 use Rattle.pass_outside.specs.Moments.{Moment, IsAtEnd}
 use Rattle.pass_log.specs.declared.log.Log.{Log}
 use Rattle.pass_log.specs.Frames.{IsFront}
 use Rattle.pass_log.specs.Log.{IsSettled}
-use Rattle.pass_leaf.specs.declared.known.Known.{Known}
-use Rattle.pass_leaf.specs.declared.known.Known.TheVariants.{Content, Places}
 use Rattle.pass_leaf.specs.declared.stock.Stock.{Stock}
 use Rattle.pass_leaf.specs.declared.tail.Tail.{Tail}
 use Rattle.pass_leaf.specs.declared.walk.Found.{Found}
 use Rattle.pass_leaf.specs.Leaves.{Leaf, IsFormed, leaf_bytes}
-use Rattle.pass_leaf.specs.Contents.{laid, last_version, last_content, AreLeaves}
+use Rattle.pass_leaf.specs.Contents.{last_version, last_content, AreLeaves}
 use Rattle.pass_leaf.specs.Gatherings.{frames_size}
 use Rattle.pass_leaf.specs.Archives.{IsArchive}
 
@@ -30,30 +28,9 @@ pub record IsFit (size from number len : ℕ) : Type 0 where
   pub within : number * block_size < size
   pub long : len ≡ range_len size number
 
--- the version that a table has of a file; 0 where it has none
-abbrev pub version_at : BTreeMap ℕ ℕ → ℕ → ℕ
-version_at versions pnode = option_map_or (λ v. v) (get nat_cmp versions pnode) 0
-
--- a table has the version of each file's last leaf
-abbrev pub AreVersions : BTreeMap ℕ ℕ → List Leaf → Type 0
-AreVersions versions leaves = (pnode : ℕ) → version_at versions pnode ≡ last_version leaves pnode
-
--- what the leaf at a place makes of a content
-abbrev pub laid_at : List Leaf → List ℕ → ℕ → List ℕ
-laid_at leaves content place = option_map_or (laid content) (slice_get leaves place) content
-
--- what is known of a file's last leaf: its content, or the places of the leaves that make it one after the other, whatever stands behind
-abbrev pub IsKnown : List Leaf → ℕ → Known → Type 0
-IsKnown leaves pnode (Content v) = v.items ≡ last_content leaves pnode
-IsKnown leaves pnode (Places v) = (more : List Leaf) → fold (laid_at (leaves ++ more)) [] v.items ≡ last_content leaves pnode
-
--- where a table has a file, it has what is known of its last leaf
-abbrev pub AreContents : BTreeMap ℕ Known → List Leaf → Type 0
-AreContents contents leaves = (pnode : ℕ) → IfSome (get nat_cmp contents pnode) (IsKnown leaves pnode)
-
--- and a file that it hasn't has no bytes
-abbrev pub AreAllKnown : BTreeMap ℕ Known → List Leaf → Type 0
-AreAllKnown contents leaves = (pnode : ℕ) → MatchOption (get nat_cmp contents pnode) (last_content leaves pnode ≡ []) (IsKnown leaves pnode)
+-- where a table has a file, it has the content of its last leaf
+abbrev pub AreContents : BTreeMap ℕ (Vec ℕ Global) → List Leaf → Type 0
+AreContents contents leaves = (pnode : ℕ) → IfSome (get nat_cmp contents pnode) (λ v. v.items ≡ last_content leaves pnode)
 
 -- a frame is the next leaf behind these
 pub record IsNextLeaf (old : List Leaf) (frame : List ℕ) (new : List Leaf) : Type 0 where
@@ -65,8 +42,7 @@ pub record IsNextLeaf (old : List Leaf) (frame : List ℕ) (new : List Leaf) : T
 
 -- what was found is what the bytes hold
 pub record IsFound (bytes : List ℕ) (found : Found) : Type 0 where
-  pub archive : IsArchive bytes found.leaves.items found.end
-  pub versions : AreVersions found.versions found.leaves.items
+  pub archive : IsArchive bytes found.leaves found.end
   pub short : IsTrue found.short ↔ (length bytes ≤ 1)
   pub place : found.end ≤ 2 ^ 39
 
@@ -95,10 +71,9 @@ pub record IsBatch (bytes : List ℕ) (leaves : List Leaf) : Type 0 where
 abbrev pub IsGathered : List ℕ → List Leaf → Type 0
 IsGathered bytes leaves = ((bytes ≡ []) × (leaves ≡ [])) ⊎ IsBatch bytes leaves
 
--- the tables tell of the leaves, of which the first ones are on the disk, and the frames are those of the others
+-- the table tells of the leaves, of which the first ones are on the disk, and the frames are those of the others
 pub record IsStock (stock : Stock) : Type 0 where
-  pub are : AreLeaves stock.leaves.items
-  pub versions_are : AreVersions stock.versions stock.leaves.items
-  pub contents_are : AreContents stock.contents stock.leaves.items
-  pub few : stock.written ≤ length stock.leaves.items
-  pub gathered_are : IsGathered stock.frames.items (drop stock.written stock.leaves.items)
+  pub are : AreLeaves stock.leaves
+  pub contents_are : AreContents stock.contents stock.leaves
+  pub few : stock.written ≤ length stock.leaves
+  pub gathered_are : IsGathered stock.frames.items (drop stock.written stock.leaves)

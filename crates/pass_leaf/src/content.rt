@@ -3,7 +3,8 @@ ghost use Rattle.std.specs.Prelude.{◌≡◌, ◌≤◌, ◌+◌, ◌*◌, ◌+
 ghost use Rattle.std.specs.List.{list_any};
 ghost use Rattle.pass_entry.specs.Limits.{block_size};
 ghost use Rattle.pass_leaf.specs.Leaves.{IsFormed};
-ghost use Rattle.pass_leaf.specs.Contents.{with_block as with_block_of, laid, last_content as last_content_of, content_of, is_of as is_of_node};
+ghost use Rattle.pass_leaf.specs.Contents.{with_block as with_block_of, laid, content_of, is_of as is_of_node};
+ghost use Rattle.pass_leaf.specs.Places.{laid_at};
 
 use crate::{Leaf, LeafBlock};
 use pass_entry::{BLOCK_SIZE, Node, Pnode};
@@ -17,8 +18,8 @@ pub(crate) fn put(content: &mut [u8], at: usize, bytes: &[u8])
     content[at..at + bytes.len()].copy_from_slice(bytes);
 }
 
-// The greatest size of a content that is made, in bytes. No file is as large.
-const LARGEST: u64 = 1 << 28;
+/// The greatest size of a content that is made or kept, in bytes. No file is as large.
+pub const LARGEST: u64 = 1 << 28;
 
 /// Puts the leaf's blocks over a content of the leaf's size.
 pub fn put_blocks(content: &mut [u8], leaf: &Leaf)
@@ -57,17 +58,27 @@ fn follow(content: &mut Vec<u8>, leaf: &Leaf, pnode: Pnode) -> Result<(), AllocE
     Ok(())
 }
 
-/// The content of a file's last leaf.
-pub(crate) fn last_content(
+// Makes of a content what the leaf at a place makes of it.
+fn lay_at(content: &mut Vec<u8>, leaves: &[Leaf], place: usize) -> Result<(), AllocError>
+    ensures { OnOk result (content.new.items ≡ laid_at leaves.now content.old.items place) }
+{
+    match leaves.get(place) {
+        Some(leaf) => lay(content, leaf),
+        None => Ok(()),
+    }
+}
+
+/// What the leaves at these places make, one after the other.
+pub(crate) fn lay_all(
     alloc: Global,
     leaves: &[Leaf],
-    pnode: Pnode,
+    places: &[usize],
 ) -> Result<Vec<u8>, AllocError>
-    ensures { IfOk result (λ v. v.items ≡ last_content_of leaves.now pnode) }
+    ensures { IfOk result (λ v. v.items ≡ fold (laid_at leaves.now) [] places.now) }
 {
     let mut content = Vec::new(alloc);
-    for leaf in leaves {
-        follow(&mut content, leaf, pnode)?;
+    for i in 0..places.len() {
+        lay_at(&mut content, leaves, places[i])?;
     }
     Ok(content)
 }

@@ -2,14 +2,13 @@
 #![tactic(auto)]
 
 mod content;
-mod entering;
 mod fault;
-mod known;
 pub mod laws;
 mod leaf;
 mod leaves;
 mod making;
 mod old;
+mod places;
 mod reading;
 mod shelf;
 mod stock;
@@ -17,7 +16,7 @@ mod tail;
 mod walk;
 mod writing;
 
-pub use content::{lay, put_blocks};
+pub use content::{LARGEST, lay, put_blocks};
 pub use fault::OldFault;
 pub use leaf::{Leaf, LeafBlock};
 pub use leaves::{Leaves, read_leaves};

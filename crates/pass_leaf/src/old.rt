@@ -6,12 +6,11 @@ ghost use Rattle.pass_log.specs.Frames.{frames_of};
 ghost use Rattle.pass_log.specs.Log.{LeavesStore};
 ghost use Rattle.pass_leaf.specs.Archives.{IsArchiveOn, IsUnopened};
 ghost use Rattle.pass_leaf.specs.Contents.{AreLeaves};
-ghost use Rattle.pass_leaf.specs.Reads.{AreVersions, EndsThere, IsStock};
+ghost use Rattle.pass_leaf.specs.Reads.{EndsThere, IsStock};
 ghost use Rattle.pass_leaf.specs.Open.{IsUnwritten};
 
 use crate::OldFault;
-use crate::known::known_of;
-use crate::leaves::{bytes_in, find};
+use crate::leaves::find;
 use crate::shelf::Shelf;
 use crate::stock::Stock;
 use crate::tail::{Tail, open_tail};
@@ -19,10 +18,11 @@ use crate::walk::Found;
 use pass_entry::Node;
 use pass_outside::Disk;
 use std::alloc::Global;
+use std::collections::BTreeMap;
 use std::marker::Model;
 
 /// An archive on its disk: a leaf for each version that was kept, in order. It holds them in memory, and beside them the content
-/// of the last leaf of each file of which it kept one more, and the places of the leaves of the others.
+/// of the last leaf of each file of which it kept one more.
 #[derive(Drop)]
 pub struct Old<A: Disk> {
     shelf: Shelf<A>,
@@ -136,7 +136,7 @@ impl<A: Disk> Old<A> {
     pub fn count(&self) -> u64
         ensures { result ≡ length (all_leaves self.now) }
     {
-        self.shelf.stock.leaves.len() as u64
+        self.shelf.stock.leaves.list().len() as u64
     }
 
     /// The whole content of a version that was kept.
@@ -146,7 +146,7 @@ impl<A: Disk> Old<A> {
         ensures none { IsErrOf result OldFault.NoVersion ↔ (content_of (all_leaves self.now) node ≡ None) }
         ensures fault { IfErr result (λ e. (e ≡ OldFault.NoVersion) ⊎ (e ≡ OldFault.NoMemory)) }
     {
-        bytes_in(self.shelf.alloc, &self.shelf.stock.leaves, &node)
+        self.shelf.stock.leaves.bytes_of(self.shelf.alloc, node)
     }
 
     /// The disk.
@@ -160,11 +160,10 @@ impl<A: Disk> Old<A> {
 
 // Opens an archive's log area with what it holds.
 fn prepare<D: Disk>(alloc: Global, disk: &mut D) -> Result<(Found, Tail), OldFault>
-    ensures leaves { IfOk result (λ x. IsArchiveOn (D.view disk.old) x.0.leaves.items x.1.end) }
-    ensures versions { IfOk result (λ x. AreVersions x.0.versions x.0.leaves.items) }
-    ensures ends { IfOk result (λ x. EndsThere x.1 x.0.leaves.items (D.view disk.new)) }
+    ensures leaves { IfOk result (λ x. IsArchiveOn (D.view disk.old) x.0.leaves x.1.end) }
+    ensures ends { IfOk result (λ x. EndsThere x.1 x.0.leaves (D.view disk.new)) }
     ensures opened { IfOk result (λ x. x.1.opened ≡ (D.view disk.new).faults) }
-    ensures unwritten { IfOk result (λ x. 0 < length x.0.leaves.items → IsUnwritten (D.view disk.old) (D.view disk.new)) }
+    ensures unwritten { IfOk result (λ x. 0 < length x.0.leaves → IsUnwritten (D.view disk.old) (D.view disk.new)) }
     ensures cause { IfErr result (IsUnopened (D.view disk.old)) }
     ensures any_moment { IsTrue (D.view disk.old).tells
         → Adds (D.view disk.old) (D.view disk.new) (λ c. (D.view disk.old).may_leave c ⊎ (frames_of c.log ≡ frames_of (D.view disk.old).seen.log)) }
@@ -181,19 +180,16 @@ fn prepare<D: Disk>(alloc: Global, disk: &mut D) -> Result<(Found, Tail), OldFau
 
 // The stock of what was found, all of which is on the disk.
 fn stock_of(alloc: Global, found: Found) -> Stock
-    requires are { AreLeaves found.leaves.items }
-    requires versions { AreVersions found.versions found.leaves.items }
+    requires are { AreLeaves found.leaves }
     ensures stocked { IsStock result }
-    ensures leaves { result.leaves.items ≡ found.leaves.items }
-    ensures written { result.written ≡ length found.leaves.items }
+    ensures leaves { result.leaves ≡ found.leaves }
+    ensures written { result.written ≡ length found.leaves }
     ensures frames { result.frames.items ≡ [] }
 {
-    let written = found.leaves.len();
-    let contents = known_of(alloc, &found.leaves);
+    let written = found.leaves.list().len();
     Stock {
         leaves: found.leaves,
-        versions: found.versions,
-        contents,
+        contents: BTreeMap::new(alloc),
         written,
         frames: Vec::new(alloc),
     }

@@ -50,7 +50,7 @@ impl<A: Disk> Shelf<A> {
             drop(made);
             return Err(OldFault::BadFrame { at: end });
         }
-        match self.stock.add(made) {
+        match self.stock.add(self.alloc, made) {
             Ok(()) => Ok(()),
             Err(_refused) => Err(OldFault::NoMemory),
         }

@@ -24,7 +24,7 @@ pub(crate) struct Tail {
 pub(crate) fn open_tail<D: Disk>(disk: &mut D, found: &Found) -> Result<Tail, OldFault>
     requires found { IsFoundOn (D.view disk.old) found.now }
     requires synced { (c : Image) → (D.view disk.old).may_leave c → c.log ≡ (D.view disk.old).seen.log }
-    ensures ends { IfOk result (λ tail. EndsThere tail found.now.leaves.items (D.view disk.new)) }
+    ensures ends { IfOk result (λ tail. EndsThere tail found.now.leaves (D.view disk.new)) }
     ensures place { IfOk result (λ tail. tail.end ≡ found.now.end) }
     ensures opened { IfOk result (λ tail. tail.opened ≡ (D.view disk.new).faults) }
     ensures any_moment { IsTrue (D.view disk.old).tells → Adds (D.view disk.old) (D.view disk.new) (λ c. frames_of c.log ≡ frames_of (D.view disk.old).seen.log) }

@@ -1,15 +1,13 @@
 //! The leaves of a log area, judged frame after frame.
-ghost use Rattle.std.specs.Prelude.{◌≡◌, ◌⊎◌, ◌+◌, ◌<◌, ◌≤◌, ◌^◌, ◌++◌, ◌∷◌, ℕ, length, true, if◌then◌else◌, ◌==◌, OnOk, IfOk, IfErr, IfSome, IfNone};
+ghost use Rattle.std.specs.Prelude.{◌≡◌, ◌⊎◌, ◌+◌, ◌<◌, ◌≤◌, ◌^◌, ◌++◌, ◌∷◌, ℕ, length, true, OnOk, IfOk, IfErr, IfSome, IfNone};
 ghost use Rattle.std.specs.Int.{w32, to_be_bytes};
 ghost use Rattle.pass_leaf.specs.Archives.{is_open, HasBadFrame, IsBroken, MayNotStand};
-ghost use Rattle.pass_leaf.specs.Reads.{version_at, AreVersions, IsNextLeaf, IsFound};
+ghost use Rattle.pass_leaf.specs.Reads.{IsNextLeaf, IsFound};
 
 use crate::reading::{LeafFault, read_leaf};
-use crate::{Leaf, OldFault};
-use pass_entry::{Node, Pnode};
+use crate::{Leaves, OldFault};
 use pass_num::Cursor;
-use std::alloc::{AllocError, Global};
-use std::collections::BTreeMap;
+use std::alloc::Global;
 
 /// The byte of an open gate.
 pub(crate) const OPEN: u8 = 1;
@@ -17,32 +15,12 @@ pub(crate) const OPEN: u8 = 1;
 // How many bytes a frame has in front of its leaf: its gate and its length.
 const HEAD: usize = 5;
 
-/// What a log area holds: its leaves, the version of each file's last leaf, the place of the gate behind the last frame, and
-/// whether the area has at most one byte.
+/// What a log area holds: its leaves, the place of the gate behind the last frame, and whether the area has at most one byte.
 #[derive(Drop)]
 pub(crate) struct Found {
-    pub(crate) leaves: Vec<Leaf>,
-    pub(crate) versions: BTreeMap<u64, u64>,
+    pub(crate) leaves: Leaves,
     pub(crate) end: u64,
     pub(crate) short: bool,
-}
-
-/// The version that a table has of a file; 0 where it has none.
-pub(crate) fn version_of(versions: &BTreeMap<u64, u64>, pnode: Pnode) -> u64
-    ensures { result ≡ version_at versions.now pnode }
-{
-    match versions.get(&pnode.0) {
-        Some(version) => *version,
-        None => 0,
-    }
-}
-
-// Puts a version into a table.
-fn note(versions: &mut BTreeMap<u64, u64>, node: Node) -> Result<(), AllocError>
-    ensures { OnOk result ((pnode : ℕ) → version_at versions.new pnode ≡ (if node.pnode == pnode then node.version else version_at versions.old pnode)) }
-{
-    versions.insert(node.pnode.0, node.version)?;
-    Ok(())
 }
 
 // The frame behind an open gate at the front, and what follows it, which isn't empty.
@@ -69,27 +47,19 @@ fn frame_at(bytes: &[u8]) -> Option<(&[u8], &[u8])>
 }
 
 // Puts the leaf of a frame behind others.
-fn read_frame(
-    alloc: Global,
-    frame: &[u8],
-    leaves: &mut Vec<Leaf>,
-    versions: &mut BTreeMap<u64, u64>,
-) -> Result<(), LeafFault>
-    requires { AreVersions versions.old leaves.old.items }
-    ensures next { OnOk result (IsNextLeaf leaves.old.items frame.now leaves.new.items) }
-    ensures versions { OnOk result (AreVersions versions.new leaves.new.items) }
-    ensures bad { IfErr result (λ e. e ≡ LeafFault.Bad → MayNotStand leaves.old.items frame.now) }
+fn read_frame(alloc: Global, frame: &[u8], leaves: &mut Leaves) -> Result<(), LeafFault>
+    ensures next { OnOk result (IsNextLeaf leaves.old frame.now leaves.new) }
+    ensures bad { IfErr result (λ e. e ≡ LeafFault.Bad → MayNotStand leaves.old frame.now) }
 {
     let leaf = match read_leaf(alloc, frame) {
         Ok(leaf) => leaf,
         Err(fault) => return Err(fault),
     };
     let node = leaf.node();
-    if node.version <= version_of(versions, node.pnode) {
+    if node.version <= leaves.last_version(node.pnode) {
         return Err(LeafFault::Bad);
     }
-    note(versions, node)?;
-    leaves.push(leaf)?;
+    leaves.push(alloc, leaf)?;
     Ok(())
 }
 
@@ -112,14 +82,13 @@ fn walk(alloc: Global, bytes: &[u8]) -> Result<Found, OldFault>
     ensures fault { IfErr result (λ e. (e ≡ OldFault.NoMemory) ⊎ ((at : ℕ) × (e ≡ OldFault.BadFrame at) × HasBadFrame bytes.now at)) }
 {
     let mut place: u64 = 0;
-    let mut leaves = Vec::new(alloc);
-    let mut versions = BTreeMap::new(alloc);
+    let mut leaves = Leaves::new(alloc);
     let mut rest = bytes;
     while rest[0] == OPEN {
         let Some((frame, after)) = frame_at(rest) else {
             return Err(OldFault::BadFrame { at: place });
         };
-        if let Err(fault) = read_frame(alloc, frame, &mut leaves, &mut versions) {
+        if let Err(fault) = read_frame(alloc, frame, &mut leaves) {
             return Err(fault_at(fault, place));
         }
         place += (HEAD + frame.len()) as u64;
@@ -127,7 +96,6 @@ fn walk(alloc: Global, bytes: &[u8]) -> Result<Found, OldFault>
     }
     Ok(Found {
         leaves,
-        versions,
         end: place,
         short: false,
     })
@@ -141,8 +109,7 @@ pub(crate) fn found_in(alloc: Global, bytes: &[u8]) -> Result<Found, OldFault>
 {
     if bytes.len() <= 1 {
         return Ok(Found {
-            leaves: Vec::new(alloc),
-            versions: BTreeMap::new(alloc),
+            leaves: Leaves::new(alloc),
             end: 0,
             short: true,
         });

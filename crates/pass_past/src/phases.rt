@@ -15,18 +15,15 @@ ghost use Rattle.pass_past.specs.Keepings.{IsKeeping, IsHalted};
 
 use crate::contents::{add_files, content, is_file, listed, opened_files};
 use pass_entry::{Entry, Node, Pnode};
-use pass_leaf::{Old, OldFault};
+use pass_leaf::{LARGEST, Old, OldFault};
 use pass_outside::Disk;
 use pass_plain::{Recording, Start, VersionStep};
 use pass_report::Trail;
 use std::alloc::{AllocError, Global};
 use std::collections::BTreeSet;
 
-// The greatest size of a version that is kept, in bytes. No file is as large.
-const LARGEST: usize = 1 << 28;
-
 // A version of this file and size can be kept.
-fn may_be_kept(file: Pnode, size: usize) -> bool
+fn may_be_kept(file: Pnode, size: u64) -> bool
     ensures { IsTrue result → (1 ≤ file) × (size ≤ 2 ^ 28) }
 {
     file.0 > 0 && size <= LARGEST
@@ -37,7 +34,7 @@ pub fn keep_next<A: Disk>(old: &mut Old<A>, node: Node, bytes: &[u8]) -> Result<
     ensures kept { OnOk result ((first : Archive A) (done : List FileVersion) → IsKeeping A.view first done old.old → IsKeeping A.view first (done ++ record { node = node; bytes = bytes.now } ∷ []) old.new) }
     ensures stopped { IfErr result (λ e. (first : Archive A) (done : List FileVersion) → IsKeeping A.view first done old.old → IsHalted A.view first (done ++ record { node = node; bytes = bytes.now } ∷ []) old.new e) }
 {
-    if !may_be_kept(node.pnode, bytes.len()) {
+    if !may_be_kept(node.pnode, bytes.len() as u64) {
         return Err(OldFault::NoMemory);
     }
     match old.keep(node, bytes) {

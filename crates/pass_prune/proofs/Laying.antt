@@ -13,11 +13,10 @@ use Rattle.pass_entry.proofs.Lists.{same_numbers, different}
 use Rattle.pass_leaf.specs.Leaves.{Leaf}
 use Rattle.pass_leaf.specs.Contents.{laid, last_content, last_version, AreLeavesAfter, AreLeaves}
 use Rattle.pass_leaf.specs.Keeping.{FileVersion}
-use Rattle.pass_leaf.specs.Reads.{version_at, AreVersions}
 use Rattle.pass_past.specs.Keepings.{Begins}
 use Rattle.pass_prune.specs.Prunings.{version_behind, contents_after, chosen_of}
 use Rattle.pass_prune.specs.Tables.{chosen_one, IsNext, IsSoFar, AreSoFar, IsTakenOut}
-use Rattle.pass_prune.proofs.Nodes.{one_more}
+use Rattle.pass_plain.proofs.Replays.{take-next}
 use Rattle.pass_prune.proofs.Contents.{chosen-append, rises, last_is}
 use Rattle.pass_prune.proofs.Going.{other_version, other_content, content_is}
 
@@ -25,58 +24,58 @@ abbrev pub Contents : Type 0
 Contents = BTreeMap ℕ (Vec ℕ Global)
 
 -- a leaf of a list stands behind others
-pub next_in : (last : BTreeMap ℕ ℕ) (leaves : List Leaf) (i : ℕ) (leaf : Leaf) → AreLeaves leaves → AreVersions last leaves → i < length leaves → leaf ≡ get_or leaves i leaf → IsNext last (take i leaves) leaf (drop (i + 1) leaves)
-next_in last leaves i leaf are known within at =
+pub next_in : (leaves : List Leaf) (i : ℕ) (leaf : Leaf) → AreLeaves leaves → i < length leaves → leaf ≡ get_or leaves i leaf → IsNext leaves (take i leaves) leaf (drop (i + 1) leaves)
+next_in leaves i leaf are within at =
     let rest : drop i leaves ≡ leaf ∷ drop (i + 1) leaves = drop_more leaves i leaf within ∙ ap (λ (l : Leaf). l ∷ drop (i + 1) leaves) (sym at) in
     let whole : leaves ≡ take i leaves ++ leaf ∷ drop (i + 1) leaves = sym (take-append-drop i leaves) ∙ ap (λ (l : List Leaf). take i leaves ++ l) rest in
-    record { are = subst AreLeaves whole are; last_are = subst (AreVersions last) whole known }
+    record { are = subst AreLeaves whole are; whole = whole }
 
 pub chosen_next : (choice : Node → Bool) (leaves : List Leaf) (i : ℕ) (leaf : Leaf) → i < length leaves → leaf ≡ get_or leaves i leaf → chosen_of choice (take (i + 1) leaves) ≡ chosen_of choice (take i leaves) ++ chosen_one choice (take i leaves) leaf
-chosen_next choice leaves i leaf within at = ap (chosen_of choice) (one_more leaves i leaf within at) ∙ chosen-append choice (take i leaves) (leaf ∷ [])
+chosen_next choice leaves i leaf within at = ap (chosen_of choice) (take-next leaves i leaf within at) ∙ chosen-append choice (take i leaves) (leaf ∷ [])
 
 -- the leaf is above its file's leaves before it, and not above its last one
 are_behind : (past : List Leaf) (leaf : Leaf) (base more : List Leaf) → AreLeavesAfter base (past ++ leaf ∷ more) → AreLeavesAfter (base ++ past) (leaf ∷ more)
 are_behind [] leaf base more are = subst (λ (l : List Leaf). AreLeavesAfter l (leaf ∷ more)) (sym (append-nil base)) are
 are_behind (x ∷ past) leaf base more are = subst (λ (l : List Leaf). AreLeavesAfter l (leaf ∷ more)) (append_assoc base (x ∷ []) past) (are_behind past leaf (base ++ x ∷ []) more are.2)
 
-pub is_above_past : (last : BTreeMap ℕ ℕ) (past : List Leaf) (leaf : Leaf) (more : List Leaf) → IsNext last past leaf more → last_version past leaf.node.pnode < leaf.node.version
-is_above_past last past leaf more n = (are_behind past leaf [] more n.are).1
+pub is_above_past : (all past : List Leaf) (leaf : Leaf) (more : List Leaf) → IsNext all past leaf more → last_version past leaf.node.pnode < leaf.node.version
+is_above_past all past leaf more n = (are_behind past leaf [] more n.are).1
 
-pub is_up_to_last : (last : BTreeMap ℕ ℕ) (past : List Leaf) (leaf : Leaf) (more : List Leaf) → IsNext last past leaf more → leaf.node.version ≤ version_at last leaf.node.pnode
-is_up_to_last last past leaf more n =
+pub is_up_to_last : (all past : List Leaf) (leaf : Leaf) (more : List Leaf) → IsNext all past leaf more → leaf.node.version ≤ last_version all leaf.node.pnode
+is_up_to_last all past leaf more n =
     let behind = are_behind past leaf [] more n.are in
     let on : last_version (past ++ leaf ∷ []) leaf.node.pnode ≤ last_version (past ++ leaf ∷ more) leaf.node.pnode =
     subst (λ (l : List Leaf). last_version (past ++ leaf ∷ []) leaf.node.pnode ≤ last_version l leaf.node.pnode) (append_assoc past (leaf ∷ []) more) (rises (past ++ leaf ∷ []) more leaf.node.pnode behind.2) in
-    omega (arith, on, last_is past leaf leaf.node.pnode refl, n.last_are leaf.node.pnode)
+    omega (arith, on, last_is past leaf leaf.node.pnode refl, ap (λ (l : List Leaf). last_version l leaf.node.pnode) n.whole)
 
 -- the content of a file with one leaf more is made of what the table has
-pub made_of : (last : BTreeMap ℕ ℕ) (past : List Leaf) (leaf : Leaf) (more : List Leaf) (contents : Contents) → IsNext last past leaf more → AreSoFar last past contents → get nat_cmp contents leaf.node.pnode ≡ None
+pub made_of : (all past : List Leaf) (leaf : Leaf) (more : List Leaf) (contents : Contents) → IsNext all past leaf more → AreSoFar all past contents → get nat_cmp contents leaf.node.pnode ≡ None
     → last_content past leaf.node.pnode ≡ []
-made_of last past leaf more contents next are none = either (subst (λ (o : Option (Vec ℕ Global)). IfNone o ((last_content past leaf.node.pnode ≡ []) ⊎ (version_at last leaf.node.pnode ≤ last_version past leaf.node.pnode))) none (are leaf.node.pnode).gone)
+made_of all past leaf more contents next are none = either (subst (λ (o : Option (Vec ℕ Global)). IfNone o ((last_content past leaf.node.pnode ≡ []) ⊎ (last_version all leaf.node.pnode ≤ last_version past leaf.node.pnode))) none (are leaf.node.pnode).gone)
   where
-    either : (last_content past leaf.node.pnode ≡ []) ⊎ (version_at last leaf.node.pnode ≤ last_version past leaf.node.pnode) → last_content past leaf.node.pnode ≡ []
+    either : (last_content past leaf.node.pnode ≡ []) ⊎ (last_version all leaf.node.pnode ≤ last_version past leaf.node.pnode) → last_content past leaf.node.pnode ≡ []
     either (inl is) = is
-    either (inr end) = absurd (omega (arith, end, is_above_past last past leaf more next, is_up_to_last last past leaf more next))
+    either (inr end) = absurd (omega (arith, end, is_above_past all past leaf more next, is_up_to_last all past leaf more next))
 
-so_far_as : (last : BTreeMap ℕ ℕ) (past : List Leaf) (old new : Contents) (q : ℕ) → get nat_cmp new q ≡ get nat_cmp old q → IsSoFar last past old q → IsSoFar last past new q
-so_far_as last past old new q same was = record {
+so_far_as : (all past : List Leaf) (old new : Contents) (q : ℕ) → get nat_cmp new q ≡ get nat_cmp old q → IsSoFar all past old q → IsSoFar all past new q
+so_far_as all past old new q same was = record {
   there = subst (λ (o : Option (Vec ℕ Global)). IfSome o (λ v. v.items ≡ last_content past q)) (sym same) was.there;
-  gone = subst (λ (o : Option (Vec ℕ Global)). IfNone o ((last_content past q ≡ []) ⊎ (version_at last q ≤ last_version past q))) (sym same) was.gone;
+  gone = subst (λ (o : Option (Vec ℕ Global)). IfNone o ((last_content past q ≡ []) ⊎ (last_version all q ≤ last_version past q))) (sym same) was.gone;
 }
 
 -- with the leaf behind, and its content in the table or none behind it
-other_on : (last : BTreeMap ℕ ℕ) (past : List Leaf) (leaf : Leaf) (contents : Contents) (q : ℕ) → leaf.node.pnode ≢ q → IsSoFar last past contents q → IsSoFar last (past ++ leaf ∷ []) contents q
-other_on last past leaf contents q apart is = record {
+other_on : (all past : List Leaf) (leaf : Leaf) (contents : Contents) (q : ℕ) → leaf.node.pnode ≢ q → IsSoFar all past contents q → IsSoFar all (past ++ leaf ∷ []) contents q
+other_on all past leaf contents q apart is = record {
   there = subst (λ (c : List ℕ). IfSome (get nat_cmp contents q) (λ v. v.items ≡ c)) (sym (other_content past leaf q apart)) is.there;
-  gone = subst (λ (c : List ℕ). IfNone (get nat_cmp contents q) ((c ≡ []) ⊎ (version_at last q ≤ last_version (past ++ leaf ∷ []) q))) (sym (other_content past leaf q apart))
-      (subst (λ (v : ℕ). IfNone (get nat_cmp contents q) ((last_content past q ≡ []) ⊎ (version_at last q ≤ v))) (sym (other_version past leaf q apart)) is.gone);
+  gone = subst (λ (c : List ℕ). IfNone (get nat_cmp contents q) ((c ≡ []) ⊎ (last_version all q ≤ last_version (past ++ leaf ∷ []) q))) (sym (other_content past leaf q apart))
+      (subst (λ (v : ℕ). IfNone (get nat_cmp contents q) ((last_content past q ≡ []) ⊎ (last_version all q ≤ v))) (sym (other_version past leaf q apart)) is.gone);
 }
 
-so_far_on : (last : BTreeMap ℕ ℕ) (past : List Leaf) (leaf : Leaf) (old new : Contents) → IsTakenOut last past old leaf.node.pnode → ((q : ℕ) → q ≢ leaf.node.pnode → get nat_cmp new q ≡ get nat_cmp old q)
-    → IsSoFar last (past ++ leaf ∷ []) new leaf.node.pnode → AreSoFar last (past ++ leaf ∷ []) new
-so_far_on last past leaf old new taken same here q = elim (cases_eq q leaf.node.pnode) [
-  | inl is ↦ subst (IsSoFar last (past ++ leaf ∷ []) new) (sym is) here
-  | inr apart ↦ other_on last past leaf new q (λ e. apart (sym e)) (so_far_as last past old new q (same q apart) (taken.others q apart))
+so_far_on : (all past : List Leaf) (leaf : Leaf) (old new : Contents) → IsTakenOut all past old leaf.node.pnode → ((q : ℕ) → q ≢ leaf.node.pnode → get nat_cmp new q ≡ get nat_cmp old q)
+    → IsSoFar all (past ++ leaf ∷ []) new leaf.node.pnode → AreSoFar all (past ++ leaf ∷ []) new
+so_far_on all past leaf old new taken same here q = elim (cases_eq q leaf.node.pnode) [
+  | inl is ↦ subst (IsSoFar all (past ++ leaf ∷ []) new) (sym is) here
+  | inr apart ↦ other_on all past leaf new q (λ e. apart (sym e)) (so_far_as all past old new q (same q apart) (taken.others q apart))
 ]
 
 -- what stands in front of the whole
@@ -87,12 +86,12 @@ chosen_begins choice leaves i = (
 )
 
 -- nothing is known of no leaves
-pub so_far_none : (last : BTreeMap ℕ ℕ) (contents : Contents) → IsEmpty contents → AreSoFar last [] contents
-so_far_none last contents empty q =
+pub so_far_none : (all : List Leaf) (contents : Contents) → IsEmpty contents → AreSoFar all [] contents
+so_far_none all contents empty q =
     let none : get nat_cmp contents q ≡ None = ap (lookup (is_at (nat_cmp q))) empty in
     record {
       there = subst (λ (o : Option (Vec ℕ Global)). IfSome o (λ v. v.items ≡ [])) (sym none) tt;
-      gone = subst (λ (o : Option (Vec ℕ Global)). IfNone o ((◌≡◌ {A = List ℕ} [] []) ⊎ (version_at last q ≤ 0))) (sym none) (inl refl);
+      gone = subst (λ (o : Option (Vec ℕ Global)). IfNone o ((◌≡◌ {A = List ℕ} [] []) ⊎ (last_version all q ≤ 0))) (sym none) (inl refl);
     }
 
 -- the version of the leaf is chosen, or it isn't
@@ -115,27 +114,27 @@ at_other : (k q : ℕ) → q ≢ k → is_eq (nat_cmp k q) ≡ false
 at_other k q apart = unsigned_tied k q ∙ different k q (λ same. apart (sym same))
 
 -- the file's content was taken out
-pub taken_out : (last : BTreeMap ℕ ℕ) (past : List Leaf) (old new : Contents) (file : ℕ) → Updates nat_cmp old new file None → AreSoFar last past old → IsTakenOut last past new file
-taken_out last past old new file u are = record { others = λ q apart. so_far_as last past old new q (u.2 q (at_other file q apart)) (are q); none = u.1 }
+pub taken_out : (all past : List Leaf) (old new : Contents) (file : ℕ) → Updates nat_cmp old new file None → AreSoFar all past old → IsTakenOut all past new file
+taken_out all past old new file u are = record { others = λ q apart. so_far_as all past old new q (u.2 q (at_other file q apart)) (are q); none = u.1 }
 
-pub taken_some : (last : BTreeMap ℕ ℕ) (past : List Leaf) (contents : Contents) (file : ℕ) (content : Vec ℕ Global) → AreSoFar last past contents → Some content ≡ get nat_cmp contents file → content.items ≡ last_content past file
-taken_some last past contents file content are is = subst (λ (o : Option (Vec ℕ Global)). IfSome o (λ v. v.items ≡ last_content past file)) (sym is) (are file).there
+pub taken_some : (all past : List Leaf) (contents : Contents) (file : ℕ) (content : Vec ℕ Global) → AreSoFar all past contents → Some content ≡ get nat_cmp contents file → content.items ≡ last_content past file
+taken_some all past contents file content are is = subst (λ (o : Option (Vec ℕ Global)). IfSome o (λ v. v.items ≡ last_content past file)) (sym is) (are file).there
 
 -- the content of the leaf is in the table
-pub put_in : (last : BTreeMap ℕ ℕ) (past : List Leaf) (leaf : Leaf) (old new : Contents) (content : Vec ℕ Global) → Updates nat_cmp old new leaf.node.pnode (Some content) → content.items ≡ laid (last_content past leaf.node.pnode) leaf
-    → IsTakenOut last past old leaf.node.pnode → AreSoFar last (past ++ leaf ∷ []) new
-put_in last past leaf old new content u made taken =
-    so_far_on last past leaf old new taken (λ q apart. u.2 q (at_other leaf.node.pnode q apart)) (record {
+pub put_in : (all past : List Leaf) (leaf : Leaf) (old new : Contents) (content : Vec ℕ Global) → Updates nat_cmp old new leaf.node.pnode (Some content) → content.items ≡ laid (last_content past leaf.node.pnode) leaf
+    → IsTakenOut all past old leaf.node.pnode → AreSoFar all (past ++ leaf ∷ []) new
+put_in all past leaf old new content u made taken =
+    so_far_on all past leaf old new taken (λ q apart. u.2 q (at_other leaf.node.pnode q apart)) (record {
       there = subst (λ (o : Option (Vec ℕ Global)). IfSome o (λ v. v.items ≡ last_content (past ++ leaf ∷ []) leaf.node.pnode)) (sym u.1) (made ∙ sym (content_is past leaf leaf.node.pnode refl));
-      gone = subst (λ (o : Option (Vec ℕ Global)). IfNone o ((last_content (past ++ leaf ∷ []) leaf.node.pnode ≡ []) ⊎ (version_at last leaf.node.pnode ≤ last_version (past ++ leaf ∷ []) leaf.node.pnode))) (sym u.1) tt;
+      gone = subst (λ (o : Option (Vec ℕ Global)). IfNone o ((last_content (past ++ leaf ∷ []) leaf.node.pnode ≡ []) ⊎ (last_version all leaf.node.pnode ≤ last_version (past ++ leaf ∷ []) leaf.node.pnode))) (sym u.1) tt;
     })
 
 -- no leaf of the file is behind
-pub put_not : (last : BTreeMap ℕ ℕ) (past : List Leaf) (leaf : Leaf) (contents : Contents) → (version_at last leaf.node.pnode == leaf.node.version) ≡ true → IsTakenOut last past contents leaf.node.pnode
-    → AreSoFar last (past ++ leaf ∷ []) contents
-put_not last past leaf contents end taken =
-    let most : version_at last leaf.node.pnode ≤ last_version (past ++ leaf ∷ []) leaf.node.pnode = omega (arith, same_numbers (version_at last leaf.node.pnode) leaf.node.version end, last_is past leaf leaf.node.pnode refl) in
-    so_far_on last past leaf contents contents taken (λ q apart. refl) (record {
+pub put_not : (all past : List Leaf) (leaf : Leaf) (contents : Contents) → (last_version all leaf.node.pnode == leaf.node.version) ≡ true → IsTakenOut all past contents leaf.node.pnode
+    → AreSoFar all (past ++ leaf ∷ []) contents
+put_not all past leaf contents end taken =
+    let most : last_version all leaf.node.pnode ≤ last_version (past ++ leaf ∷ []) leaf.node.pnode = omega (arith, same_numbers (last_version all leaf.node.pnode) leaf.node.version end, last_is past leaf leaf.node.pnode refl) in
+    so_far_on all past leaf contents contents taken (λ q apart. refl) (record {
       there = subst (λ (o : Option (Vec ℕ Global)). IfSome o (λ v. v.items ≡ last_content (past ++ leaf ∷ []) leaf.node.pnode)) (sym taken.none) tt;
-      gone = subst (λ (o : Option (Vec ℕ Global)). IfNone o ((last_content (past ++ leaf ∷ []) leaf.node.pnode ≡ []) ⊎ (version_at last leaf.node.pnode ≤ last_version (past ++ leaf ∷ []) leaf.node.pnode))) (sym taken.none) (inr most);
+      gone = subst (λ (o : Option (Vec ℕ Global)). IfNone o ((last_content (past ++ leaf ∷ []) leaf.node.pnode ≡ []) ⊎ (last_version all leaf.node.pnode ≤ last_version (past ++ leaf ∷ []) leaf.node.pnode))) (sym taken.none) (inr most);
     })

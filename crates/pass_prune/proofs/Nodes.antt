@@ -2,7 +2,7 @@
 use Rattle.std.proofs.Common.{◌≡◌, ◌⊎◌, ◌↔◌, ℕ, ◌+◌, ◌<◌, ◌==◌, Bool, true, false, cond, ◌||◌, List, [], ◌∷◌, ◌++◌, length, take, drop, get_or, inl, inr, refl, sym, ◌∙◌, ap, subst}
 use Rattle.std.specs.Prelude.{Contains}
 use Rattle.std.specs.List.{list_any}
-use Rattle.std.proofs.lemmas.List.{take_more, drop_more, take-append-drop}
+use Rattle.std.proofs.lemmas.List.{drop_more, take-append-drop}
 use Rattle.std.proofs.lemmas.List.Elements.{Contains-push, Contains-push_cases, Contains-append_left}
 use Rattle.std.proofs.lemmas.List.Folds.{list_any-append}
 use Rattle.std.proofs.lemmas.Map.Views.{Contains-from_any, list_any-from_Contains}
@@ -10,6 +10,7 @@ use Rattle.pass_entry.specs.declared.objects.Node.{Node}
 use Rattle.pass_entry.specs.declared.record.Record.{Record}
 use Rattle.pass_entry.proofs.Lists.{or_none, or_true, same_numbers, alike}
 use Rattle.pass_entry.proofs.Places.{contains_none}
+use Rattle.pass_plain.proofs.Replays.{take-next}
 use Rattle.pass_plain.specs.Graphs.{HasPath}
 use Rattle.pass_plain.specs.Versions.{same_node}
 use Rattle.pass_graph.specs.ListRanks.{HasNode}
@@ -21,12 +22,9 @@ use Rattle.pass_leaf.specs.Contents.{last_version}
 use Rattle.pass_prune.specs.Choices.{IsNamed, is_tagged, IsChosen, IsFirstLacking}
 use Rattle.pass_prune.specs.Tables.{AreNodes}
 
-pub one_more : {X : Type 0} (xs : List X) (k : ℕ) (x : X) → k < length xs → x ≡ get_or xs k x → take (k + 1) xs ≡ take k xs ++ x ∷ []
-one_more xs k x within at = take_more xs k x within ∙ ap (λ y. take k xs ++ y ∷ []) (sym at)
-
 any_more : {X : Type 0} (p : X → Bool) (xs : List X) (k : ℕ) (x : X) → k < length xs → x ≡ get_or xs k x → list_any p (take (k + 1) xs) ≡ (list_any p (take k xs) || p x)
 any_more p xs k x within at =
-    ap (list_any p) (one_more xs k x within at) ∙ list_any-append p (take k xs) (x ∷ []) ∙ ap (λ b. list_any p (take k xs) || b) (or_none (p x))
+    ap (list_any p) (take-next xs k x within at) ∙ list_any-append p (take k xs) (x ∷ []) ∙ ap (λ b. list_any p (take k xs) || b) (or_none (p x))
 
 put_more : (a s d : Bool) → cond d true (a || s) ≡ (a || (s || d))
 put_more true s true = refl
@@ -97,7 +95,7 @@ pub named_put : (list : List Record) (named : List Node) (k : ℕ) (node n : Nod
 named_put list named k node n old now new within at so_far put = (λ is. to (put.0 is), from)
   where
     more : take (k + 1) named ≡ take k named ++ node ∷ []
-    more = one_more named k node within at
+    more = take-next named k node within at
 
     on : IsNamed list (take k named) n → IsNamed list (take (k + 1) named) n
     on (one, among, own) = (one, subst (λ l. Contains l one) (sym more) (Contains-append_left (take k named) (node ∷ []) one among), own)

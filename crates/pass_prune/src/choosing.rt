@@ -1,36 +1,35 @@
 //! Which versions go onto a fresh archive.
-ghost use Rattle.std.specs.Prelude.{◌≡◌, ◌⊎◌, ◌↔◌, ◌==◌, ◌||◌, ◌<◌, ℕ, true, IfOk, OnOk, IfSome, IfNone, if◌then◌else◌};
+ghost use Rattle.std.specs.Prelude.{◌≡◌, ◌⊎◌, ◌↔◌, ◌||◌, ◌<◌, true, IfOk, OnOk, IfSome, IfNone};
 ghost use Rattle.std.specs.List.{list_any};
 ghost use Rattle.std.specs.HashSet.{contains};
 ghost use Rattle.pass_entry.specs.declared.objects.Node.{Node as AnyNode};
 ghost use Rattle.pass_plain.specs.Graphs.{HasPath};
 ghost use Rattle.pass_plain.specs.Versions.{same_node};
-ghost use Rattle.pass_leaf.specs.Reads.{version_at, AreVersions};
 ghost use Rattle.pass_prune.specs.Choices.{is_tagged, IsNamed, IsChoice, IsFirstLacking};
 ghost use Rattle.pass_prune.specs.Tables.{AreNodes, is_last_by, is_chosen_by};
 
-use pass_entry::{Node, Pnode, Text};
-use pass_leaf::Leaf;
+use pass_entry::{Node, Text};
+use pass_leaf::Leaves;
 use pass_query::{Steps, ancestors};
 use pass_waldo::Index;
 use std::alloc::{AllocError, Global};
-use std::collections::{BTreeMap, HashSet};
+use std::collections::HashSet;
 use std::marker::Brand;
 use std::sync::ledger::{Blank, Ledger};
 
-/// Chosen versions: these nodes, and the last version of each file.
+/// Chosen versions of leaves: these nodes, and the last version of each file.
 #[derive(Drop)]
-pub(crate) struct Choice {
+pub(crate) struct Choice<'a> {
     nodes: HashSet<Node>,
-    last: BTreeMap<u64, u64>,
+    pub(crate) leaves: &'a Leaves,
 }
 
-impl Choice {
+impl Choice<'_> {
     /// The version is the last one of its file.
     pub(crate) fn is_last(&self, node: &Node) -> bool
         ensures { result ≡ is_last_by self.now node.now }
     {
-        version_in(&self.last, node.pnode) == node.version
+        self.leaves.last_version(node.pnode) == node.version
     }
 
     /// The version is chosen.
@@ -38,16 +37,6 @@ impl Choice {
         ensures { result ≡ is_chosen_by self.now node.now }
     {
         self.nodes.contains(node) || self.is_last(node)
-    }
-}
-
-// The version that a table has of a file; 0 where it has none.
-fn version_in(last: &BTreeMap<u64, u64>, file: Pnode) -> u64
-    ensures { result ≡ version_at last.now file }
-{
-    match last.get(&file.0) {
-        Some(version) => *version,
-        None => 0,
     }
 }
 
@@ -131,38 +120,18 @@ fn add_named<L: Ledger>(
     Ok(())
 }
 
-// The version of each file's last leaf.
-fn last_versions(alloc: Global, leaves: &[Leaf]) -> Result<BTreeMap<u64, u64>, AllocError>
-    ensures { IfOk result (λ last. AreVersions last leaves.now) }
-{
-    let mut last = BTreeMap::new(alloc);
-    for leaf in leaves {
-        note(&mut last, leaf.node())?;
-    }
-    Ok(last)
-}
-
-// Puts a version into a table.
-fn note(last: &mut BTreeMap<u64, u64>, node: Node) -> Result<(), AllocError>
-    ensures { OnOk result ((pnode : ℕ) → version_at last.new pnode ≡ (if node.pnode == pnode then node.version else version_at last.old pnode)) }
-{
-    last.insert(node.pnode.0, node.version)?;
-    Ok(())
-}
-
 /// Chooses the tagged nodes of a log, the named ones with all that they came from, and the last version of each file.
-pub(crate) fn choose(
+pub(crate) fn choose<'a>(
     alloc: Global,
     index: &Index,
-    leaves: &[Leaf],
+    leaves: &'a Leaves,
     named: &[Node],
-) -> Result<Choice, AllocError>
-    ensures choice { IfOk result (λ c. IsChoice index.now named.now leaves.now (is_chosen_by c)) }
-    ensures last { IfOk result (λ c. AreVersions c.last leaves.now) }
+) -> Result<Choice<'a>, AllocError>
+    ensures choice { IfOk result (λ c. IsChoice index.now named.now c.leaves.now (is_chosen_by c)) }
+    ensures leaves { IfOk result (λ c. c.leaves.now ≡ leaves.now) }
 {
     let mut nodes = HashSet::new(alloc);
     add_tagged(alloc, index, &mut nodes)?;
     add_named::<Brand>(alloc, Blank::new(1), index, &mut nodes, named)?;
-    let last = last_versions(alloc, leaves)?;
-    Ok(Choice { nodes, last })
+    Ok(Choice { nodes, leaves })
 }

@@ -3,8 +3,6 @@ ghost use Rattle.std.specs.Prelude.{◌≡◌, ◌⊎◌, ◌↔◌, ◌≤◌, 
 ghost use Rattle.pass_entry.specs.declared.objects.Node.{Node as AnyNode};
 ghost use Rattle.pass_outside.specs.Moments.{IsDeviceWork};
 ghost use Rattle.pass_leaf.specs.declared.fault.OldFault.{OldFault as AnyFault};
-ghost use Rattle.pass_leaf.specs.Contents.{AreLeaves};
-ghost use Rattle.pass_leaf.specs.Reads.{AreVersions};
 ghost use Rattle.pass_past.specs.Keepings.{HasKept, HasStopped};
 ghost use Rattle.pass_prune.specs.Choices.{IsFirstLacking};
 ghost use Rattle.pass_prune.specs.Keepings.{IsKeptIn, IsKeptOut, IsKeptOnto};
@@ -18,7 +16,7 @@ use crate::choosing::{Choice, choose, first_lacking};
 use crate::laws::{goes_on, pruned};
 use crate::walking::keep_chosen;
 use pass_entry::Node;
-use pass_leaf::{Leaf, Leaves, Old, OldFault};
+use pass_leaf::{Leaves, Old, OldFault};
 use pass_outside::Disk;
 use pass_past::{finish, halt};
 use pass_waldo::Index;
@@ -43,61 +41,45 @@ fn unpruned<F>(fault: PruneFault, fresh: F) -> Pruned<F>
     }
 }
 
-// Keeps the chosen versions of leaves in an archive that was just opened, and writes what it gathers.
-fn keep_begun<F: Disk>(
-    old: &mut Old<F>,
-    alloc: Global,
-    leaves: &[Leaf],
-    choice: &Choice,
-) -> Result<(), OldFault>
+// Keeps the chosen versions in an archive that was just opened, and writes what it gathers.
+fn keep_begun<F: Disk>(old: &mut Old<F>, alloc: Global, choice: &Choice) -> Result<(), OldFault>
     requires healthy { (F.view old.old.disk).faults ≤ old.old.opened }
     requires begun { old.old.gathered ≡ [] }
-    requires are { AreLeaves leaves.now }
-    requires last { AreVersions choice.now.last leaves.now }
-    ensures kept { OnOk result (HasKept F.view old.old (chosen_of (is_chosen_by choice.now) leaves.now) old.new) }
-    ensures stopped { IfErr result (HasStopped F.view old.old (chosen_of (is_chosen_by choice.now) leaves.now) old.new) }
+    ensures kept { OnOk result (HasKept F.view old.old (chosen_of (is_chosen_by choice.now) choice.now.leaves.now) old.new) }
+    ensures stopped { IfErr result (HasStopped F.view old.old (chosen_of (is_chosen_by choice.now) choice.now.leaves.now) old.new) }
 {
     if let Err(fault) = old.check() {
         return Err(fault);
     }
-    if let Err(fault) = keep_chosen(old, alloc, leaves, choice) {
+    if let Err(fault) = keep_chosen(old, alloc, choice) {
         return Err(halt(old, fault));
     }
     finish(old)
 }
 
 // The same, where the archive has no leaf yet. The answer has how many there are then.
-fn keep_empty<F: Disk>(
-    old: &mut Old<F>,
-    alloc: Global,
-    leaves: &[Leaf],
-    choice: &Choice,
-) -> Result<u64, PruneFault>
+fn keep_empty<F: Disk>(old: &mut Old<F>, alloc: Global, choice: &Choice) -> Result<u64, PruneFault>
     requires healthy { (F.view old.old.disk).faults ≤ old.old.opened }
     requires begun { old.old.gathered ≡ [] }
-    requires are { AreLeaves leaves.now }
-    requires last { AreVersions choice.now.last leaves.now }
-    ensures { IsKeptIn F.view (chosen_of (is_chosen_by choice.now) leaves.now) old.old old.new result }
+    ensures { IsKeptIn F.view (chosen_of (is_chosen_by choice.now) choice.now.leaves.now) old.old old.new result }
 {
     if old.count() > 0 {
         return Err(PruneFault::NotFresh);
     }
-    match keep_begun(old, alloc, leaves, choice) {
+    match keep_begun(old, alloc, choice) {
         Ok(()) => Ok(old.count()),
         Err(fault) => Err(PruneFault::Fresh(fault)),
     }
 }
 
 // The same, and hands out the disk.
-fn keep_in<F: Disk>(alloc: Global, leaves: &[Leaf], choice: &Choice, old: Old<F>) -> Pruned<F>
+fn keep_in<F: Disk>(alloc: Global, choice: &Choice, old: Old<F>) -> Pruned<F>
     requires healthy { (F.view old.disk).faults ≤ old.opened }
     requires begun { old.gathered ≡ [] }
-    requires are { AreLeaves leaves.now }
-    requires last { AreVersions choice.now.last leaves.now }
-    ensures { IsKeptOut F.view (chosen_of (is_chosen_by choice.now) leaves.now) old result.fresh result.result }
+    ensures { IsKeptOut F.view (chosen_of (is_chosen_by choice.now) choice.now.leaves.now) old result.fresh result.result }
 {
     let mut old = old;
-    let result = keep_empty(&mut old, alloc, leaves, choice);
+    let result = keep_empty(&mut old, alloc, choice);
     Pruned {
         result,
         fresh: old.into_disk(),
@@ -105,14 +87,12 @@ fn keep_in<F: Disk>(alloc: Global, leaves: &[Leaf], choice: &Choice, old: Old<F>
 }
 
 // Opens the fresh archive, and keeps the chosen versions in it.
-fn keep_onto<F: Disk>(alloc: Global, leaves: &[Leaf], choice: &Choice, fresh: F) -> Pruned<F>
-    requires are { AreLeaves leaves.now }
-    requires last { AreVersions choice.now.last leaves.now }
-    ensures onto { IsKeptOnto F.view (chosen_of (is_chosen_by choice.now) leaves.now) fresh result.fresh result.result }
+fn keep_onto<F: Disk>(alloc: Global, choice: &Choice, fresh: F) -> Pruned<F>
+    ensures onto { IsKeptOnto F.view (chosen_of (is_chosen_by choice.now) choice.now.leaves.now) fresh result.fresh result.result }
     ensures work { IsDeviceWork (F.view fresh) (F.view result.fresh) (IsErrOf result.result (PruneFault.Fresh OldFault.DiskFault)) }
 {
     match Old::open(alloc, fresh) {
-        Ok(old) => keep_in(alloc, leaves, choice, old),
+        Ok(old) => keep_in(alloc, choice, old),
         Err((fault, fresh)) => unpruned(PruneFault::Fresh(fault), fresh),
     }
 }
@@ -143,9 +123,9 @@ pub fn prune<F: Disk>(
     if let Some(node) = first_lacking(index, named) {
         return unpruned(PruneFault::NoObject(node), fresh);
     }
-    let list = leaves.list();
-    match choose(alloc, index, list, named) {
-        Ok(choice) => keep_onto(alloc, list, &choice, fresh),
+    let _list = leaves.list();
+    match choose(alloc, index, leaves, named) {
+        Ok(choice) => keep_onto(alloc, &choice, fresh),
         Err(_refused) => unpruned(PruneFault::NoMemory, fresh),
     }
 }

@@ -1,11 +1,9 @@
 //! A walk over the leaves of an archive, with their contents.
 ghost use Rattle.std.specs.Prelude.{◌≡◌, ◌∷◌, ◌++◌, [], ℕ, List, IfOk, IfErr, OnOk, if◌then◌else◌};
-ghost use Rattle.std.specs.BTreeMap.{BTreeMap as AnyMap};
 ghost use Rattle.pass_leaf.specs.Leaves.{Leaf as AnyLeaf};
-ghost use Rattle.pass_leaf.specs.Contents.{laid, last_content, AreLeaves};
+ghost use Rattle.pass_leaf.specs.Contents.{laid, last_content};
 ghost use Rattle.pass_leaf.specs.Keeping.{FileVersion};
 ghost use Rattle.pass_leaf.specs.Archives.{Archive};
-ghost use Rattle.pass_leaf.specs.Reads.{AreVersions};
 ghost use Rattle.pass_past.specs.Keepings.{IsKeeping, IsHalted};
 ghost use Rattle.pass_prune.specs.Prunings.{chosen_of};
 ghost use Rattle.pass_prune.specs.Tables.{is_chosen_by, chosen_one, IsNext, AreSoFar, IsTakenOut};
@@ -17,9 +15,6 @@ use pass_past::keep_next;
 use std::alloc::{AllocError, Global};
 use std::collections::BTreeMap;
 
-// The greatest size of a version that is kept, in bytes. No file is as large.
-const LARGEST: u64 = 1 << 28;
-
 // The number of a leaf's file.
 fn file_of(leaf: &Leaf) -> u64
     ensures { result ≡ leaf.now.node.pnode }
@@ -29,8 +24,8 @@ fn file_of(leaf: &Leaf) -> u64
 
 // The content of a file's last leaf so far, taken out of the table; no bytes where it has none.
 fn take_last(alloc: Global, contents: &mut BTreeMap<u64, Vec<u8>>, file: u64) -> Vec<u8>
-    ensures content { (last : AnyMap ℕ ℕ) (past more : List AnyLeaf) (leaf : AnyLeaf) → leaf.node.pnode ≡ file → IsNext last past leaf more → AreSoFar last past contents.old → result.items ≡ last_content past file }
-    ensures others { (last : AnyMap ℕ ℕ) (past : List AnyLeaf) → AreSoFar last past contents.old → IsTakenOut last past contents.new file }
+    ensures content { (all past more : List AnyLeaf) (leaf : AnyLeaf) → leaf.node.pnode ≡ file → IsNext all past leaf more → AreSoFar all past contents.old → result.items ≡ last_content past file }
+    ensures others { (all past : List AnyLeaf) → AreSoFar all past contents.old → IsTakenOut all past contents.new file }
 {
     match contents.remove(&file) {
         Some(content) => content,
@@ -44,14 +39,11 @@ fn take_next(
     contents: &mut BTreeMap<u64, Vec<u8>>,
     leaf: &Leaf,
 ) -> Result<Vec<u8>, AllocError>
-    ensures content { IfOk result (λ v. (last : AnyMap ℕ ℕ) (past more : List AnyLeaf) → IsNext last past leaf.now more → AreSoFar last past contents.old
+    ensures content { IfOk result (λ v. (all past more : List AnyLeaf) → IsNext all past leaf.now more → AreSoFar all past contents.old
         → v.items ≡ laid (last_content past leaf.now.node.pnode) leaf.now) }
-    ensures others { (last : AnyMap ℕ ℕ) (past : List AnyLeaf) → AreSoFar last past contents.old → IsTakenOut last past contents.new leaf.now.node.pnode }
+    ensures others { (all past : List AnyLeaf) → AreSoFar all past contents.old → IsTakenOut all past contents.new leaf.now.node.pnode }
 {
     let mut content = take_last(alloc, contents, file_of(leaf));
-    if leaf.size() > LARGEST {
-        return Err(AllocError);
-    }
     lay(&mut content, leaf)?;
     Ok(content)
 }
@@ -63,8 +55,8 @@ fn put_back(
     leaf: &Leaf,
     content: Vec<u8>,
 ) -> Result<(), AllocError>
-    ensures { OnOk result ((past : List AnyLeaf) → content.items ≡ laid (last_content past leaf.now.node.pnode) leaf.now → IsTakenOut choice.now.last past contents.old leaf.now.node.pnode
-        → AreSoFar choice.now.last (past ++ leaf.now ∷ []) contents.new) }
+    ensures { OnOk result ((past : List AnyLeaf) → content.items ≡ laid (last_content past leaf.now.node.pnode) leaf.now → IsTakenOut choice.now.leaves.now past contents.old leaf.now.node.pnode
+        → AreSoFar choice.now.leaves.now (past ++ leaf.now ∷ []) contents.new) }
 {
     if choice.is_last(&leaf.node()) {
         return Ok(());
@@ -99,11 +91,11 @@ fn keep_leaf<F: Disk>(
     choice: &Choice,
     leaf: &Leaf,
 ) -> Result<(), OldFault>
-    ensures contents { OnOk result ((past more : List AnyLeaf) → IsNext choice.now.last past leaf.now more → AreSoFar choice.now.last past contents.old
-        → AreSoFar choice.now.last (past ++ leaf.now ∷ []) contents.new) }
-    ensures kept { OnOk result ((past more : List AnyLeaf) → IsNext choice.now.last past leaf.now more → AreSoFar choice.now.last past contents.old
+    ensures contents { OnOk result ((past more : List AnyLeaf) → IsNext choice.now.leaves.now past leaf.now more → AreSoFar choice.now.leaves.now past contents.old
+        → AreSoFar choice.now.leaves.now (past ++ leaf.now ∷ []) contents.new) }
+    ensures kept { OnOk result ((past more : List AnyLeaf) → IsNext choice.now.leaves.now past leaf.now more → AreSoFar choice.now.leaves.now past contents.old
         → (first : Archive F) (done : List FileVersion) → IsKeeping F.view first done old.old → IsKeeping F.view first (done ++ chosen_one (is_chosen_by choice.now) past leaf.now) old.new) }
-    ensures stopped { IfErr result (λ e. (past more : List AnyLeaf) → IsNext choice.now.last past leaf.now more → AreSoFar choice.now.last past contents.old
+    ensures stopped { IfErr result (λ e. (past more : List AnyLeaf) → IsNext choice.now.leaves.now past leaf.now more → AreSoFar choice.now.leaves.now past contents.old
         → (first : Archive F) (done : List FileVersion) → IsKeeping F.view first done old.old → IsHalted F.view first (done ++ chosen_one (is_chosen_by choice.now) past leaf.now) old.new e) }
 {
     let content = match take_next(alloc, contents, leaf) {
@@ -119,22 +111,19 @@ fn keep_leaf<F: Disk>(
     }
 }
 
-/// Keeps the chosen versions of leaves, in their order. One walk over the leaves: a file's content lies in memory from its first leaf to
+/// Keeps the chosen versions, in the order of the leaves. One walk over the leaves: a file's content lies in memory from its first leaf to
 /// its last.
 pub(crate) fn keep_chosen<F: Disk>(
     old: &mut Old<F>,
     alloc: Global,
-    leaves: &[Leaf],
     choice: &Choice,
 ) -> Result<(), OldFault>
-    requires are { AreLeaves leaves.now }
-    requires last { AreVersions choice.now.last leaves.now }
     requires begun { IsKeeping F.view old.old [] old.old }
-    ensures kept { OnOk result (IsKeeping F.view old.old (chosen_of (is_chosen_by choice.now) leaves.now) old.new) }
-    ensures stopped { IfErr result (IsHalted F.view old.old (chosen_of (is_chosen_by choice.now) leaves.now) old.new) }
+    ensures kept { OnOk result (IsKeeping F.view old.old (chosen_of (is_chosen_by choice.now) choice.now.leaves.now) old.new) }
+    ensures stopped { IfErr result (IsHalted F.view old.old (chosen_of (is_chosen_by choice.now) choice.now.leaves.now) old.new) }
 {
     let mut contents = BTreeMap::new(alloc);
-    for leaf in leaves {
+    for leaf in choice.leaves.list() {
         if let Err(fault) = keep_leaf(old, alloc, &mut contents, choice, leaf) {
             return Err(fault);
         }

@@ -1,7 +1,8 @@
 use Rattle.std.proofs.Common.{take, sym, subst, arith}
 use Rattle.std.proofs.lemmas.List.{take_all}
 use Rattle.pass_prune.specs.Tables.{AreNodes}
-use Rattle.pass_prune.proofs.Nodes.{one_more, nodes-push, lacking_at}
+use Rattle.pass_plain.proofs.Replays.{take-next}
+use Rattle.pass_prune.proofs.Nodes.{nodes-push, lacking_at}
 use Rattle.pass_prune.proofs.choosing.first_lacking.Goals as goal
 
 pub loop-node-preserved : goal.loop-node-preserved
@@ -9,7 +10,7 @@ loop-node-preserved c =
     let named = c.args.named.now in
     let i = c.loop-node.node-index in
     let node = c.node-item.result in
-    subst (AreNodes c.args.index.now) (sym (one_more named i node c.loop-node-test.true c.node-item.is)) (nodes-push c.args.index.now (take i named) node c.loop-node.invariant (c.has.ensures.there.0 (c.if-not-has.false)))
+    subst (AreNodes c.args.index.now) (sym (take-next named i node c.loop-node-test.true c.node-item.is)) (nodes-push c.args.index.now (take i named) node c.loop-node.invariant (c.has.ensures.there.0 (c.if-not-has.false)))
 
 pub returns-then-not-has-clause-lacking : goal.returns-then-not-has-clause-lacking
 returns-then-not-has-clause-lacking c =

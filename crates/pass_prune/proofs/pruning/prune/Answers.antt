@@ -45,30 +45,27 @@ pub returns-in-Err-clause-work : goal.returns-in-Err-clause-work
 returns-in-Err-clause-work g c =
     refused_work c.unpruned-in-Err.result.result NoMemory c.unpruned-in-Err.ensures.result g.F.Disk.view c.args.fresh c.unpruned-in-Err.result.fresh c.unpruned-in-Err.ensures.fresh (λ fault z. cc z)
 
-pub keep_onto-requires-clause-are : goal.keep_onto-requires-clause-are
-keep_onto-requires-clause-are g c = subst AreLeaves (sym c.list-list.ensures.list) c.list-list.ensures.are
-
 pub returns-in-Ok-clause-pruned : goal.returns-in-Ok-clause-pruned
 returns-in-Ok-clause-pruned g c =
     let view = g.F.Disk.view in
     let list = c.args.index.now in
     let named = c.args.named.now in
-    let slice = c.list-list.result.now in
+    let slice = c.in-Ok.choice.leaves.now in
     let r = c.keep_onto.result in
-    subst (λ (l : List Leaf). IfOk r.result (HasPruned view list named l c.args.fresh r.fresh)) c.list-list.ensures.list
-    (ended_pruned view list named slice (is_chosen_by c.in-Ok.choice) c.in-Ok.ensures.choice c.args.fresh r.fresh c.pruned.ensures c.goes_on.ensures (subst AreLeaves (sym c.list-list.ensures.list) c.list-list.ensures.are) r.result
+    subst (λ (l : List Leaf). IfOk r.result (HasPruned view list named l c.args.fresh r.fresh)) c.in-Ok.ensures.leaves
+    (ended_pruned view list named slice (is_chosen_by c.in-Ok.choice) c.in-Ok.ensures.choice c.args.fresh r.fresh c.pruned.ensures c.goes_on.ensures (subst AreLeaves (sym c.in-Ok.ensures.leaves) c.list-list.ensures.are) r.result
     c.keep_onto.ensures.onto)
 
 pub returns-in-Ok-clause-absent : goal.returns-in-Ok-clause-absent
 returns-in-Ok-clause-absent g c =
     let r = c.keep_onto.result in
     absent_none r.result c.args.index.now c.args.named.now c.in_default.ensures.all
-    (λ n e. ended_alone g.F.Disk.view c.args.index.now c.args.named.now c.list-list.result.now (is_chosen_by c.in-Ok.choice) c.in-Ok.ensures.choice c.args.fresh r.fresh r.result c.keep_onto.ensures.onto (inr (n, e)))
+    (λ n e. ended_alone g.F.Disk.view c.args.index.now c.args.named.now c.in-Ok.choice.leaves.now (is_chosen_by c.in-Ok.choice) c.in-Ok.ensures.choice c.args.fresh r.fresh r.result c.keep_onto.ensures.onto (inr (n, e)))
 
 pub returns-in-Ok-clause-not_fresh : goal.returns-in-Ok-clause-not_fresh
 returns-in-Ok-clause-not_fresh g c =
     let r = c.keep_onto.result in
-    ended_fresh g.F.Disk.view c.args.index.now c.args.named.now c.list-list.result.now (is_chosen_by c.in-Ok.choice) c.in-Ok.ensures.choice c.args.fresh r.fresh r.result c.keep_onto.ensures.onto
+    ended_fresh g.F.Disk.view c.args.index.now c.args.named.now c.in-Ok.choice.leaves.now (is_chosen_by c.in-Ok.choice) c.in-Ok.ensures.choice c.args.fresh r.fresh r.result c.keep_onto.ensures.onto
 
 pub returns-in-Ok-clause-stopped : goal.returns-in-Ok-clause-stopped
 returns-in-Ok-clause-stopped g c =
@@ -76,10 +73,10 @@ returns-in-Ok-clause-stopped g c =
     let view = g.F.Disk.view in
     let list = c.args.index.now in
     let named = c.args.named.now in
-    subst (λ (l : List Leaf). (fault : OldFault) → r.result ≡ Err (Fresh fault) → IsUnopenedArchive (view c.args.fresh) (view r.fresh) fault ⊎ IsPartlyPruned view list named l c.args.fresh r.fresh fault) c.list-list.ensures.list
-    (ended_stopped view list named c.list-list.result.now (is_chosen_by c.in-Ok.choice) c.in-Ok.ensures.choice c.args.fresh r.fresh r.result c.keep_onto.ensures.onto)
+    subst (λ (l : List Leaf). (fault : OldFault) → r.result ≡ Err (Fresh fault) → IsUnopenedArchive (view c.args.fresh) (view r.fresh) fault ⊎ IsPartlyPruned view list named l c.args.fresh r.fresh fault) c.in-Ok.ensures.leaves
+    (ended_stopped view list named c.in-Ok.choice.leaves.now (is_chosen_by c.in-Ok.choice) c.in-Ok.ensures.choice c.args.fresh r.fresh r.result c.keep_onto.ensures.onto)
 
 pub returns-in-Ok-clause-untouched : goal.returns-in-Ok-clause-untouched
 returns-in-Ok-clause-untouched g c = λ e.
     let r = c.keep_onto.result in
-    absurd (ended_alone g.F.Disk.view c.args.index.now c.args.named.now c.list-list.result.now (is_chosen_by c.in-Ok.choice) c.in-Ok.ensures.choice c.args.fresh r.fresh r.result c.keep_onto.ensures.onto e)
+    absurd (ended_alone g.F.Disk.view c.args.index.now c.args.named.now c.in-Ok.choice.leaves.now (is_chosen_by c.in-Ok.choice) c.in-Ok.ensures.choice c.args.fresh r.fresh r.result c.keep_onto.ensures.onto e)

@@ -11,4 +11,4 @@ returns-clause-ok g c = rw (← c.self.view_is) (on_ok_weaker c.check.result (λ
 pub returns-clause-are : goal.returns-clause-are
 returns-clause-are g c =
     let stock = c.self.inside.shelf.stock in
-    rw (← c.self.view_is) (are-front (take stock.written stock.leaves.items) (drop stock.written stock.leaves.items) (subst AreLeaves (sym (parts stock.written stock.leaves.items)) c.self.invariant.stocked.are))
+    rw (← c.self.view_is) (are-front (take stock.written stock.leaves) (drop stock.written stock.leaves) (subst AreLeaves (sym (parts stock.written stock.leaves)) c.self.invariant.stocked.are))

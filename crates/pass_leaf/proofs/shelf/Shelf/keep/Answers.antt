@@ -23,8 +23,8 @@ pub gather-requires-clause-above : goal.gather-requires-clause-above
 gather-requires-clause-above g c =
     let stock = c.args.self.now.stock in
     let v : FileVersion = record { node = c.args.node; bytes = c.args.content.now } in
-    let new : last_version stock.leaves.items v.node.pnode < v.node.version = search rules in
-    new_in stock.leaves.items (take stock.written stock.leaves.items) (drop stock.written stock.leaves.items) v (parts stock.written stock.leaves.items) new
+    let new : last_version stock.leaves v.node.pnode < v.node.version = search rules in
+    new_in stock.leaves (take stock.written stock.leaves) (drop stock.written stock.leaves) v (parts stock.written stock.leaves) new
 
 pub returns-in-Err-clause-moved : goal.returns-in-Err-clause-moved
 returns-in-Err-clause-moved g c =
@@ -37,9 +37,9 @@ returns-then-not-is_new-clause-moved g c =
     let stock = c.args.self.now.stock in
     let a = archive_of c.args.self.now in
     let v : FileVersion = record { node = c.args.node; bytes = c.args.content.now } in
-    let low : v.node.version ≤ last_version stock.leaves.items v.node.pnode =
-    ⊎_elim (λ lt. absurd (cc (c.is_new.ensures.1 lt, c.if-not-is_new.true))) (λ le. le) (cases_lt (last_version stock.leaves.items v.node.pnode) v.node.version) in
-    let below = low_in stock.leaves.items a.leaves a.gathered v (parts stock.written stock.leaves.items) low in
+    let low : v.node.version ≤ last_version stock.leaves v.node.pnode =
+    ⊎_elim (λ lt. absurd (cc (c.is_new.ensures.1 lt, c.if-not-is_new.true))) (λ le. le) (cases_lt (last_version stock.leaves v.node.pnode) v.node.version) in
+    let below = low_in stock.leaves a.leaves a.gathered v (parts stock.written stock.leaves) low in
     subst (λ (x : Gathering). HasMoved g.A.Disk.view a a x (Ok false)) (sym (version_below (gathering_of a) v below)) (moved_still g.A.Disk.view a a.gathered (gathering_of a) false refl refl refl)
 
 pub returns-then-not-is_new-clause-answer : goal.returns-then-not-is_new-clause-answer
@@ -47,9 +47,9 @@ returns-then-not-is_new-clause-answer g c =
     let stock = c.args.self.now.stock in
     let a = archive_of c.args.self.now in
     let v : FileVersion = record { node = c.args.node; bytes = c.args.content.now } in
-    let low : v.node.version ≤ last_version stock.leaves.items v.node.pnode =
-    ⊎_elim (λ lt. absurd (cc (c.is_new.ensures.1 lt, c.if-not-is_new.true))) (λ le. le) (cases_lt (last_version stock.leaves.items v.node.pnode) v.node.version) in
-    sym (above_not (last_version (all_leaves a) v.node.pnode) v.node.version (low_in stock.leaves.items a.leaves a.gathered v (parts stock.written stock.leaves.items) low))
+    let low : v.node.version ≤ last_version stock.leaves v.node.pnode =
+    ⊎_elim (λ lt. absurd (cc (c.is_new.ensures.1 lt, c.if-not-is_new.true))) (λ le. le) (cases_lt (last_version stock.leaves v.node.pnode) v.node.version) in
+    sym (above_not (last_version (all_leaves a) v.node.pnode) v.node.version (low_in stock.leaves a.leaves a.gathered v (parts stock.written stock.leaves) low))
 
 pub returns-in-Err-gather-clause-moved : goal.returns-in-Err-gather-clause-moved
 returns-in-Err-gather-clause-moved g c =
@@ -79,8 +79,8 @@ returns-then-gathered-lt-BATCH-clause-moved g c =
     let e = c.in_default-gather.ensures in
     let mid = archive_of c.gather.new.self in
     let stock = c.gather.new.self.stock in
-    let fresh : last_version c.args.self.now.stock.leaves.items v.node.pnode < v.node.version = search rules in
-    let above = new_in c.args.self.now.stock.leaves.items a.leaves a.gathered v (parts c.args.self.now.stock.written c.args.self.now.stock.leaves.items) fresh in
+    let fresh : last_version c.args.self.now.stock.leaves v.node.pnode < v.node.version = search rules in
+    let above = new_in c.args.self.now.stock.leaves a.leaves a.gathered v (parts c.args.self.now.stock.written c.args.self.now.stock.leaves) fresh in
     let size = gathered_size stock.frames.items mid.gathered e.open.stocked.gathered_are in
     let small : frames_size (a.gathered ++ next_of (all_leaves a) v ∷ []) < batch_size = omega (arith, c.if-gathered-lt-BATCH.true, c.len-gathered.ensures, size_of a mid v (length stock.frames.items) e.gathered size) in
     subst (λ (x : Archive g.row.A.Denot). HasMoved g.A.Disk.view a x (with_version (gathering_of a) v) (Ok true)) (sym e.gathered)
@@ -94,8 +94,8 @@ returns-in-Ok-clause-moved g c =
     let mid = archive_of c.gather.new.self in
     let new = archive_of c.write.new.self in
     let stock = c.gather.new.self.stock in
-    let fresh : last_version c.args.self.now.stock.leaves.items v.node.pnode < v.node.version = search rules in
-    let above = new_in c.args.self.now.stock.leaves.items a.leaves a.gathered v (parts c.args.self.now.stock.written c.args.self.now.stock.leaves.items) fresh in
+    let fresh : last_version c.args.self.now.stock.leaves v.node.pnode < v.node.version = search rules in
+    let above = new_in c.args.self.now.stock.leaves a.leaves a.gathered v (parts c.args.self.now.stock.written c.args.self.now.stock.leaves) fresh in
     let size = gathered_size stock.frames.items mid.gathered e.open.stocked.gathered_are in
     let full : batch_size ≤ frames_size (a.gathered ++ next_of (all_leaves a) v ∷ []) = omega (arith, c.if-gathered-lt-BATCH.false, c.len-gathered.ensures, size_of a mid v (length stock.frames.items) e.gathered size) in
     let moved : HasMoved g.A.Disk.view (with_next a v) new (with_batch (gathering_of (with_next a v))) (Ok c.in-Ok.field-0) =
@@ -112,8 +112,8 @@ returns-in-Err-write-clause-moved g c =
     let stock = c.gather.new.self.stock in
     let fault = c.in-Err-write.fault in
     let f = c.in-Err-write.ensures in
-    let fresh : last_version c.args.self.now.stock.leaves.items v.node.pnode < v.node.version = search rules in
-    let above = new_in c.args.self.now.stock.leaves.items a.leaves a.gathered v (parts c.args.self.now.stock.written c.args.self.now.stock.leaves.items) fresh in
+    let fresh : last_version c.args.self.now.stock.leaves v.node.pnode < v.node.version = search rules in
+    let above = new_in c.args.self.now.stock.leaves a.leaves a.gathered v (parts c.args.self.now.stock.written c.args.self.now.stock.leaves) fresh in
     let size = gathered_size stock.frames.items mid.gathered e.open.stocked.gathered_are in
     let full : batch_size ≤ frames_size (a.gathered ++ next_of (all_leaves a) v ∷ []) = omega (arith, c.if-gathered-lt-BATCH.false, c.len-gathered.ensures, size_of a mid v (length stock.frames.items) e.gathered size) in
     subst (λ (x : Gathering). HasMoved {T = Bool} g.A.Disk.view a new x (Err fault)) (sym (full_goal a v above full)) (failed_over g.A.Disk.view a mid new v fault e.gathered f.moved f.fault.0 f.fault.1)
@@ -153,8 +153,8 @@ returns-in-Err-write-clause-unbroken g c = λ healthy.
     let e = c.in_default-gather.ensures in
     let shelf = c.gather.new.self in
     let mid = archive_of shelf in
-    let fresh : last_version c.args.self.now.stock.leaves.items v.node.pnode < v.node.version = search rules in
-    let above = new_in c.args.self.now.stock.leaves.items a.leaves a.gathered v (parts c.args.self.now.stock.written c.args.self.now.stock.leaves.items) fresh in
+    let fresh : last_version c.args.self.now.stock.leaves v.node.pnode < v.node.version = search rules in
+    let above = new_in c.args.self.now.stock.leaves a.leaves a.gathered v (parts c.args.self.now.stock.written c.args.self.now.stock.leaves) fresh in
     let size = gathered_size shelf.stock.frames.items mid.gathered e.open.stocked.gathered_are in
     let room = room_of (g.A.Disk.view shelf.disk) shelf.stock shelf.tail e.open e.some in
     let low : next_end (all_leaves a) (whole_end a) v < 2 ^ 39 = omega (arith, room, size, ap whole_end e.gathered, next_end-more a v) in

@@ -1,8 +1,5 @@
 use Rattle.std.proofs.Common.{rules, ◌≡◌, ◌⊎◌, ◌+◌, ◌<◌, ◌^◌, [], ℕ, List, length, take, drop, refl, ap, sym, subst, arith}
-use Rattle.std.specs.Prelude.{Vec}
-use Rattle.std.specs.declared.alloc.Global.{Global}
 use Rattle.pass_leaf.specs.declared.tail.Tail.{Tail}
-use Rattle.pass_leaf.specs.Leaves.{Leaf}
 use Rattle.pass_leaf.specs.Contents.{AreLeaves}
 use Rattle.pass_leaf.specs.Gatherings.{frames_size}
 use Rattle.pass_leaf.specs.Reads.{IsBatch}
@@ -22,7 +19,7 @@ pub returns-in-Err-clause-open : goal.returns-in-Err-clause-open
 returns-in-Err-clause-open g c =
     let self = c.args.self.now in
     let o = c.requires.open in
-    let leaves = self.stock.leaves.items in
+    let leaves = self.stock.leaves in
     let w = self.stock.written in
     let same : c.deref.result.now ≡ self.stock.frames.items = search rules in
     let batch : IsBatch c.deref.result.now (drop w leaves) = subst (λ (b : List ℕ). IsBatch b (drop w leaves)) (sym same) (batch_some self.stock.frames.items (drop w leaves) c.requires.some o.stocked.gathered_are) in
@@ -37,7 +34,7 @@ pub returns-in-Err-clause-moved : goal.returns-in-Err-clause-moved
 returns-in-Err-clause-moved g c =
     let self = c.args.self.now in
     let o = c.requires.open in
-    let leaves = self.stock.leaves.items in
+    let leaves = self.stock.leaves in
     let w = self.stock.written in
     let same : c.deref.result.now ≡ self.stock.frames.items = search rules in
     let batch : IsBatch c.deref.result.now (drop w leaves) = subst (λ (b : List ℕ). IsBatch b (drop w leaves)) (sym same) (batch_some self.stock.frames.items (drop w leaves) c.requires.some o.stocked.gathered_are) in
@@ -49,36 +46,36 @@ pub returns-clause-open : goal.returns-clause-open
 returns-clause-open g c =
     let self = c.args.self.now in
     let o = c.requires.open in
-    let leaves = self.stock.leaves.items in
+    let leaves = self.stock.leaves in
     let w = self.stock.written in
     let same : c.deref.result.now ≡ self.stock.frames.items = search rules in
     let batch : IsBatch c.deref.result.now (drop w leaves) = subst (λ (b : List ℕ). IsBatch b (drop w leaves)) (sym same) (batch_some self.stock.frames.items (drop w leaves) c.requires.some o.stocked.gathered_are) in
     let h = c.in_default.ensures.appended (take w leaves) (drop w leaves) o.ends batch (subst AreLeaves (sym (parts w leaves)) o.stocked.are) in
     let s = c.settle.ensures in
-    open_settled (g.A.Disk.view c.append.new.disk) self.stock c.settle.new.self c.append.new.self o.stocked.are (search rules) (search rules) (ap (λ (x : Vec Leaf Global). x.items) s.leaves) s.written s.frames h.ends
+    open_settled (g.A.Disk.view c.append.new.disk) self.stock c.settle.new.self c.append.new.self o.stocked.are (search rules) s.leaves s.written s.frames h.ends
 
 pub returns-clause-moved : goal.returns-clause-moved
 returns-clause-moved g c =
     let self = c.args.self.now in
     let o = c.requires.open in
-    let leaves = self.stock.leaves.items in
+    let leaves = self.stock.leaves in
     let w = self.stock.written in
     let same : c.deref.result.now ≡ self.stock.frames.items = search rules in
     let batch : IsBatch c.deref.result.now (drop w leaves) = subst (λ (b : List ℕ). IsBatch b (drop w leaves)) (sym same) (batch_some self.stock.frames.items (drop w leaves) c.requires.some o.stocked.gathered_are) in
     let e = c.in_default.ensures in
     let h = e.appended (take w leaves) (drop w leaves) o.ends batch (subst AreLeaves (sym (parts w leaves)) o.stocked.are) in
     let s = c.settle.ensures in
-    let p = settled_parts self.stock c.settle.new.self (ap (λ (x : Vec Leaf Global). x.items) s.leaves) s.written in
+    let p = settled_parts self.stock c.settle.new.self s.leaves s.written in
     moved_batch g.A.Disk.view (archive_of self) _ self.tail c.append.new.self c.in_default.field-0 tt h refl refl e.opened p.0 p.1 e.store e.work e.four e.since
 
 pub returns-in-Err-clause-whole : goal.returns-in-Err-clause-whole
-returns-in-Err-clause-whole g c = ap (λ (t : Tail). t.end + frames_size (drop c.args.self.now.stock.written c.args.self.now.stock.leaves.items)) c.in-Err.ensures.err
+returns-in-Err-clause-whole g c = ap (λ (t : Tail). t.end + frames_size (drop c.args.self.now.stock.written c.args.self.now.stock.leaves)) c.in-Err.ensures.err
 
 pub returns-clause-whole : goal.returns-clause-whole
 returns-clause-whole g c =
     let self = c.args.self.now in
     let s = c.settle.ensures in
     let same : c.deref.result.now ≡ self.stock.frames.items = search rules in
-    let p = settled_parts self.stock c.settle.new.self (ap (λ (x : Vec Leaf Global). x.items) s.leaves) s.written in
-    let size = gathered_size self.stock.frames.items (drop self.stock.written self.stock.leaves.items) c.requires.open.stocked.gathered_are in
+    let p = settled_parts self.stock c.settle.new.self s.leaves s.written in
+    let size = gathered_size self.stock.frames.items (drop self.stock.written self.stock.leaves) c.requires.open.stocked.gathered_are in
     omega (arith, c.in_default.ensures.end, ap length same, size, ap frames_size p.1)

@@ -1,7 +1,8 @@
 -- A course that has come to the end of a version, and what it says there.
-use Rattle.std.proofs.Common.{◌≡◌, ◌∙◌, ◌==◌, ◌&&◌, ◌+◌, ◌<◌, ◌≤◌, ◌++◌, ℕ, Bool, true, false, not, cond, List, [], ◌∷◌, length, take, get_or, refl, sym, ap, subst, arith}
-use Rattle.std.specs.Prelude.{Option, Some, None, fold, nat_lt, if◌then◌else◌}
-use Rattle.std.specs.List.{before_first, list_all, position_or_len, range_with_len}
+use Rattle.std.proofs.Common.{◌≡◌, ◌∙◌, ◌==◌, ◌&&◌, ◌+◌, ◌<◌, ◌≤◌, ◌++◌, ℕ, Bool, true, false, not, List, [], ◌∷◌, length, take, get_or, refl, sym, ap, subst, arith}
+use Rattle.std.specs.declared.alloc.Global.{Global}
+use Rattle.std.specs.Prelude.{Vec, Option, None, fold, nat_lt, if◌then◌else◌}
+use Rattle.std.specs.List.{before_first, list_all, range_with_len}
 use Rattle.std.specs.Ordering.{nat_cmp}
 use Rattle.std.specs.BTreeMap.{get}
 use Rattle.std.proofs.lemmas.List.{get_or_default, take_more}
@@ -12,13 +13,14 @@ use Rattle.pass_entry.specs.declared.record.Record.{Record}
 use Rattle.pass_plain.specs.WellLogged.{is_file_of, current_of, size_of}
 use Rattle.pass_range.specs.Rows.{row_of}
 use Rattle.pass_leaf.specs.Keeping.{part, block_total}
-use Rattle.pass_audit.specs.Audits.{begins_later, log_at, is_part_borne, verdict_on}
-use Rattle.pass_audit.specs.Courses.{own_steps, is_later, file_step, version_step, size_step, row_step, IsAfter, IsNext, HasCome, verdict_by}
+use Rattle.pass_audit.specs.Audits.{log_at, is_part_borne, verdict_on}
+use Rattle.pass_audit.specs.Courses.{own_steps, is_later, file_step, version_step, size_step, row_step, IsAfter, IsNext, AreDoubted, AreSure, HasCome, verdict_by}
 use Rattle.pass_audit.specs.declared.course.Course.{Course}
 use Rattle.pass_audit.specs.declared.state.State.{State}
 use Rattle.pass_audit.specs.declared.steps.Step.{Step}
 use Rattle.pass_audit.specs.declared.steps.Step.TheVariants.{Made, Version, Size, Digest}
 use Rattle.pass_audit.specs.declared.verdict.Verdict.TheVariants.{Borne, Unlike, Unknown}
+use Rattle.pass_audit.proofs.Blocks.{sure_noted}
 use Rattle.pass_audit.proofs.Stepping.{own_file, own_version, own_size, own_row, own_before}
 
 pub after_next : (steps : List Step) (old new : State) (s : Step) → IsAfter steps old → IsNext old s new → IsAfter (steps ++ s ∷ []) new
@@ -45,12 +47,13 @@ come_later v w course low come = record {
   within = come.within;
   state = come.state;
   before = λ k d less. calm_later v w low (get_or course.steps.items k d) (come.before k d less);
+  sure = come.sure;
 }
 
 -- a step further
 pub come_further : (v : ℕ) (old new : Course) (s : Step) → HasCome v old → old.next < length old.steps.items → s ≡ get_or old.steps.items old.next s → is_later v s ≡ false
-    → IsNext old.state s new.state → new.next ≡ old.next + 1 → new.steps.items ≡ old.steps.items → HasCome v new
-come_further v old new s come less at calm more next same =
+    → IsNext old.state s new.state → AreDoubted old.state.rows new.state.rows old.doubts new.doubts → new.next ≡ old.next + 1 → new.steps.items ≡ old.steps.items → new.content ≡ old.content → HasCome v new
+come_further v old new s come less at calm more doubted next same content =
     let steps : List Step = old.steps.items in
     let longer : take (old.next + 1) steps ≡ take old.next steps ++ s ∷ [] = take_more steps old.next s less ∙ ap (λ (x : Step). take old.next steps ++ x ∷ []) (sym at) in
     let here : take new.next new.steps.items ≡ take old.next steps ++ s ∷ [] = (λ i. take (next i) (same i)) ∙ longer in
@@ -58,6 +61,7 @@ come_further v old new s come less at calm more next same =
       within = omega (arith, less, next, ap (λ (l : List Step). length l) same);
       state = subst (λ (l : List Step). IsAfter l new.state) (sym here) (after_next (take old.next steps) old.state new.state s come.state more);
       before = λ k d low. by k d (omega (arith, low, next));
+      sure = subst (λ (c : Vec ℕ Global). AreSure new.state.rows c.items new.doubts) (sym content) (sure_noted old.state.rows new.state.rows old.content.items old.doubts new.doubts come.sure doubted);
     }
   where
     by : (k : ℕ) (d : Step) → k < old.next + 1 → is_later v (get_or new.steps.items k d) ≡ false

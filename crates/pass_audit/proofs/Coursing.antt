@@ -1,7 +1,7 @@
 -- The courses of all files, one step or one leaf after the other.
-use Rattle.std.proofs.Common.{◌≡◌, ◌∙◌, ◌==◌, ◌<◌, ◌≤◌, ◌++◌, ℕ, Bool, true, false, cond, List, [], ◌∷◌, length, take, refl, sym, ap, subst, arith, append-nil}
+use Rattle.std.proofs.Common.{◌≡◌, ◌∙◌, ◌==◌, ◌<◌, ◌++◌, ℕ, Bool, true, false, cond, List, [], ◌∷◌, length, take, refl, sym, ap, subst, arith, append-nil}
 use Rattle.std.specs.declared.alloc.Global.{Global}
-use Rattle.std.specs.Prelude.{◌≢◌, Vec, Option, Some, None, IfSome, option_and_then, if◌then◌else◌}
+use Rattle.std.specs.Prelude.{Vec, Option, Some, None, IfSome, option_and_then, if◌then◌else◌}
 use Rattle.std.specs.List.{before_first, cons_option}
 use Rattle.std.specs.Option.{MatchOption}
 use Rattle.std.specs.Ordering.{nat_cmp, is_eq}
@@ -91,6 +91,7 @@ fresh_courses list m was file = by (get nat_cmp m file) (was file)
         within = omega (arith, f.next);
         state = subst (λ (n : ℕ). IsAfter (take n c.steps.items) c.state) (sym f.next) f.state;
         before = λ k d low. absurd (omega (arith, low, f.next));
+        sure = λ block below out. absurd (omega (arith, below, ap length f.content));
       };
       content = f.content;
     }

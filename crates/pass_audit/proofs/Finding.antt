@@ -1,8 +1,9 @@
 -- A leaf among others, each of which has a version above that of its file's leaf before it.
 use Rattle.std.proofs.Common.{◌≡◌, ◌∙◌, ◌==◌, ◌&&◌, ◌+◌, ◌<◌, ◌++◌, ℕ, Bool, true, false, List, [], ◌∷◌, length, take, drop, get_or, refl, sym, ap, subst, arith, append_assoc, append-nil}
 use Rattle.std.specs.Prelude.{Some, if◌then◌else◌}
-use Rattle.std.proofs.lemmas.List.{take_more, take-append-drop}
+use Rattle.std.proofs.lemmas.List.{take-append-drop}
 use Rattle.pass_entry.proofs.Lists.{same_itself, same_numbers, true_left, true_right}
+use Rattle.pass_plain.proofs.Replays.{take-next}
 use Rattle.pass_leaf.specs.Leaves.{Leaf}
 use Rattle.pass_leaf.specs.Contents.{laid, last_content, last_version, is_of, content_after, content_of, AreLeavesAfter, AreLeaves}
 use Rattle.pass_leaf.proofs.Lists.{last_version-push}
@@ -45,11 +46,8 @@ module _ (leaf : Leaf) (more : List Leaf) where
 
 -- a leaf at its place
 module _ (leaves : List Leaf) (i : ℕ) (leaf : Leaf) (less : i < length leaves) (at : leaf ≡ get_or leaves i leaf) where
-  pub one_more : take (i + 1) leaves ≡ take i leaves ++ leaf ∷ []
-  one_more = take_more leaves i leaf less ∙ ap (λ (x : Leaf). take i leaves ++ x ∷ []) (sym at)
-
   split : leaves ≡ take i leaves ++ leaf ∷ drop (i + 1) leaves
-  split = sym (take-append-drop (i + 1) leaves) ∙ ap (λ (l : List Leaf). l ++ drop (i + 1) leaves) one_more ∙ append_assoc (take i leaves) (leaf ∷ []) (drop (i + 1) leaves)
+  split = sym (take-append-drop (i + 1) leaves) ∙ ap (λ (l : List Leaf). l ++ drop (i + 1) leaves) (take-next leaves i leaf less at) ∙ append_assoc (take i leaves) (leaf ∷ []) (drop (i + 1) leaves)
 
   pub is_above_those : AreLeaves leaves → last_version (take i leaves) leaf.node.pnode < leaf.node.version
   is_above_those are = front_above leaf (drop (i + 1) leaves) [] (take i leaves) (subst AreLeaves split are)

@@ -2,4 +2,5 @@ mod Stepping
 mod Coming
 mod Coursing
 mod Finding
+mod Parts
 mod Blocks

@@ -1,7 +1,7 @@
 -- What a list says of a file, by the file's own steps.
-use Rattle.std.proofs.Common.{◌≡◌, ◌∙◌, ◌==◌, ◌&&◌, ◌*◌, ◌++◌, ℕ, Bool, true, false, not, cond, List, [], ◌∷◌, take, refl, sym, ap, append_assoc, append-nil}
-use Rattle.std.specs.Prelude.{Option, Some, None, fold, nat_le, nat_lt, option_and_then, if◌then◌else◌}
-use Rattle.std.specs.List.{before_first, cons_option, filter_map}
+use Rattle.std.proofs.Common.{◌≡◌, ◌∙◌, ◌==◌, ◌&&◌, ◌*◌, ◌++◌, ℕ, Bool, true, false, not, cond, List, [], ◌∷◌, refl, sym, ap, append_assoc, append-nil}
+use Rattle.std.specs.Prelude.{Option, Some, None, fold, nat_le, nat_lt, if◌then◌else◌}
+use Rattle.std.specs.List.{before_first, cons_option}
 use Rattle.std.specs.Option.{option_map_or}
 use Rattle.std.proofs.lemmas.List.Sums.{take_while-cons}
 use Rattle.pass_entry.specs.declared.objects.Kind.{Kind}
@@ -13,10 +13,10 @@ use Rattle.pass_entry.specs.Limits.{block_size}
 use Rattle.pass_plain.specs.Registries.{same_kind}
 use Rattle.pass_plain.specs.WellLogged.{kind_look, is_file_of, version_look, current_of, size_look, size_of}
 use Rattle.pass_range.specs.Rows.{row_of}
-use Rattle.pass_range.specs.Sources.{Touch, stays, sets, goes, touch_of, row_after}
+use Rattle.pass_range.specs.Sources.{stays, sets, goes, touch_of, row_after}
 use Rattle.pass_range.proofs.LastRows.{row-next}
 use Rattle.pass_audit.specs.Audits.{begins_later}
-use Rattle.pass_audit.specs.Courses.{step_in, step_for, own_step, own_steps, is_later, file_step, version_step, size_step, row_step}
+use Rattle.pass_audit.specs.Courses.{own_step, own_steps, is_later, file_step, version_step, size_step, row_step}
 use Rattle.pass_audit.specs.declared.steps.Step.{Step}
 use Rattle.pass_audit.specs.declared.steps.Step.TheVariants.{Made, Version, Size, Digest}
 

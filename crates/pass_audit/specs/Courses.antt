@@ -1,9 +1,10 @@
 -- What the records of a list say of one file, one after the other.
-use Rattle.std.specs.Prelude.{ℕ, ◌*◌, ◌<◌, ◌≤◌, ◌≡◌, ◌==◌, Bool, false, not, ◌&&◌, List, [], ◌∷◌, ◌++◌, Option, Some, None, fold, get_or, length, nat_le, nat_lt, option_and_then, take, if◌then◌else◌}
-use Rattle.std.specs.List.{filter_map, list_all, range_with_len}
+use Rattle.std.specs.Prelude.{ℕ, ◌+◌, ◌*◌, ◌<◌, ◌≤◌, ◌≡◌, ◌⊎◌, ◌==◌, Bool, true, false, not, ◌&&◌, List, [], ◌∷◌, ◌++◌, Option, Some, None, fold, get_or, length, nat_le, nat_lt, option_and_then, take, if◌then◌else◌}
+use Rattle.std.specs.List.{filter_map, list_all, list_any, range_with_len}
 use Rattle.std.specs.Option.{MatchOption}
 use Rattle.std.specs.Ordering.{nat_cmp}
 use Rattle.std.specs.BTreeMap.{BTreeMap, get}
+use Rattle.std.specs.BTreeSet.{BTreeSet, contains}
 use Rattle.pass_entry.specs.declared.objects.Kind.TheVariants as kind
 use Rattle.pass_entry.specs.declared.record.Record.{Record}
 use Rattle.pass_entry.specs.declared.record.Record.TheVariants as log
@@ -74,11 +75,28 @@ pub record IsNext (old : State) (step : Step) (new : State) : Type 0 where
   pub size : new.size ≡ size_step old.size step
   pub rows : (block : ℕ) → get nat_cmp new.rows block ≡ row_step block (get nat_cmp old.rows block) step
 
--- a course through a file's steps has come to a place, at which no version above this one has begun
+-- The rows bear out each block of a content that isn't in doubt.
+abbrev pub AreSure : BTreeMap ℕ (List ℕ) → List ℕ → BTreeSet ℕ → Type 0
+AreSure rows content doubts = (block : ℕ) → block < block_total (length content) → contains nat_cmp doubts block ≡ false → is_part_borne (get nat_cmp rows block) (part content block) ≡ true
+
+-- Where rows become others, a block that isn't in doubt wasn't before, and has the same row.
+abbrev pub AreDoubted : BTreeMap ℕ (List ℕ) → BTreeMap ℕ (List ℕ) → BTreeSet ℕ → BTreeSet ℕ → Type 0
+AreDoubted old new before after = (block : ℕ) → contains nat_cmp after block ≡ false → (contains nat_cmp before block ≡ false) × (get nat_cmp new block ≡ get nat_cmp old block)
+
+-- a content that gets another size reaches over a block before and then, or has that size
+abbrev pub ReachOver : ℕ → ℕ → ℕ → Type 0
+ReachOver old new block = (old ≡ new) ⊎ (((block + 1) * block_size ≤ old) × ((block + 1) * block_size ≤ new))
+
+-- a leaf has the block
+abbrev pub has_block : Leaf → ℕ → Bool
+has_block leaf block = list_any (λ b. b.number == block) leaf.blocks
+
+-- A course through a file's steps has come to a place, at which no version above this one has begun.
 pub record HasCome (version : ℕ) (course : Course) : Type 0 where
   pub within : course.next ≤ length course.steps.items
   pub state : IsAfter (take course.next course.steps.items) course.state
   pub before : (k : ℕ) (d : Step) → k < course.next → is_later version (get_or course.steps.items k d) ≡ false
+  pub sure : AreSure course.state.rows course.content.items course.doubts
 
 -- A course is that of a file, behind these leaves.
 pub record IsCourse (list : List Record) (past : List Leaf) (file : ℕ) (course : Course) : Type 0 where

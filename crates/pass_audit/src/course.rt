@@ -1,32 +1,38 @@
 //! A file of an archive, beside what a log says of it.
 ghost use Rattle.std.specs.Prelude.{◌≡◌, ◌++◌, ◌∷◌, [], IfOk, OnOk};
 ghost use Rattle.pass_leaf.specs.Contents.{laid};
-ghost use Rattle.pass_audit.specs.Courses.{verdict_by};
+ghost use Rattle.pass_audit.specs.Courses.{AreSure, verdict_by};
 
 use crate::borne::is_borne_out;
+use crate::doubts::doubt_leaf;
 use crate::state::State;
 use crate::steps::{Step, is_later};
 use crate::verdict::Verdict;
 use pass_leaf::{Leaf, lay};
 use std::alloc::{AllocError, Global};
+use std::collections::BTreeSet;
 
-/// What a log says of a file, step for step; the place of the next step, the state there, and the content of the file's last leaf.
+/// What a log says of a file, step for step; the place of the next step, the state there, the content of the file's last leaf, and the
+/// blocks of it that the state may not bear out.
 #[derive(Drop)]
 pub(crate) struct Course {
     pub(crate) steps: Vec<Step>,
     pub(crate) next: usize,
     pub(crate) state: State,
     pub(crate) content: Vec<u8>,
+    pub(crate) doubts: BTreeSet<u64>,
 }
 
 // What a state says of a version with a content.
-fn verdict(state: &State, version: u64, content: &[u8]) -> Verdict
-    ensures { result ≡ verdict_by state.now version content.now }
+fn verdict(state: &State, version: u64, content: &[u8], doubts: &mut BTreeSet<u64>) -> Verdict
+    requires { AreSure state.now.rows content.now doubts.old }
+    ensures verdict { result ≡ verdict_by state.now version content.now }
+    ensures sure { AreSure state.now.rows content.now doubts.new }
 {
     if !(state.is_file && state.version == version) {
         return Verdict::Unknown;
     }
-    if is_borne_out(state, content) {
+    if is_borne_out(state, content, doubts) {
         Verdict::Borne
     } else {
         Verdict::Unlike
@@ -49,6 +55,7 @@ impl Course {
             next: 0,
             state: State::new(alloc),
             content: Vec::new(alloc),
+            doubts: BTreeSet::new(alloc),
         }
     }
 
@@ -65,7 +72,7 @@ impl Course {
             if is_later(version, &step) {
                 return Ok(());
             }
-            self.state.note(&step)?;
+            self.state.note(&step, &mut self.doubts)?;
             self.next += 1;
         }
         Ok(())
@@ -82,6 +89,20 @@ impl Course {
         Ok(())
     }
 
+    // Lays the file's next leaf over the content.
+    fn lay(&mut self, leaf: &Leaf) -> Result<(), AllocError>
+        requires { HasCome leaf.now.node.version self.old }
+        ensures come { OnOk result (HasCome leaf.now.node.version self.new) }
+        ensures content { OnOk result (self.new.content.items ≡ laid self.old.content.items leaf.now) }
+        ensures state { self.new.state ≡ self.old.state }
+        ensures steps { self.new.steps.items ≡ self.old.steps.items }
+    {
+        let size = self.content.len() as u64;
+        lay(&mut self.content, leaf)?;
+        doubt_leaf(&mut self.doubts, size, leaf)?;
+        Ok(())
+    }
+
     /// What the log says of the file's next leaf.
     pub(crate) fn judge(&mut self, leaf: &Leaf) -> Result<Verdict, AllocError>
         requires { HasCome leaf.now.node.version self.old }
@@ -93,7 +114,7 @@ impl Course {
     {
         let version = leaf.node().version;
         self.advance(version)?;
-        lay(&mut self.content, leaf)?;
-        Ok(verdict(&self.state, version, &self.content))
+        self.lay(leaf)?;
+        Ok(verdict(&self.state, version, &self.content, &mut self.doubts))
     }
 }

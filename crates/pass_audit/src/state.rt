@@ -1,13 +1,14 @@
 //! What a log says of a file so far.
-ghost use Rattle.std.specs.Prelude.{◌≡◌, ◌*◌, ℕ, None, OnOk, nat_le, if◌then◌else◌};
+ghost use Rattle.std.specs.Prelude.{◌≡◌, ◌*◌, ℕ, None, IfOk, OnOk, nat_le, if◌then◌else◌};
 ghost use Rattle.std.specs.Ordering.{nat_cmp};
 ghost use Rattle.std.specs.BTreeMap.{get};
 ghost use Rattle.pass_entry.specs.Limits.{block_size};
 
+use crate::doubts::{doubt, doubt_rows};
 use crate::steps::Step;
 use pass_entry::BLOCK_SIZE;
 use std::alloc::{AllocError, Global};
-use std::collections::BTreeMap;
+use std::collections::{BTreeMap, BTreeSet};
 
 /// Whether an object is a file, its version and size, and the digests of its blocks.
 #[derive(Drop)]
@@ -19,17 +20,18 @@ pub(crate) struct State {
 }
 
 // Takes away the rows of blocks that begin at or past a size.
-fn cut(rows: &mut BTreeMap<u64, [u8; 16]>, size: u64) -> Result<(), AllocError>
-    ensures { OnOk result ((block : ℕ) → get nat_cmp rows.new block ≡ (if nat_le size (block * block_size) then None else get nat_cmp rows.old block)) }
+fn cut(rows: &mut BTreeMap<u64, [u8; 16]>, size: u64) -> Result<BTreeMap<u64, [u8; 16]>, AllocError>
+    ensures left { OnOk result ((block : ℕ) → get nat_cmp rows.new block ≡ (if nat_le size (block * block_size) then None else get nat_cmp rows.old block)) }
+    ensures gone { IfOk result (λ gone. (block : ℕ) → get nat_cmp gone block ≡ (if nat_le size (block * block_size) then get nat_cmp rows.old block else None)) }
 {
     let first = size.div_ceil(BLOCK_SIZE);
-    let _gone = rows.split_off(&first)?;
-    Ok(())
+    let gone = rows.split_off(&first)?;
+    Ok(gone)
 }
 
 impl State {
     ghost use Rattle.std.specs.Prelude.{[]};
-    ghost use Rattle.pass_audit.specs.Courses.{IsAfter, IsNext};
+    ghost use Rattle.pass_audit.specs.Courses.{AreDoubted, IsAfter, IsNext};
 
     /// Before the first step.
     pub(crate) fn new(alloc: Global) -> State
@@ -43,9 +45,10 @@ impl State {
         }
     }
 
-    /// One step more. After a want of memory the state is of no use.
-    pub(crate) fn note(&mut self, step: &Step) -> Result<(), AllocError>
-        ensures { OnOk result (IsNext self.old step.now self.new) }
+    /// One step more, by which blocks come into doubt. After a want of memory the state is of no use.
+    pub(crate) fn note(&mut self, step: &Step, doubts: &mut BTreeSet<u64>) -> Result<(), AllocError>
+        ensures next { OnOk result (IsNext self.old step.now self.new) }
+        ensures doubted { OnOk result (AreDoubted self.old.rows self.new.rows doubts.old doubts.new) }
     {
         match step {
             Step::Made { is_file } => {
@@ -58,11 +61,12 @@ impl State {
             }
             Step::Size(size) => {
                 self.size = *size;
-                cut(&mut self.rows, *size)
+                let gone = cut(&mut self.rows, *size)?;
+                doubt_rows(doubts, gone)
             }
             Step::Digest { block, md5 } => {
                 self.rows.insert(u64::from(*block), *md5)?;
-                Ok(())
+                doubt(doubts, u64::from(*block))
             }
         }
     }

@@ -4,13 +4,12 @@ use Rattle.std.specs.Option.{option_map_or}
 use Rattle.std.proofs.lemmas.List.{map-append}
 use Rattle.pass_entry.specs.declared.record.Record.{Record}
 use Rattle.pass_leaf.specs.Leaves.{Leaf}
-use Rattle.pass_leaf.specs.Contents.{last_version}
 use Rattle.pass_audit.specs.Audits.{judged_in, log_at, verdict_on}
 use Rattle.pass_audit.specs.Courses.{AreCourses}
-use Rattle.pass_audit.specs.declared.verdict.Judged.{Judged}
 use Rattle.pass_audit.specs.declared.verdict.Verdict.TheVariants.{Unknown}
 use Rattle.pass_audit.proofs.Coursing.{may_come}
-use Rattle.pass_audit.proofs.Finding.{one_more, is_above_those, is_content}
+use Rattle.pass_plain.proofs.Replays.{take-next}
+use Rattle.pass_audit.proofs.Finding.{is_above_those, is_content}
 use Rattle.pass_audit.proofs.auditing.audit.Goals as goal
 
 pub judge-requires : goal.judge-requires
@@ -33,7 +32,7 @@ loop-leaf-preserved c =
     let so = c.in_ok-judged.ensures list (take i leaves) c.loop-leaf.invariant.courses (is_above_those leaves i leaf less at c.list-leaf-items.ensures.are) in
     let said : c.in_ok-judged.judged ≡ judged_in list leaves leaf =
     so.0 ∙ (λ k. record { node = leaf.node; verdict = option_map_or (verdict_on (log_at list leaf.node) leaf.node) (sym (is_content leaves i leaf less at c.list-leaf-items.ensures.are) k) Unknown }) in
-    let more : take (i + 1) leaves ≡ take i leaves ++ leaf ∷ [] = one_more leaves i leaf less at in
+    let more : take (i + 1) leaves ≡ take i leaves ++ leaf ∷ [] = take-next leaves i leaf less at in
     record {
       courses = subst (λ (l : List Leaf). AreCourses list l c.judge.new.courses) (sym more) so.1;
       all = c.in_ok-push.ensures.items ∙ (λ k. c.loop-leaf.invariant.all k ++ said k ∷ [])

@@ -1,4 +1,4 @@
-use Rattle.std.proofs.Common.{◌≡◌, rules, ◌∙◌, ◌++◌, ◌∷◌, [], List, sym, ap, subst}
+use Rattle.std.proofs.Common.{◌≡◌, rules, ◌∙◌, ◌++◌, ◌∷◌, [], sym, ap, subst}
 use Rattle.std.specs.Prelude.{is_some, Some, None, Option, IfSome}
 use Rattle.std.specs.Option.{option_copied_mut}
 use Rattle.std.specs.Ordering.{nat_cmp}

@@ -1,4 +1,4 @@
-use Rattle.std.proofs.Common.{◌≡◌, ◌∙◌, ◌+◌, List, refl, sym, ap, subst, arith}
+use Rattle.std.proofs.Common.{◌∙◌, ◌+◌, List, refl, sym, ap, subst, arith}
 use Rattle.std.specs.List.{before_first}
 use Rattle.std.proofs.lemmas.List.{get_or_default}
 use Rattle.pass_audit.specs.Courses.{IsAfter, is_later}
@@ -10,9 +10,9 @@ use Rattle.pass_audit.proofs.course.Course.advance.Goals as goal
 pub further-preserved : goal.further-preserved
 further-preserved c =
     let old : Course = c.further.self in
-    let new : Course = record old { state = c.note.new.self; next = old.next + 1 } in
+    let new : Course = record old { state = c.note.new.self; doubts = c.note.new.doubts; next = old.next + 1 } in
     record {
-      come = come_further c.args.version old new c.index.result.now c.further.invariant.come (omega (arith, c.further-test.true, c.len.ensures)) c.index.ensures (sym c.is_later.ensures ∙ c.if-is_later.false) c.in_ok-note.ensures refl refl;
+      come = come_further c.args.version old new c.index.result.now c.further.invariant.come (omega (arith, c.further-test.true, c.len.ensures)) c.index.ensures (sym c.is_later.ensures ∙ c.if-is_later.false) c.in_ok-note.ensures.next c.in_ok-note.ensures.doubted refl refl refl;
       steps = c.further.invariant.steps;
       content = c.further.invariant.content;
     }

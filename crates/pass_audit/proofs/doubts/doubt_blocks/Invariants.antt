@@ -1,0 +1,8 @@
+use Rattle.std.proofs.Common.{◌≡◌, ◌==◌, ℕ, false, take}
+use Rattle.std.specs.List.{list_any}
+use Rattle.std.specs.Ordering.{nat_cmp}
+use Rattle.std.specs.BTreeSet.{contains}
+use Rattle.pass_audit.proofs.doubts.doubt_blocks.Given as goal
+
+abbrev pub invariant-loop-block : goal.invariant-loop-block
+invariant-loop-block l = (b : ℕ) → contains nat_cmp l.doubts b ≡ false → (contains nat_cmp l.fn.doubts b ≡ false) × (list_any (λ x. x.number == b) (take l.block-index l.leaf.blocks) ≡ false)

@@ -95,8 +95,7 @@ fn told_over<J: Opening, D: Disk + Drop, R: Wait>(
     Ok(Told { answers, finished })
 }
 
-/// What the calls answer in a session over a disk, which may make so many objects and has room for so many entries.
-pub fn told_of<D: Disk + Drop, R: Wait>(
+fn told_of<D: Disk + Drop, R: Wait>(
     rt: &R,
     alloc: Global,
     disk: D,
@@ -113,7 +112,22 @@ pub fn told_of<D: Disk + Drop, R: Wait>(
     told_over::<Brand, D, R>(rt, alloc, opened, rows)
 }
 
-pub fn new_disk(alloc: Global) -> Result<MemDisk, Fail> {
+/// What the calls answer in a session over a new store, which may make so many objects and has room for so many entries. All tests
+/// go by it, since a call at a disk of its own type is dear to prove.
+pub fn told_in<R: Wait>(
+    rt: &R,
+    alloc: Global,
+    objects: u32,
+    entries: u32,
+    rows: &[Row],
+) -> Result<Told<MemDisk>, Fail>
+    requires objects { (1 ≤ objects) × (objects ≤ 8192) }
+    requires entries { (66 ≤ entries) × (entries ≤ 16777216) }
+{
+    told_of(rt, alloc, new_disk(alloc)?, objects, entries, rows)
+}
+
+fn new_disk(alloc: Global) -> Result<MemDisk, Fail> {
     Ok(MemDisk::new(
         alloc,
         Vec::new(alloc),
@@ -174,7 +188,7 @@ pub fn check<R: Wait + Abort>(
     requires objects { (1 ≤ objects) × (objects ≤ 8192) }
     requires entries { (66 ≤ entries) × (entries ≤ 16777216) }
 {
-    let told = told_of(rt, alloc, new_disk(alloc)?, objects, entries, rows)?;
+    let told = told_in(rt, alloc, objects, entries, rows)?;
     compare(rt, &told.answers, rows);
     assert!(rt; told.finished.settled.is_ok());
     judged(rt, alloc, objects, &told.finished.closed.history)

@@ -1,5 +1,5 @@
 //! A file that is made durable, and the calls that the device has then.
-use crate::answers::{Row, compare, new_disk, told_of};
+use crate::answers::{Row, compare, told_in};
 use crate::calls::{Answer, Call};
 use pass_entry::Synced;
 use pass_outside::Disk;
@@ -24,7 +24,7 @@ fn synced(calls: u64, entries: u64) -> Synced {
 #[test]
 fn a_sync_has_six_device_calls(rt: HostRuntime) -> Result<(), Fail> {
     let alloc = rt.alloc();
-    let told = told_of(&rt, alloc, new_disk(alloc)?, 2, 1_000, &saves())?;
+    let told = told_in(&rt, alloc, 2, 1_000, &saves())?;
     compare(&rt, &told.answers, &saves());
     let settled = Receipt {
         calls: 15,
@@ -51,7 +51,7 @@ fn again() -> [Row; 6] {
 #[test]
 fn a_needless_sync_has_no_device_call(rt: HostRuntime) -> Result<(), Fail> {
     let alloc = rt.alloc();
-    let told = told_of(&rt, alloc, new_disk(alloc)?, 2, 1_000, &again())?;
+    let told = told_in(&rt, alloc, 2, 1_000, &again())?;
     compare(&rt, &told.answers, &again());
     assert!(rt; told.finished.closed.disk.calls() == 15);
     Ok(())
@@ -76,7 +76,7 @@ fn aside() -> [Row; 8] {
 #[test]
 fn a_block_that_was_put_aside_is_written_at_the_end(rt: HostRuntime) -> Result<(), Fail> {
     let alloc = rt.alloc();
-    let told = told_of(&rt, alloc, new_disk(alloc)?, 3, 1_000, &aside())?;
+    let told = told_in(&rt, alloc, 3, 1_000, &aside())?;
     compare(&rt, &told.answers, &aside());
     assert!(rt; told.finished.settled.is_ok());
     assert!(rt; told.finished.closed.disk.calls() == 18);

@@ -9,6 +9,7 @@ use Rattle.pass_plain.specs.Legal.{IsLegal}
 use Rattle.pass_plain.specs.Traces.{Line}
 use Rattle.pass_plain.specs.Runs.{IsRun}
 use Rattle.pass_plain.specs.Records.{records_of}
+use Rattle.pass_plain.specs.Ceilings.{most_objects}
 use Rattle.pass_plain.specs.WellLogged.{ceiling_of, current_of, IsWellLogged}
 use Rattle.pass_graph.specs.Bounds.{records_length}
 use Rattle.pass_graph.specs.Openings.{Opens}
@@ -24,7 +25,7 @@ ImageLaw = (bytes : List ℕ) (log : Held) → image_of bytes ≡ Ok log
 -- a log that ends at most at 2 ^ 38 leaves numbers for one more session, and has no version above 2 ^ 35
 abbrev pub OpenedLaw : Type 0
 OpenedLaw = (bytes : List ℕ) (log : Held) → image_of bytes ≡ Ok log → log.end ≤ 2 ^ 38 → IsWellLogged log.list
-    → (ceiling_of log.list + 8192 < 2 ^ 48) × ((pnode : ℕ) → current_of log.list pnode ≤ 2 ^ 35)
+    → (ceiling_of log.list + most_objects < 2 ^ 48) × ((pnode : ℕ) → current_of log.list pnode ≤ 2 ^ 35)
 
 -- Histories
 

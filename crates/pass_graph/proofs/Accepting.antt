@@ -1,5 +1,5 @@
 -- Records that may stand after a list, and what they make of what the list says of its objects.
-use Rattle.std.proofs.Common.{ℕ, ◌≡◌, ◌≤◌, ◌<◌, ◌+◌, ◌*◌, ◌==◌, Bool, true, false, not, ◌||◌, ◌&&◌, inl, inr, refl, sym, ap, ◌∙◌, subst, List, [], ◌∷◌, ◌++◌, length, arith, append_assoc, cond}
+use Rattle.std.proofs.Common.{ℕ, ◌≡◌, ◌≤◌, ◌<◌, ◌+◌, ◌*◌, ◌==◌, Bool, true, false, not, ◌||◌, ◌&&◌, inl, inr, refl, sym, ap, ◌∙◌, List, [], ◌∷◌, ◌++◌, length, arith, cond}
 use Rattle.std.specs.Prelude.{Option, Some, None, is_some, nat_lt, nat_le, count_by, bytes_eq, slice_get, if◌then◌else◌}
 use Rattle.std.specs.Option.{option_map_or}
 use Rattle.std.specs.List.{list_any}
@@ -7,37 +7,19 @@ use Rattle.std.specs.FinMap as finite_map
 use Rattle.std.proofs.lemmas.List.Sums.{fold-append, sum_by_push}
 use Rattle.std.proofs.lemmas.Slice.Eq.{bytes_eq-Decides}
 use Rattle.std.proofs.lemmas.Bool.Decides.{nat_tests}
-use Rattle.std.proofs.lemmas.List.{append-nil}
 use Rattle.pass_entry.specs.declared.objects.Node.{Node}
 use Rattle.pass_entry.specs.declared.objects.Kind.{Kind}
 use Rattle.pass_entry.specs.declared.objects.Kind.TheVariants as kind
 use Rattle.pass_entry.specs.declared.record.Record.{Record}
 use Rattle.pass_entry.specs.declared.record.Record.TheVariants as log
 use Rattle.pass_entry.specs.declared.record.FlawReason.{FlawReason}
-use Rattle.pass_entry.proofs.Variants.{no_first}
 use Rattle.pass_plain.specs.Sessions.{Session}
 use Rattle.pass_plain.specs.Registries.{Registry, Exists, same_kind, is_limited, count_of_kind, with_object, next_pnode, is_full}
 use Rattle.pass_plain.specs.Versions.{same_node}
-use Rattle.pass_plain.specs.WellLogged.{kind_look, kind_of, version_look, current_of, size_look, size_of, name_look, last_name_of, ceiling_look, ceiling_of, has_kind, names_other, has_source, is_input, is_known, is_file_of, flaw_if, flaw_of, first_flaw_after}
+use Rattle.pass_plain.specs.WellLogged.{kind_look, kind_of, version_look, current_of, size_look, size_of, name_look, last_name_of, ceiling_look, ceiling_of, has_kind, names_other, has_source, is_input, is_known, is_file_of, flaw_if, flaw_of}
 use Rattle.pass_plain.proofs.Lists.{or_false, same_numbers, same_itself, any_at, true_left, true_right, not_true}
+pub use Rattle.pass_plain.proofs.Flaws.{AreFine, fine_cons, fine_one, fine-append}
 use Rattle.pass_plain.proofs.Appends.{place_of}
-
--- lists without a flaw
-
-abbrev pub AreFine : List Record → List Record → Type 0
-AreFine list rs = first_flaw_after list rs ≡ None
-
-pub fine_cons : (list : List Record) (r : Record) (rs : List Record) → flaw_of list r ≡ None → AreFine (list ++ r ∷ []) rs → AreFine list (r ∷ rs)
-fine_cons list r rs here later = ap (λ o. option_map_or (λ reason. Some (length list, reason)) o (first_flaw_after (list ++ r ∷ []) rs)) here ∙ later
-
-pub fine_one : (list : List Record) (r : Record) → flaw_of list r ≡ None → AreFine list (r ∷ [])
-fine_one list r here = fine_cons list r [] here refl
-
-pub fine-append : (list xs ys : List Record) → AreFine list xs → AreFine (list ++ xs) ys → AreFine list (xs ++ ys)
-fine-append list [] ys a b = subst (λ l. AreFine l ys) (append-nil list) b
-fine-append list (x ∷ xs) ys a b =
-    let (here, later) = no_first _ (flaw_of list x) (first_flaw_after (list ++ x ∷ []) xs) a in
-    fine_cons list x (xs ++ ys) here (fine-append (list ++ x ∷ []) xs ys later (subst (λ l. AreFine l ys) (sym (append_assoc list (x ∷ []) xs)) b))
 
 unflawed : (b : Bool) (reason : FlawReason) (next : Option FlawReason) → b ≡ false → next ≡ None → flaw_if b reason next ≡ None
 unflawed b reason next h rest = ap (λ b. if b then Some reason else next) h ∙ rest

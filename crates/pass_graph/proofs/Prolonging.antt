@@ -32,7 +32,7 @@ use Rattle.pass_plain.specs.Legal.{IsLegal, MayFollow, before_call}
 use Rattle.pass_plain.specs.Lawful.{is_registry_act}
 use Rattle.pass_plain.specs.Versions.{same_node, nodes_of, source_in, always_freezes, is_exec, is_marked, is_repeated, is_fresh, is_freeze}
 use Rattle.pass_plain.specs.Graphs.IsEdge.{input as by_input}
-use Rattle.pass_plain.specs.Records.{records_of, entry_records, act_records, version_records, extra_records, file_named}
+use Rattle.pass_plain.specs.Records.{entry_records, act_records, version_records, extra_records, file_named}
 use Rattle.pass_plain.specs.WellLogged.{has_source, is_input}
 use Rattle.pass_plain.proofs.Lists.{true_left, true_right, some_is, is_place}
 use Rattle.pass_plain.proofs.Replays.{own_step-own, own_step-other, own_step-fault}
@@ -52,7 +52,7 @@ use Rattle.pass_graph.proofs.Edging.{took_at}
 use Rattle.pass_graph.proofs.Logging.{opened_by}
 use Rattle.pass_graph.proofs.Opening.{fits}
 use Rattle.pass_graph.proofs.Wording.{no_freeze, words_law}
-use Rattle.pass_graph.proofs.Proved.{in_own, is, begun, opening}
+use Rattle.pass_graph.proofs.Proved.{of_either, is, begun, opening}
 use Rattle.pass_graph.proofs.Accepting.{IsTold, fine_one, none_any, version_told, version_fine, input_told, input_fine, attr_told, attr_fine}
 use Rattle.pass_graph.proofs.Naming.{Stepped, stepped-append, nothing_stepped, mint_step, bind_step, unbind_step, move_step}
 use Rattle.pass_graph.proofs.Contents.{extra_step}
@@ -134,10 +134,9 @@ module _ (before : List Record) (session : Session) (history : List Entry) (open
   input_before : (k : ℕ) (a b : Node) → k ≤ length history → Contains (listed k) (log.Input a b)
       → Contains before (log.Input a b)
       ⊎ ((j : ℕ) × (j < k) × (is_fresh_at session history j ≡ true) × (what_at history j ≡ a.pnode) × (version a.pnode (suc j) ≡ a.version) × (what_at history (named_at history j) ≡ b.pnode) × (version b.pnode (named_at history j) ≡ b.version))
-  input_before k a b le there = elim (Contains-append_cases before (log.Ceiling (session.start.ceiling + session.objects) ∷ records_of session (take k history)) (log.Input a b) there) [
+  input_before k a b le there = elim (of_either before session (take k history) (log.Input a b) (λ c z. cc) there) [
     | inl l ↦ inl l
-    | inr m ↦
-        let own = in_own before session (take k history) (log.Input a b) (λ z. cc) m in
+    | inr own ↦
         let (j, f, short, at, put) = recorded session history k le (log.Input a b) own in
         let (new, object, level, object_b, level_b) = took_at session history legal first begins a b j f at put in
         inr (j, short, new, object, level, object_b, level_b)

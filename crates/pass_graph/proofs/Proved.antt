@@ -1,7 +1,7 @@
 -- The laws.
-use Rattle.std.proofs.Common.{ℕ, ◌≡◌, ◌+◌, ◌==◌, ◌||◌, ◌∙◌, sym, max, Bool, true, false, ◌⊎◌, inl, inr, refl, ap, List, [], ◌∷◌, arith}
+use Rattle.std.proofs.Common.{ℕ, ◌≡◌, ◌+◌, ◌==◌, ◌||◌, ◌∙◌, sym, max, Bool, true, false, ◌⊎◌, inl, inr, refl, ap, List, [], arith}
 use Rattle.std.specs.Prelude.{Some, slice_get, find, is_some, Contains, if◌then◌else◌}
-use Rattle.std.proofs.lemmas.List.Elements.{Contains-append_left, Contains-append_right, Contains-append_cases, Contains-push_cases}
+use Rattle.std.proofs.lemmas.List.Elements.{Contains-append_left, Contains-append_right, Contains-append_cases}
 use Rattle.pass_entry.specs.declared.entry.Entry.{Entry}
 use Rattle.pass_entry.specs.declared.objects.Node.{Node}
 use Rattle.pass_entry.specs.declared.record.Record.{Record}
@@ -13,7 +13,9 @@ use Rattle.pass_plain.specs.Records.{records_of}
 use Rattle.pass_plain.specs.Graphs.{IsEdge, HasPath}
 use Rattle.pass_plain.specs.Graphs.HasPath.{edge, step}
 use Rattle.pass_plain.specs.Graphs.IsEdge.{input as by_input, version as by_version}
-use Rattle.pass_plain.specs.WellLogged.{is_known, current_of}
+use Rattle.pass_plain.specs.WellLogged.{is_known, current_of, ceiling_of}
+use Rattle.pass_plain.specs.Ceilings.{ceilings_between, raised}
+use Rattle.pass_plain.proofs.Raising.{raised_only}
 use Rattle.pass_graph.specs.Openings.{Opens, session_list, IsOpened}
 use Rattle.pass_graph.specs.Ranks.{rank_of}
 use Rattle.pass_graph.specs.Lawful.{RankLaw, OpeningLaw, AcyclicLaw, ChainLaw, PathLaw, IsFaithful, GraphLaw, OwnGraphLaw, FirstOpeningLaw}
@@ -37,34 +39,31 @@ rank_law session history legal a b e =
 -- the edges of a session's list are those of the records before it, and its own
 
 module _ (before : List Record) (session : Session) (history : List Entry) where
-  abbrev mark : Record
-  mark = log.Ceiling (session.start.ceiling + session.objects)
+  abbrev front : List Record
+  front = raised before (session.start.ceiling + session.objects)
 
-  pub in_own : (r : Record) → (mark ≡ r → ⊥) → Contains (mark ∷ records_of session history) r → Contains (records_of session history) r
-  in_own r other h = elim (Contains-append_cases (mark ∷ []) (records_of session history) r h) [
-    | inl l ↦ elim (Contains-push_cases [] mark r l) [ inl none ↦ absurd (let z = none.1 in omega (arith, z)) | inr same ↦ absurd (other same) ]
-    | inr m ↦ m
+  -- a record that is no ceiling is one of those before the session, or one of its own
+  pub of_either : (r : Record) → ((c : ℕ) → log.Ceiling c ≡ r → ⊥) → Contains (session_list before session history) r → Contains before r ⊎ Contains (records_of session history) r
+  of_either r other h = elim (Contains-append_cases front (records_of session history) r h) [
+    | inl l ↦ inl (raised_only before (session.start.ceiling + session.objects) r other l)
+    | inr m ↦ inr m
   ]
+
+  of_before : (r : Record) → Contains before r → Contains (session_list before session history) r
+  of_before r l =
+      Contains-append_left front (records_of session history) r (Contains-append_left before (ceilings_between (ceiling_of before) (session.start.ceiling + session.objects)) r l)
 
   split : (a b : Node) → IsEdge (session_list before session history) a b → IsEdge before a b ⊎ IsEdge (records_of session history) a b
-  split a b (by_input h) = elim (Contains-append_cases before (mark ∷ records_of session history) (log.Input a b) h) [
-    | inl l ↦ inl (by_input l)
-    | inr m ↦ inr (by_input (in_own (log.Input a b) (λ z. cc) m))
-  ]
-  split a b (by_version h same next) = elim (Contains-append_cases before (mark ∷ records_of session history) (log.Version a) h) [
-    | inl l ↦ inl (by_version l same next)
-    | inr m ↦ inr (by_version (in_own (log.Version a) (λ z. cc) m) same next)
-  ]
+  split a b (by_input h) = elim (of_either (log.Input a b) (λ c z. cc) h) [ inl l ↦ inl (by_input l) | inr m ↦ inr (by_input m) ]
+  split a b (by_version h same next) = elim (of_either (log.Version a) (λ c z. cc) h) [ inl l ↦ inl (by_version l same next) | inr m ↦ inr (by_version m same next) ]
 
   from_before : (a b : Node) → IsEdge before a b → IsEdge (session_list before session history) a b
-  from_before a b (by_input h) = by_input (Contains-append_left before (mark ∷ records_of session history) (log.Input a b) h)
-  from_before a b (by_version h same next) = by_version (Contains-append_left before (mark ∷ records_of session history) (log.Version a) h) same next
+  from_before a b (by_input h) = by_input (of_before (log.Input a b) h)
+  from_before a b (by_version h same next) = by_version (of_before (log.Version a) h) same next
 
   from_own : (a b : Node) → IsEdge (records_of session history) a b → IsEdge (session_list before session history) a b
-  from_own a b (by_input h) =
-      by_input (Contains-append_right before (mark ∷ records_of session history) (log.Input a b) (Contains-append_right (mark ∷ []) (records_of session history) (log.Input a b) h))
-  from_own a b (by_version h same next) =
-      by_version (Contains-append_right before (mark ∷ records_of session history) (log.Version a) (Contains-append_right (mark ∷ []) (records_of session history) (log.Version a) h)) same next
+  from_own a b (by_input h) = by_input (Contains-append_right front (records_of session history) (log.Input a b) h)
+  from_own a b (by_version h same next) = by_version (Contains-append_right front (records_of session history) (log.Version a) h) same next
 
 module _ (before : List Record) (session : Session) (history : List Entry) (opens : Opens before session) (legal : IsLegal session history) where
   abbrev opened : ℕ → ℕ

@@ -2,6 +2,7 @@
 use Rattle.std.specs.Prelude.{ℕ, ◌+◌, ◌*◌, ◌^◌, ◌≤◌, ◌<◌, List, sum_by}
 use Rattle.pass_entry.specs.declared.record.Record.{Record}
 use Rattle.pass_entry.specs.Lengths.{record_length}
+use Rattle.pass_plain.specs.Ceilings.{most_objects}
 use Rattle.pass_plain.specs.WellLogged.{IsWellLogged, current_of, ceiling_of}
 
 -- how many bytes records have in the log
@@ -16,9 +17,9 @@ CeilingLengthLaw = (list : List Record) → IsWellLogged list → 9 * ceiling_of
 abbrev pub VersionLengthLaw : Type 0
 VersionLengthLaw = (list : List Record) → IsWellLogged list → (object : ℕ) → 17 * current_of list object ≤ 17 + records_length list
 
--- above the ceiling of a list of at most 2^38 bytes there are numbers for the 8,192 objects of one more session
+-- above the ceiling of a list of at most 2^38 bytes there are numbers for the objects of one more session
 abbrev pub CeilingRoomLaw : Type 0
-CeilingRoomLaw = (list : List Record) → IsWellLogged list → records_length list ≤ 2 ^ 38 → ceiling_of list + 8192 < 2 ^ 48
+CeilingRoomLaw = (list : List Record) → IsWellLogged list → records_length list ≤ 2 ^ 38 → ceiling_of list + most_objects < 2 ^ 48
 
 -- and above each version there are 2^32 more
 abbrev pub VersionRoomLaw : Type 0

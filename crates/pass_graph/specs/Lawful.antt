@@ -79,7 +79,7 @@ FirstOpeningLaw = (session : Session) → IsSound session → session.start.file
 -- and the records before it are all that the start says, where its ceiling is 0
 abbrev pub FirstStartLaw : Type 0
 FirstStartLaw = (session : Session) → IsSound session → session.start.files.items ≡ [] → session.start.apps.items ≡ []
-    → session.start.ceiling ≡ 0 → session.objects ≤ 8192 → Continues [] session
+    → session.start.ceiling ≡ 0 → Continues [] session
 
 -- the place lies between two others, whichever stands first
 abbrev pub IsBetween : ℕ → ℕ → ℕ → Type 0

@@ -25,11 +25,10 @@ pub record Opens (before : List Record) (session : Session) : Type 0 where
   pub current : (object : ℕ) → is_opened session.start object ≡ true → (is_known before object ≡ true) × (opening_version session.start object ≡ current_of before object)
 
 -- the session's start is all that the records before it say: the ceiling, the kinds, the names, and no fewer files and app
--- objects; and it makes no more objects than one ceiling may be raised by
+-- objects
 pub record Continues (before : List Record) (session : Session) : Type 0 where
   pub opens : Opens before session
   pub ceiling : session.start.ceiling ≡ ceiling_of before
-  pub few : session.objects ≤ 8192
   pub kinds : (object : ℕ) (k : Kind) → Exists (opening_registry session.start) object k → kind_of before object ≡ Some k
   pub counts : (k : Kind) → is_limited k ≡ true → count_by (has_kind k) before ≤ count_of_kind k (opening_registry session.start)
   pub names : (object : ℕ) (name : List ℕ) → last_name_of before object ≡ name → 1 ≤ length name

@@ -22,6 +22,7 @@ pub mod Flows
 pub mod Graphs
 pub mod Joined
 pub mod WellLogged
+pub mod Ceilings
 pub mod NextSteps
 pub mod CallLaws
 pub mod States

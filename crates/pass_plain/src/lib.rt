@@ -7,9 +7,10 @@
 //! caller's holder have seen decides what may come next, and with which records (`two_prefixes`); ranges of sizes, offsets,
 //! descriptors, call numbers and pipes (`bounds`); how calls end (`ends`); what is made is new and what is used is there
 //! (`objects`); processes begin once (`processes`); how one object's version, mark and sources move (`lineages`); by an await no data
-//! flows (`awaits`).
+//! flows (`awaits`); how a list's ceiling is raised (`ceilings`).
 #![tactic(auto)]
 
+mod ceilings;
 mod contents;
 pub mod file;
 pub mod laws;
@@ -22,6 +23,7 @@ pub mod request;
 pub mod start;
 pub mod steps;
 
+pub use ceilings::{CEILING_STEP, ceilings_between};
 pub use contents::{Content, bytes_in};
 pub use names::Names;
 pub use nodes::VersionStep;

@@ -1,22 +1,23 @@
 -- The laws, each as it is stated.
-use Rattle.std.proofs.Common.{◌≡◌, ◌∙◌, ◌==◌, ℕ, List, [], ◌∷◌, ◌++◌, length, map, take, sym, ap, subst, arith, append_assoc, inl, inr, ⊎_elim}
+use Rattle.std.proofs.Common.{◌≡◌, ◌∙◌, ◌==◌, ℕ, List, [], ◌++◌, length, map, sym, ap, refl, arith, inl, inr, ⊎_elim}
 use Rattle.std.specs.Prelude.{None, is_some, find}
 use Rattle.std.specs.Option.{option_map_or}
 use Rattle.std.specs.List.{list_any}
 use Rattle.std.proofs.lemmas.List.{append-nil}
-use Rattle.pass_entry.specs.declared.entry.Entry.{Entry}
 use Rattle.pass_entry.specs.declared.record.Record.{Record}
 use Rattle.pass_entry.specs.declared.record.Record.TheVariants as log
 use Rattle.pass_plain.specs.declared.start.Start.{Start}
 use Rattle.pass_plain.specs.declared.start.StartFile.{StartFile}
-use Rattle.pass_plain.specs.Sessions.{Session, opening_bytes}
+use Rattle.pass_plain.specs.Sessions.{opening_bytes}
 use Rattle.pass_plain.specs.Files.{file_after}
 use Rattle.pass_plain.specs.Records.{range_len, records_of, list_of}
 use Rattle.pass_plain.specs.WellLogged.{size_of}
+use Rattle.pass_plain.specs.Ceilings.{raised}
+use Rattle.pass_plain.proofs.Raising.{over_ceilings}
 use Rattle.pass_plain.proofs.Lists.{some_is}
 use Rattle.pass_range.specs.Places.{place, found_there}
-use Rattle.pass_range.specs.Rows.{range, row_of, files_of, number_of}
-use Rattle.pass_range.specs.Lawful.{Tells, FirstTellsLaw, IsSet, RowLaw, StepLaw, EarlierLaw, QuietLaw, OlderLaw, HasRowLaw, BeforeLaw, SizeLaw, FilesLaw, NumberLaw, NumbersLaw, WellLoggedRowLaw, PlacesLaw, WriteLaw, StandsLaw, HeldLaw, MatchedLaw, ZeroLaw, OpenedLaw}
+use Rattle.pass_range.specs.Rows.{range, row_of, files_of}
+use Rattle.pass_range.specs.Lawful.{Tells, FirstTellsLaw, RowLaw, StepLaw, EarlierLaw, QuietLaw, OlderLaw, HasRowLaw, BeforeLaw, SizeLaw, FilesLaw, NumberLaw, NumbersLaw, WellLoggedRowLaw, PlacesLaw, WriteLaw, StandsLaw, HeldLaw, MatchedLaw, ZeroLaw, OpenedLaw}
 use Rattle.pass_range.proofs.Apart.{held_found, places_apart, holds_written, torn_apart, held_matched, length-range}
 use Rattle.pass_range.proofs.Changing.{source-step}
 use Rattle.pass_range.proofs.Older.{older_law, stands_found}
@@ -29,19 +30,17 @@ use Rattle.pass_range.proofs.LastRows.{row-next}
 use Rattle.pass_range.proofs.RowFiles.{number-stays, number-one, number-below, row_files}
 use Rattle.pass_range.proofs.Numbers.{few_files, size-next, files-next}
 
--- the records before a session, and its ceiling
-abbrev with_ceiling : List Record → ℕ → List Record
-with_ceiling before ceiling = before ++ log.Ceiling ceiling ∷ []
+-- the records that raise the ceiling say nothing of files
+raised_tells : (before : List Record) (ceiling : ℕ) (start : Start) → Tells before start → Tells (raised before ceiling) start
+raised_tells before ceiling start tells =
+    over_ceilings (λ list. Tells list start) (λ list c told. record {
+      files = files-next list (log.Ceiling c) ∙ append-nil (files_of list) ∙ told.files;
+      sizes = λ p. size-next list (log.Ceiling c) p ∙ told.sizes p;
+      rows = λ p b. ap is_some (row-next list (log.Ceiling c) p b) ∙ told.rows p b;
+    }) before ceiling tells
 
-list-of : (before : List Record) (ceiling : ℕ) (session : Session) (history : List Entry) → with_ceiling before ceiling ++ records_of session history ≡ list_of before ceiling session history
-list-of before ceiling session history = append_assoc before (log.Ceiling ceiling ∷ []) (records_of session history)
-
-ceiling_tells : (before : List Record) (ceiling : ℕ) (start : Start) → Tells before start → Tells (with_ceiling before ceiling) start
-ceiling_tells before ceiling start tells = record {
-  files = files-next before (log.Ceiling ceiling) ∙ append-nil (files_of before) ∙ tells.files;
-  sizes = λ p. size-next before (log.Ceiling ceiling) p ∙ tells.sizes p;
-  rows = λ p b. ap is_some (row-next before (log.Ceiling ceiling) p b) ∙ tells.rows p b;
-}
+raised_row : (before : List Record) (ceiling p b : ℕ) → row_of (raised before ceiling) p b ≡ row_of before p b
+raised_row before ceiling p b = over_ceilings (λ list. row_of list p b ≡ row_of before p b) (λ list c same. row-next list (log.Ceiling c) p b ∙ same) before ceiling refl
 
 pub first_tells : FirstTellsLaw
 first_tells = λ start none. record {
@@ -52,7 +51,7 @@ first_tells = λ start none. record {
 
 pub row_proved : RowLaw
 row_proved = λ before ceiling session history p b k is.
-    subst (λ (l : List Record). IsSet l session history p b k) (list-of before ceiling session history) (row_law (with_ceiling before ceiling) session history p b k is)
+    row_law (raised before ceiling) session history p b k is
 
 pub step_proved : StepLaw
 step_proved = λ session history e p b. source-step session history e p b
@@ -65,37 +64,34 @@ quiet_proved = λ session history q high same p b. quiet_law session p b history
 
 pub older_proved : OlderLaw
 older_proved = λ before ceiling session history p b digest row none q.
-    let was = older_law (with_ceiling before ceiling) session p b digest history (ap (λ (l : List Record). row_of l p b) (list-of before ceiling session history) ∙ row) none q in
-    (ap (λ (l : List Record). row_of l p b) (sym (list-of before ceiling session (take q history))) ∙ was.0, was.1)
+    older_law (raised before ceiling) session p b digest history row none q
 
 pub has_row_proved : HasRowLaw
 has_row_proved = λ before ceiling session sound tells history legal p b.
-    let more = ceiling_tells before ceiling session.start tells in (
-      ap (λ (l : List Record). is_some (row_of l p b)) (sym (list-of before ceiling session history)) ∙ has_row_law (with_ceiling before ceiling) session sound more history legal p b,
-      begins_law session sound (with_ceiling before ceiling) more history legal p b,
+    let more = raised_tells before ceiling session.start tells in (
+      has_row_law (raised before ceiling) session sound more history legal p b,
+      begins_law session sound (raised before ceiling) more history legal p b,
     )
 
 pub before_proved : BeforeLaw
 before_proved = λ before ceiling session sound tells history legal p b none.
-    let same = ap (λ (l : List Record). row_of l p b) (list-of before ceiling session history) in
     ⊎_elim
-    (λ (gone : row_of (with_ceiling before ceiling ++ records_of session history) p b ≡ None). inl (sym same ∙ gone))
-    (λ (kept : (row_of (with_ceiling before ceiling ++ records_of session history) p b ≡ row_of (with_ceiling before ceiling) p b) × (range b (file_after session history p) ≡ range b (opening_bytes session.start p))).
-    inr (sym same ∙ kept.0 ∙ row-next before (log.Ceiling ceiling) p b, kept.1))
-    (before_law (with_ceiling before ceiling) session sound (ceiling_tells before ceiling session.start tells) p b history legal none)
+    (λ (gone : row_of (raised before ceiling ++ records_of session history) p b ≡ None). inl gone)
+    (λ (kept : (row_of (raised before ceiling ++ records_of session history) p b ≡ row_of (raised before ceiling) p b) × (range b (file_after session history p) ≡ range b (opening_bytes session.start p))).
+    inr (kept.0 ∙ raised_row before ceiling p b, kept.1))
+    (before_law (raised before ceiling) session sound (raised_tells before ceiling session.start tells) p b history legal none)
 
 pub size_proved : SizeLaw
 size_proved = λ before ceiling session sound tells history p.
-    ap (λ (l : List Record). size_of l p) (sym (list-of before ceiling session history)) ∙ size_law (with_ceiling before ceiling) session sound (ceiling_tells before ceiling session.start tells) history p
+    size_law (raised before ceiling) session sound (raised_tells before ceiling session.start tells) history p
 
 pub files_proved : FilesLaw
 files_proved = λ before ceiling session sound tells history legal.
-    ap files_of (sym (list-of before ceiling session history)) ∙ files_law (with_ceiling before ceiling) session sound (ceiling_tells before ceiling session.start tells) history legal
+    files_law (raised before ceiling) session sound (raised_tells before ceiling session.start tells) history legal
 
 pub number_proved : NumberLaw
 number_proved = λ before ceiling session sound tells history legal p b has.
-    let m = number_law (with_ceiling before ceiling) session sound (ceiling_tells before ceiling session.start tells) history legal p b has in
-    (m.0, ap (λ (l : List Record). number_of l p) (sym (list-of before ceiling session history)) ∙ m.1)
+    number_law (raised before ceiling) session sound (raised_tells before ceiling session.start tells) history legal p b has
 
 pub numbers_proved : NumbersLaw
 numbers_proved = λ list p n is. (

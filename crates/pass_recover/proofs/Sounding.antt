@@ -338,8 +338,8 @@ module _ (list : List Record) (start : Start) (is : IsStartOf list start) (logge
           sym e.1 ∙ (are_named list logged ranges).apart m.1.node.pnode object x.1 (x.0 ∙ sym last)
 
   -- a session continues the list with it
-  pub continues : (objects : ℕ) → 1 ≤ objects → objects ≤ 8192 → start.ceiling + objects < 2 ^ 48 → Continues list (session_of start objects)
-  continues objects some few room = record {
+  pub continues : (objects : ℕ) → 1 ≤ objects → start.ceiling + objects < 2 ^ 48 → Continues list (session_of start objects)
+  continues objects some room = record {
     opens = record {
       sound = sound objects some room;
       logged = logged;
@@ -350,7 +350,6 @@ module _ (list : List Record) (start : Start) (is : IsStartOf list start) (logge
       current = current_at;
     };
     ceiling = is.ceiling;
-    few = few;
     kinds = kinds_are;
     counts = counts_are;
     names = names_found;

@@ -88,7 +88,7 @@ pub fn recover<D: Disk>(alloc: Global, disk: &mut D) -> Result<Opening, OpenFaul
     // A session may begin with it.
     ensures tells_files { IfOk result (λ o. Tells o.image.list.items o.start) }
     ensures sound { IfOk result (λ o. (objects : ℕ) → 1 ≤ objects → o.start.ceiling + objects < 2 ^ 48 → IsSound (session_of o.start objects)) }
-    ensures continues { IfOk result (λ o. (objects : ℕ) → 1 ≤ objects → objects ≤ 8192 → o.start.ceiling + objects < 2 ^ 48 → Continues o.image.list.items (session_of o.start objects)) }
+    ensures continues { IfOk result (λ o. (objects : ℕ) → 1 ≤ objects → o.start.ceiling + objects < 2 ^ 48 → Continues o.image.list.items (session_of o.start objects)) }
 
     ensures fault { IfErr result (IsCauseOf (D.view disk.old) (D.view disk.new)) }
     ensures no_fault { (IsErrOf result OpenFault.DiskFault → ⊥) → (D.view disk.new).faults ≡ (D.view disk.old).faults }

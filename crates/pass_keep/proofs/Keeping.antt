@@ -4,7 +4,7 @@ use Rattle.std.specs.Prelude.{slice_get}
 use Rattle.std.proofs.lemmas.List.{append-nil, nil_from_length, map-append}
 use Rattle.pass_entry.specs.declared.entry.Synced.{Synced}
 use Rattle.pass_entry.specs.declared.record.Record.{Record}
-use Rattle.pass_entry.specs.declared.record.Record.TheVariants as log
+use Rattle.pass_plain.specs.Ceilings.{raised}
 use Rattle.pass_outside.specs.Areas.{Image}
 use Rattle.pass_outside.specs.Moments.{Moment, IsAtEnd, Adds, AfterStep, Follows}
 use Rattle.pass_plain.proofs.Appends.{place_of}
@@ -193,7 +193,7 @@ pub records_after : (s : Story) (n upto : ℕ) (batch : List Record) (old new : 
     → image_of new ≡ with_batch batch (image_of old) → HasRecords (list_to s n) old → HasRecords (list_to s upto) new
 records_after s n upto batch old new records same has =
     let lists : list_to s n ++ batch ≡ list_to s upto =
-    append_assoc s.before (log.Ceiling s.ceiling ∷ records_to s n) batch ∙ ap (λ (l : List Record). s.before ++ log.Ceiling s.ceiling ∷ l) (sym records) in
+    append_assoc (raised s.before s.ceiling) (records_to s n) batch ∙ ap (λ (l : List Record). raised s.before s.ceiling ++ l) (sym records) in
     record {
       place = has.place + 5 + length (spellings batch);
       is = same ∙ ap (with_batch batch) has.is ∙ ap (λ (l : List Record). held_at l (has.place + 5 + length (spellings batch))) lists;

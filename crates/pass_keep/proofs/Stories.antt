@@ -3,7 +3,7 @@ use Rattle.std.proofs.Common.{◌≡◌, ℕ, ◌<◌, ◌≤◌, List, [], ◌�
 use Rattle.std.proofs.lemmas.List.{take-append-drop, append-nil, take-take}
 use Rattle.pass_entry.specs.declared.entry.Entry.{Entry}
 use Rattle.pass_entry.specs.declared.record.Record.{Record}
-use Rattle.pass_entry.specs.declared.record.Record.TheVariants as log
+use Rattle.pass_plain.specs.Ceilings.{raised}
 use Rattle.pass_plain.specs.Histories.{replay}
 use Rattle.pass_plain.specs.Records.{entry_records, records_of}
 use Rattle.pass_plain.specs.Files.{file_after}
@@ -42,7 +42,7 @@ module _ (s : Story) where
   pub list_more : (q n : ℕ) → q ≤ n → (more : List Record) × (list_to s n ≡ list_to s q ++ more)
   list_more q n le =
       let more = records_more q n le in
-      (more.0, ap (λ (l : List Record). s.before ++ log.Ceiling s.ceiling ∷ l) more.1 ∙ sym (append_assoc s.before (log.Ceiling s.ceiling ∷ records_to s q) more.0))
+      (more.0, ap (λ (l : List Record). raised s.before s.ceiling ++ l) more.1 ∙ sym (append_assoc (raised s.before s.ceiling) (records_to s q) more.0))
 
   -- a number stays
   pub number_later : (q n pnode number : ℕ) → q ≤ n → number_of (list_to s q) pnode ≡ Some number → number_of (list_to s n) pnode ≡ Some number
@@ -73,14 +73,14 @@ module _ (s : Story) where
   pub source_same : (q n pnode block : ℕ) → q ≤ n → n ≤ length s.history → list_to s n ≡ list_to s q → source_to s n pnode block ≡ source_to s q pnode block
   source_same q n pnode block le within same =
       let more = list_more q n le in
-      let head = length-append s.before (log.Ceiling s.ceiling ∷ records_to s n) in
-      let tail = length-append s.before (log.Ceiling s.ceiling ∷ records_to s q) in
+      let head = length-append (raised s.before s.ceiling) (records_to s n) in
+      let tail = length-append (raised s.before s.ceiling) (records_to s q) in
       let long : length (records_to s n) ≡ length (records_to s q) = omega (arith, head, tail, ap length same) in
       quiet_proved s.session (take n s.history) q (omega (arith, le, length_to n within)) (long ∙ ap (λ (h : List Entry). length (records_of s.session h)) (sym (shorter q n le))) pnode block
       ∙ ap (λ (h : List Entry). row_source s.session h pnode block) (shorter q n le)
 
   pub list_same : (q n : ℕ) → records_to s n ≡ records_to s q → list_to s n ≡ list_to s q
-  list_same q n same = ap (λ (l : List Record). s.before ++ log.Ceiling s.ceiling ∷ l) same
+  list_same q n same = ap (λ (l : List Record). raised s.before s.ceiling ++ l) same
 
   module _ (is : IsStory s) where
     pub number_known : (n pnode block at : ℕ) → source_to s n pnode block ≡ Some at → (number : ℕ) × (number_of (list_to s n) pnode ≡ Some number)

@@ -18,7 +18,7 @@ use Rattle.pass_range.specs.Rows.{range, row_of, number_of}
 use Rattle.pass_range.specs.Sources.{row_source}
 use Rattle.pass_range.specs.Lawful.{Tells}
 
--- a session on a disk: the records before it, its ceiling, what it opened with, its history so far, the count of device
+-- a session on a disk: the records before it, the ceiling to which it raises theirs, what it opened with, its history so far, the count of device
 -- calls from which on its records are kept, and the bytes of the store area then
 pub record Story : Type 0 where
   pub before : List Record
@@ -27,6 +27,10 @@ pub record Story : Type 0 where
   pub history : List Entry
   pub start : ℕ
   pub store : List ℕ
+
+-- how many bytes the frame has at most that raises the ceiling for a session: eight records of 9 bytes each
+abbrev pub ceilings_length : ℕ
+ceilings_length = 77
 
 -- it opened with what the records before it tell, and its history is legal
 pub record IsStory (s : Story) : Type 0 where

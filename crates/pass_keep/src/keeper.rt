@@ -4,7 +4,7 @@ use crate::begin::begin;
 use crate::block::write_blocks;
 use crate::fault::fault_of;
 use crate::{Block, KeepFault};
-use pass_entry::{Pnode, Synced};
+use pass_entry::{Record, Synced};
 use pass_log::{Log, LogImage};
 use pass_outside::Disk;
 use pass_range::write_range;
@@ -26,13 +26,16 @@ impl<D: Disk> Keeper<D> {
     ghost use Rattle.std.specs.Prelude.{◌≡◌, ◌⊎◌, ◌+◌, ◌*◌, ◌<◌, ◌≤◌, ◌^◌, ◌++◌, ◌∷◌, [], ℕ, length, List, Vec, slice_get, Some, OnOk, OnErr, Err, IsTrue, IfOk, IfErr};
     ghost use Rattle.std.specs.declared.alloc.Global.{Global as AnyGlobal};
     ghost use Rattle.pass_entry.specs.declared.record.Record.{Record as AnyRecord};
-    ghost use Rattle.pass_entry.specs.declared.record.Record.TheVariants.{Ceiling};
+    ghost use Rattle.std.specs.List.{All};
+    ghost use Rattle.pass_plain.specs.Ceilings.{ceilings_between};
+    ghost use Rattle.pass_plain.specs.WellLogged.{ceiling_of};
+    ghost use Rattle.pass_log.specs.Records.{frame_length};
     ghost use Rattle.pass_entry.specs.Ranges.{IsInRange};
     ghost use Rattle.pass_outside.specs.Areas.{Image};
     ghost use Rattle.pass_outside.specs.Moments.{IsAtEnd};
     ghost use Rattle.pass_log.specs.Log.{log_end, log_opened, IsSettled, IsFrameOf, LeavesStore};
     ghost use Rattle.pass_log.specs.LogImage.{IsRead};
-    ghost use Rattle.pass_keep.specs.Kept.{Story, IsStory, IsUnwritten, IsBegun};
+    ghost use Rattle.pass_keep.specs.Kept.{Story, IsStory, IsUnwritten, IsBegun, ceilings_length};
     ghost use Rattle.pass_keep.specs.Dirty.{AreSized, IsAscending, Beside};
     ghost use Rattle.pass_entry.specs.Limits.{block_count};
     ghost use Rattle.pass_plain.specs.Records.{block_size};
@@ -41,37 +44,38 @@ impl<D: Disk> Keeper<D> {
     ghost use Rattle.pass_keep.specs.Keepers.{disk_of, log_of, durable_of, syncs_of, IsKeeper, HasSpare, TakesSpare, GoesOn, Made, Failed, KeptStill, KeptFlushed, KeptUnflushed, KeptSynced, KeptUnsynced, KeptClean};
 
     /// Begins a session on a disk of which that log image was read, with nothing written since the session's start, and
-    /// appends the session's ceiling as one frame. After a fault the disk is handed back.
+    /// appends the records that raise the ceiling for it as one frame. After a fault the disk is handed back.
     pub fn open(
         alloc: Global,
         disk: D,
         image: &LogImage,
-        ceiling: Pnode,
+        ceilings: &[Record],
     ) -> Result<Keeper<D>, (KeepFault, D)>
         ghost story: { Story }
         requires before { story.before ≡ image.now.list.items }
-        requires ceiling { story.ceiling ≡ ceiling }
-        requires in_range { IsInRange (Ceiling ceiling) }
+        requires ceilings { ceilings.now ≡ ceilings_between (ceiling_of story.before) story.ceiling }
+        requires in_range { All IsInRange ceilings.now }
         requires image { IsRead (D.view disk) image.now }
         requires start { story.start ≤ (D.view disk).calls }
         requires since { IsUnwritten story (D.view disk) }
         requires room { image.now.end ≤ 2 ^ 38 }
+        requires size { frame_length ceilings.now ≤ ceilings_length }
         requires story { IsStory story }
 
         ensures kept { IfOk result (λ k. IsKeeper D.view (record { story = story; noted = [] }) k) }
         ensures durable { IfOk result (λ k. durable_of k ≡ 0) }
         ensures healthy { IfOk result (λ k. (D.view (disk_of k)).faults ≡ (D.view disk).faults) }
-        ensures place { IfOk result (λ k. log_end (log_of k) ≡ image.now.end + 14) }
+        ensures place { IfOk result (λ k. log_end (log_of k) ≡ image.now.end + frame_length ceilings.now) }
         ensures opened { IfOk result (λ k. log_opened (log_of k) ≡ (D.view (disk_of k)).faults) }
         ensures goes_on { IfOk result (λ k. GoesOn (D.view disk) (D.view (disk_of k))) }
-        // A crash at any moment since the start leaves what was there before, or the records from before and the ceiling.
+        // A crash at any moment since the start leaves what was there before, or the records from before and those that raise the ceiling.
         ensures begun { IfErr result (λ e. IsBegun story (D.view e.1)) }
         ensures failed { IfErr result (λ e. Failed (D.view disk).faults (D.view disk) (D.view e.1) e.0 ⊎ (e.0 ≡ KeepFault.NoMemory)) }
         ensures stopped { IfErr result (λ e. GoesOn (D.view disk) (D.view e.1)) }
     {
         let mut disk = disk;
         let opened = disk.faults();
-        match begin(alloc, &mut disk, image, ceiling) {
+        match begin(alloc, &mut disk, image, ceilings) {
             Ok(log) => Ok(Keeper {
                 disk,
                 log,

@@ -4,24 +4,22 @@ use Rattle.std.specs.Prelude.{Option, Some, None, Result, Ok, IsTrue, is_some, n
 use Rattle.std.specs.Option.{option_map_or}
 use Rattle.std.proofs.lemmas.Bool.Decides.{nat_tests}
 use Rattle.pass_bounds.specs.Lawful.{OpenedLaw}
-use Rattle.pass_bounds.proofs.Numbers.{number_is}
 use Rattle.pass_entry.specs.declared.objects.Node.{Node}
 use Rattle.pass_entry.specs.declared.record.FlawReason.{FlawReason}
 use Rattle.pass_entry.specs.declared.record.Record.{Record}
-use Rattle.pass_entry.specs.declared.record.Record.TheVariants.{Ceiling}
-use Rattle.pass_entry.specs.Ranges.{IsInRange}
 use Rattle.pass_graph.specs.Openings.{Continues}
 use Rattle.pass_keep.specs.Kept.{IsLeft, IsBegun}
 use Rattle.pass_keep.specs.Keepers.{GoesOn}
 use Rattle.pass_log.specs.declared.fault.LogFault.{LogFault}
 use Rattle.pass_log.specs.declared.fault.LogFault.TheVariants as log
 use Rattle.pass_log.specs.LogImage.{held_in}
-use Rattle.pass_log.specs.Records.{Held, image_of, ceiling_length}
+use Rattle.pass_log.specs.Records.{Held, image_of, frame_length}
 use Rattle.pass_outside.specs.Areas.{Image}
 use Rattle.pass_outside.specs.Moments.{Moment, IsAtEnd}
 use Rattle.pass_plain.specs.declared.start.StartFile.{StartFile}
 use Rattle.pass_plain.specs.Legal.{session_of}
 use Rattle.pass_plain.specs.Sessions.{Session, opened_file, opened_app, opening_version}
+use Rattle.pass_plain.specs.Ceilings.{most_objects}
 use Rattle.pass_plain.specs.Sound.{IsSound}
 use Rattle.pass_plain.specs.WellLogged.{current_of, first_flaw}
 use Rattle.pass_book.specs.Tokens.{BookId, VaultState}
@@ -136,7 +134,7 @@ module _ {D : Type 0} (view : D → Moment) (old : Moment) (disk : D) (f : Found
         later = later;
       }
 
-  module _ (some : 1 ≤ objects) (few : objects ≤ 8192) (short : f.image.end ≤ last_end) where
+  module _ (some : 1 ≤ objects) (few : objects ≤ most_objects) (short : f.image.end ≤ last_end) where
     pub is_opening : IsOpening old f.image.list.items f.start
     is_opening =
         let (bytes, read, image) = found.heard in
@@ -171,7 +169,7 @@ module _ {D : Type 0} (view : D → Moment) (old : Moment) (disk : D) (f : Found
         }
 
     module _ (law : OpenedLaw) where
-      bounds : (f.start.ceiling + 8192 < 2 ^ 48) × ((pnode : ℕ) → current_of f.image.list.items pnode ≤ 2 ^ 35)
+      bounds : (f.start.ceiling + most_objects < 2 ^ 48) × ((pnode : ℕ) → current_of f.image.list.items pnode ≤ 2 ^ 35)
       bounds =
           let (bytes, read, image) = found.heard in
           let (room, low) = law bytes (held_in f.image) image.holds short found.logged in
@@ -185,17 +183,14 @@ module _ {D : Type 0} (view : D → Moment) (old : Moment) (disk : D) (f : Found
       is_sound = found.sound objects some fits
 
       pub continues : Continues f.image.list.items (session_of f.start objects)
-      continues = found.continues objects some few fits
+      continues = found.continues objects some fits
 
       pub low : (object : ℕ) → opening_version f.start object ≤ 2 ^ 35
       low = opened_low f.image.list.items (session_of f.start objects) continues (2 ^ 35) (omega arith) bounds.1
 
-      pub in_range : (ceiling : ℕ) → ceiling ≡ f.start.ceiling + objects → IsInRange (Ceiling ceiling)
-      in_range ceiling is = let room = fits in number_is ceiling (omega (arith, is, some)) (omega (arith, is, room))
-
       -- The vault is open.
       module _ (entries : ℕ) (g : Ground) (session_is : g.book.book.session ≡ session_of f.start objects) (places_are : g.book.places ≡ entries) (ground : IsGround g) (seat : VaultState) (taken : seat ≡ record { book = g.book.book; seen = []; syncs = [] })
-          (ceiling : ℕ) (high : ceiling ≡ f.start.ceiling + objects) (pool : Blocks) (v : Vaulted D)
+          (ceiling : ℕ) (high : ceiling ≡ f.start.ceiling + objects) (raised : List Record) (pool : Blocks) (v : Vaulted D)
           (is : v ≡ record {
             book = seat.book;
             seen = seat.seen;
@@ -207,7 +202,7 @@ module _ {D : Type 0} (view : D → Moment) (old : Moment) (disk : D) (f : Found
             since = f.since;
             ready = (view v.disk).calls;
             opened = (view disk).faults;
-            place = f.image.end + ceiling_length;
+            place = f.image.end + frame_length raised;
             pool = pool;
             unsynced = false;
           })

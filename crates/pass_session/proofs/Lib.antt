@@ -1,4 +1,5 @@
 mod Raised
+mod RaisedSizes
 mod Parted
 pub mod Sought
 mod Laying

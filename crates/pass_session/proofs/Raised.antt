@@ -19,6 +19,8 @@ use Rattle.pass_plain.specs.Registries.{Names}
 use Rattle.pass_plain.specs.Sessions.{Session}
 use Rattle.pass_plain.specs.Versions.{is_freeze, is_fresh, nodes_of, node_at_entry, source_in}
 use Rattle.pass_plain.specs.WellLogged.{ceiling_look, ceiling_of}
+use Rattle.pass_plain.specs.Ceilings.{raised}
+use Rattle.pass_plain.proofs.Raising.{raised_to}
 use Rattle.pass_session.specs.Lawful.{CeilingLaw}
 
 -- records that are no ceiling
@@ -91,7 +93,8 @@ replayed session past list (e ∷ es) c =
     ∙ entry_quiet session past e (fold ceiling_look c list)
 
 listed : (before : List Record) (ceiling : ℕ) (session : Session) (history : List Entry) → ceiling_of (list_of before ceiling session history) ≡ ceiling
-listed before ceiling session history = fold-append ceiling_look 0 before (log.Ceiling ceiling ∷ records_of session history) ∙ replayed session [] [] history ceiling
+listed before ceiling session history =
+    fold-append ceiling_look 0 (raised before ceiling) (records_of session history) ∙ replayed session [] [] history (ceiling_of (raised before ceiling)) ∙ raised_to before ceiling
 
 pub ceiling_law : CeilingLaw
 ceiling_law s least bound c left = record { list = list_to s left.count; records = left.records; last = listed s.before s.ceiling s.session (take left.count s.history) }

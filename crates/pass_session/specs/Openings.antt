@@ -3,7 +3,6 @@ use Rattle.std.specs.Prelude.{ℕ, ◌+◌, ◌≡◌, ◌≢◌, IsTrue, List, 
 use Rattle.pass_entry.specs.declared.record.Record.{Record}
 use Rattle.pass_keep.specs.Kept.{Story, HasRecords, IsBegun}
 use Rattle.pass_log.specs.Records.{Held, image_of}
-use Rattle.pass_outside.specs.Areas.{Image}
 use Rattle.pass_outside.specs.Moments.{Moment}
 use Rattle.pass_plain.specs.declared.start.Start.{Start}
 use Rattle.pass_plain.specs.declared.start.StartFile.{StartFile}

@@ -88,7 +88,7 @@ pub record IsFound {D : Type 0} (old now : Moment) (f : Found D) : Type 0 where
   pub bytes : IsTrue old.tells → HasBytes f.image.list.items old.seen.store f.start
   pub files : Tells f.image.list.items f.start
   pub sound : (objects : ℕ) → 1 ≤ objects → f.start.ceiling + objects < 2 ^ 48 → IsSound (session_of f.start objects)
-  pub continues : (objects : ℕ) → 1 ≤ objects → objects ≤ 8192 → f.start.ceiling + objects < 2 ^ 48 → Continues f.image.list.items (session_of f.start objects)
+  pub continues : (objects : ℕ) → 1 ≤ objects → f.start.ceiling + objects < 2 ^ 48 → Continues f.image.list.items (session_of f.start objects)
   pub counted : f.since ≡ old.calls + 2
   pub earlier : f.since ≤ now.calls
   pub since : (c : Image) → now.left_since f.since c → c ≡ now.seen

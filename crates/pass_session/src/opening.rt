@@ -1,10 +1,15 @@
 //! How a session begins over a disk.
 ghost use Rattle.std.specs.Prelude.{◌≡◌, ◌⊎◌, [], ◌+◌, ◌<◌, ◌≤◌, ◌^◌, ℕ, IsTrue, IfOk, IfErr, false};
+ghost use Rattle.std.specs.List.{All};
+ghost use Rattle.pass_entry.specs.Ranges.{IsInRange};
 ghost use Rattle.pass_graph.specs.Openings.{Continues};
-ghost use Rattle.pass_keep.specs.Kept.{IsBegun};
+ghost use Rattle.pass_keep.specs.Kept.{IsBegun, ceilings_length};
+ghost use Rattle.pass_log.specs.Records.{frame_length};
 ghost use Rattle.pass_outside.specs.Areas.{Image};
 ghost use Rattle.pass_outside.specs.Moments.{IsAtEnd};
+ghost use Rattle.pass_plain.specs.Ceilings.{most_objects, ceilings_between};
 ghost use Rattle.pass_plain.specs.Sound.{IsSound};
+ghost use Rattle.pass_plain.specs.WellLogged.{ceiling_of};
 ghost use Rattle.pass_recover.specs.Faults.{LogHas};
 ghost use Rattle.pass_vault.specs.Vaulted.{story_of};
 ghost use Rattle.pass_session.specs.Judgements.{session_fault, refusal_of, IsJudged, IsOfStore};
@@ -15,13 +20,14 @@ use crate::ground::Ground;
 use crate::laws::ceilings;
 use crate::opened::Opened;
 use pass_bounds::laws::logs;
-use pass_entry::Pnode;
+use pass_entry::{Pnode, Record};
 use pass_log::{LogFault, LogImage};
 use pass_outside::Disk;
-use pass_plain::Start;
+use pass_plain::laws::ceilings as raised_ceilings;
+use pass_plain::{Start, ceilings_between};
 use pass_recover::{OpenFault, Opening, recover};
 use pass_vault::Vault;
-use std::alloc::Global;
+use std::alloc::{AllocError, Global};
 use std::snapshot::Snapshot;
 
 /// The last end of a log image over which a session begins.
@@ -41,14 +47,14 @@ struct Found<D> {
 ///
 /// The store is recovered and judged first: one that doesn't open, or whose log image ends above 2^38, is refused and isn't
 /// written to. Then the memory for the book is taken, and last the session's ceiling is written, durably: the start's plus a number
-/// for each object that it may make.
+/// for each object that it may make. It is raised by at most 8,192 a record, in one frame.
 pub fn open<D: Disk>(
     alloc: Global,
     disk: D,
     objects: u32,
     entries: u32,
 ) -> Result<Opened<D>, (OpenFault, D)>
-    requires objects { (1 ≤ objects) × (objects ≤ 8192) }
+    requires objects { (1 ≤ objects) × (objects ≤ most_objects) }
     requires entries { (66 ≤ entries) × (entries ≤ 16777216) }
 
     // What is opened: the session over the records of the log as it read, before its first entry.
@@ -120,7 +126,7 @@ fn judge<D: Disk>(
     objects: u32,
     entries: u32,
 ) -> Result<Opened<D>, (OpenFault, D)>
-    requires objects { (1 ≤ objects) × (objects ≤ 8192) }
+    requires objects { (1 ≤ objects) × (objects ≤ most_objects) }
     requires entries { (66 ≤ entries) × (entries ≤ 16777216) }
     requires found { IsFound (D.view found.first.value) (D.view disk) found }
     ensures { IsOpenedOver D.view (D.view found.first.value) objects entries result }
@@ -140,7 +146,7 @@ fn begin<D: Disk>(
     objects: u32,
     entries: u32,
 ) -> Result<Opened<D>, (OpenFault, D)>
-    requires objects { (1 ≤ objects) × (objects ≤ 8192) }
+    requires objects { (1 ≤ objects) × (objects ≤ most_objects) }
     requires entries { (66 ≤ entries) × (entries ≤ 16777216) }
     requires found { IsFound (D.view found.first.value) (D.view disk) found }
     requires short { found.image.end ≤ 2 ^ 38 }
@@ -151,9 +157,20 @@ fn begin<D: Disk>(
     let Ok((ground, seat)) = Ground::new(alloc, &found.start, objects, entries) else {
         return Err((OpenFault::NoMemory, disk));
     };
-    let opened = disk.faults();
     let ceiling = session_ceiling(&found.start, objects);
-    match Vault::open(alloc, disk, &found.image, ceiling, seat, found.since) {
+    let Ok(raised) = raises(alloc, &found.image, &found.start, objects, ceiling) else {
+        return Err((OpenFault::NoMemory, disk));
+    };
+    let opened = disk.faults();
+    match Vault::open(
+        alloc,
+        disk,
+        &found.image,
+        ceiling,
+        raised.as_slice(),
+        seat,
+        found.since,
+    ) {
         Ok(vault) => {
             vault.images();
             let Found { image, start, .. } = found;
@@ -169,6 +186,27 @@ fn session_ceiling(start: &Start, objects: u32) -> Pnode
     ensures { result ≡ start.now.ceiling + objects }
 {
     Pnode(start.ceiling + u64::from(objects))
+}
+
+/// The records that raise the ceiling to the session's.
+fn raises(
+    alloc: Global,
+    image: &LogImage,
+    start: &Start,
+    objects: u32,
+    ceiling: Pnode,
+) -> Result<Vec<Record>, AllocError>
+    requires objects { (1 ≤ objects) × (objects ≤ most_objects) }
+    requires start { start.now.ceiling ≡ ceiling_of image.now.list.items }
+    requires ceiling { ceiling ≡ start.now.ceiling + objects }
+    requires small { start.now.ceiling + objects < 2 ^ 48 }
+    ensures records { IfOk result (λ v. v.items ≡ ceilings_between (ceiling_of image.now.list.items) ceiling) }
+    ensures in_range { IfOk result (λ v. All IsInRange v.items) }
+    ensures size { IfOk result (λ v. frame_length v.items ≤ ceilings_length) }
+{
+    let _ = image;
+    raised_ceilings();
+    ceilings_between(alloc, Pnode(start.ceiling), ceiling)
 }
 
 /// The fault of writing the ceiling.

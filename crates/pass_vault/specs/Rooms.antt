@@ -1,18 +1,18 @@
 -- The room that a session has in the log (this project's own rule).
 use Rattle.std.specs.Prelude.{ℕ, ◌+◌, ◌*◌, ◌^◌, ◌≤◌, length}
 use Rattle.pass_outside.specs.Moments.{Moment, IsAtEnd}
-use Rattle.pass_log.specs.Records.{spellings, ceiling_length}
+use Rattle.pass_log.specs.Records.{spellings}
 use Rattle.pass_book.specs.Syncs.{durable}
-use Rattle.pass_keep.specs.Kept.{records_to}
+use Rattle.pass_keep.specs.Kept.{records_to, ceilings_length}
 use Rattle.pass_vault.specs.Vaulted.{Vaulted, story_of}
 
 -- the greatest number of entries of a session
 abbrev pub most_entries : ℕ
 most_entries = 16777216
 
--- where the ceiling's frame ends at most, over an image that ends at most at 2 ^ 38
+-- where the frame that raises the ceiling ends at most, over an image that ends at most at 2 ^ 38
 abbrev pub first_place : ℕ
-first_place = 2 ^ 38 + ceiling_length
+first_place = 2 ^ 38 + ceilings_length
 
 -- A session's frames end at most here: an entry has at most 1,376 bytes of records, and the frame of a part with a record
 -- has no more than twice the bytes of its records.

@@ -3,7 +3,6 @@ ghost use Rattle.std.specs.Prelude.{◌≡◌, ◌⊎◌, ◌+◌, ◌*◌, ◌<
 ghost use Rattle.std.specs.List.{All};
 ghost use Rattle.lru.specs.LruCache.{lru_cache};
 ghost use Rattle.pass_entry.specs.declared.record.Record.{Record as AnyRecord};
-ghost use Rattle.pass_entry.specs.declared.record.Record.TheVariants.{Ceiling};
 ghost use Rattle.pass_entry.specs.Ranges.{IsInRange};
 ghost use Rattle.pass_outside.specs.Areas.{Image};
 ghost use Rattle.pass_outside.specs.Moments.{IsAtEnd};
@@ -15,7 +14,10 @@ ghost use Rattle.pass_book.specs.Names.{name};
 ghost use Rattle.pass_book.specs.Numbers.{IsFileNumber};
 ghost use Rattle.pass_book.specs.Syncs.{durable};
 ghost use Rattle.pass_book.specs.Tokens.{HasMet};
-ghost use Rattle.pass_keep.specs.Kept.{Story, IsStory, IsBegun, AreParts};
+ghost use Rattle.pass_log.specs.Records.{frame_length};
+ghost use Rattle.pass_plain.specs.Ceilings.{ceilings_between};
+ghost use Rattle.pass_plain.specs.WellLogged.{ceiling_of};
+ghost use Rattle.pass_keep.specs.Kept.{Story, IsStory, IsBegun, AreParts, ceilings_length};
 ghost use Rattle.pass_keep.specs.Keepers.{disk_of, log_of, durable_of, IsKeeper, HasSpare, GoesOn, Made, Failed, KeptStill, KeptUnsynced};
 ghost use Rattle.pass_keep.specs.Dirty.{IsAscending, AreSized};
 ghost use Rattle.pass_keep.specs.Parts.{bytes_length, AreFrames};
@@ -32,7 +34,7 @@ use crate::unwritten::{Unwritten, blocks_to_write, clear_file};
 use crate::vault::Receipt;
 use pass_book::{Desk, Note, VaultSeat};
 use pass_bounds::laws::histories;
-use pass_entry::{Bytes, Pnode, Synced};
+use pass_entry::{Bytes, Pnode, Record, Synced};
 use pass_keep::{Block, KeepFault, Keeper};
 use pass_log::LogImage;
 use pass_outside::Disk;
@@ -48,19 +50,22 @@ pub(crate) fn opened<D: Disk>(
     disk: D,
     image: &LogImage,
     ceiling: Pnode,
+    ceilings: &[Record],
     seat: &VaultSeat,
     since: u64,
 ) -> Result<Keeper<D>, (KeepFault, D)>
     requires start { Tells image.now.list.items seat.now.book.session.start }
-    requires in_range { IsInRange (Ceiling ceiling) }
+    requires ceilings { ceilings.now ≡ ceilings_between (ceiling_of image.now.list.items) ceiling }
+    requires in_range { All IsInRange ceilings.now }
     requires image { IsRead (D.view disk) image.now }
     requires since { since ≤ (D.view disk).calls }
     requires same { IsTrue (D.view disk).tells → (c : Image) → (D.view disk).left_since since c → c ≡ (D.view disk).seen }
     requires room { image.now.end ≤ 2 ^ 38 }
+    requires size { frame_length ceilings.now ≤ ceilings_length }
     ensures kept { IfOk result (λ k. IsKeeper D.view (record { story = begun_with image.now.list.items (D.view disk).seen.store ceiling seat.now since; noted = [] }) k) }
     ensures durable { IfOk result (λ k. durable_of k ≡ 0) }
     ensures healthy { IfOk result (λ k. (D.view (disk_of k)).faults ≡ (D.view disk).faults) }
-    ensures place { IfOk result (λ k. log_end (log_of k) ≡ image.now.end + 14) }
+    ensures place { IfOk result (λ k. log_end (log_of k) ≡ image.now.end + frame_length ceilings.now) }
     ensures opened { IfOk result (λ k. log_opened (log_of k) ≡ (D.view (disk_of k)).faults) }
     ensures goes_on { IfOk result (λ k. GoesOn (D.view disk) (D.view (disk_of k))) }
     ensures begun { IfErr result (λ e. IsBegun (begun_with image.now.list.items (D.view disk).seen.store ceiling seat.now since) (D.view e.1)) }
@@ -68,7 +73,7 @@ pub(crate) fn opened<D: Disk>(
     ensures stopped { IfErr result (λ e. GoesOn (D.view disk) (D.view e.1)) }
 {
     let _seen = seat.seen();
-    open_as(alloc, disk, image, ceiling, seat, since)
+    open_as(alloc, disk, image, ceiling, ceilings, seat, since)
 }
 
 // The same, where the session is known to be one.
@@ -77,21 +82,24 @@ fn open_as<D: Disk>(
     disk: D,
     image: &LogImage,
     ceiling: Pnode,
+    ceilings: &[Record],
     seat: &VaultSeat,
     since: u64,
 ) -> Result<Keeper<D>, (KeepFault, D)>
     ghost story: { Story }
     requires story { story ≡ begun_with image.now.list.items (D.view disk).seen.store ceiling seat.now since }
     requires is_story { IsStory story }
-    requires in_range { IsInRange (Ceiling ceiling) }
+    requires ceilings { ceilings.now ≡ ceilings_between (ceiling_of story.before) story.ceiling }
+    requires in_range { All IsInRange ceilings.now }
     requires image { IsRead (D.view disk) image.now }
     requires since { since ≤ (D.view disk).calls }
     requires same { IsTrue (D.view disk).tells → (c : Image) → (D.view disk).left_since since c → c ≡ (D.view disk).seen }
     requires room { image.now.end ≤ 2 ^ 38 }
+    requires size { frame_length ceilings.now ≤ ceilings_length }
     ensures kept { IfOk result (λ k. IsKeeper D.view (record { story = story; noted = [] }) k) }
     ensures durable { IfOk result (λ k. durable_of k ≡ 0) }
     ensures healthy { IfOk result (λ k. (D.view (disk_of k)).faults ≡ (D.view disk).faults) }
-    ensures place { IfOk result (λ k. log_end (log_of k) ≡ image.now.end + 14) }
+    ensures place { IfOk result (λ k. log_end (log_of k) ≡ image.now.end + frame_length ceilings.now) }
     ensures opened { IfOk result (λ k. log_opened (log_of k) ≡ (D.view (disk_of k)).faults) }
     ensures goes_on { IfOk result (λ k. GoesOn (D.view disk) (D.view (disk_of k))) }
     ensures begun { IfErr result (λ e. IsBegun story (D.view e.1)) }
@@ -100,7 +108,8 @@ fn open_as<D: Disk>(
 {
     let _ = seat;
     let _ = since;
-    Keeper::open(alloc, disk, image, ceiling)
+    let _ = ceiling;
+    Keeper::open(alloc, disk, image, ceilings)
 }
 
 /// Appends the frames of the entries from the durable number up to those that the note has seen, and notes it.

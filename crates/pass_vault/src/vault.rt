@@ -56,13 +56,12 @@ impl<D: Disk> Vault<D> {
     ghost use Rattle.std.specs.Prelude.{◌≡◌, ◌⊎◌, ◌↔◌, ◌+◌, ◌*◌, ◌<◌, ◌≤◌, ◌^◌, ◌++◌, ◌∷◌, [], ℕ, List, length, take, map, true, false, IsTrue, OnOk, IfOk, IfErr, IsErrOf, Ok, Err};
     ghost use Rattle.std.specs.List.{All};
     ghost use Rattle.lru.specs.LruCache.{lru_cache};
-    ghost use Rattle.pass_entry.specs.declared.record.Record.TheVariants.{Ceiling};
     ghost use Rattle.pass_entry.specs.Ranges.{IsInRange};
     ghost use Rattle.pass_outside.specs.Areas.{Image};
     ghost use Rattle.pass_outside.specs.Moments.{IsAtEnd};
     ghost use Rattle.pass_log.specs.LogImage.{IsRead};
     ghost use Rattle.pass_log.specs.Log.{append_calls};
-    ghost use Rattle.pass_log.specs.Records.{spellings, frame_length, ceiling_length};
+    ghost use Rattle.pass_log.specs.Records.{spellings, frame_length};
     ghost use Rattle.pass_range.specs.Lawful.{Tells};
     ghost use Rattle.pass_book.specs.declared.view.Role.TheVariants as role;
     ghost use Rattle.pass_book.specs.Names.{name};
@@ -71,7 +70,9 @@ impl<D: Disk> Vault<D> {
     ghost use Rattle.pass_plain.specs.Sound.{IsSound};
     ghost use Rattle.pass_book.specs.Syncs.{called, durable as durable_in, AreNumbered};
     ghost use Rattle.pass_book.specs.Tokens.{HasMet};
-    ghost use Rattle.pass_keep.specs.Kept.{IsBegun, AreParts, records_to};
+    ghost use Rattle.pass_plain.specs.Ceilings.{ceilings_between};
+    ghost use Rattle.pass_plain.specs.WellLogged.{ceiling_of};
+    ghost use Rattle.pass_keep.specs.Kept.{IsBegun, AreParts, records_to, ceilings_length};
     ghost use Rattle.pass_keep.specs.Keepers.{GoesOn, Made};
     ghost use Rattle.pass_keep.specs.Parts.{lists_of, frames_length};
     ghost use Rattle.pass_vault.specs.Vaulted.{story_of, story_with, flushed, file_synced, file_staged, real_syncs, HasWaiting};
@@ -82,7 +83,7 @@ impl<D: Disk> Vault<D> {
     ghost use Rattle.pass_vault.specs.Batches.{parts_of};
     ghost use Rattle.pass_vault.specs.Blocks.{AreSomeDirty};
 
-    /// Opens the vault of a session on a disk of which that image was read, and appends the session's ceiling as one frame.
+    /// Opens the vault of a session on a disk of which that image was read, and raises its ceiling for the session by one frame.
     /// `since` is a count of the disk's calls since which each crash leaves what the disk reads now. After a fault the seat is
     /// dropped, and the disk is handed back.
     pub fn open(
@@ -90,16 +91,19 @@ impl<D: Disk> Vault<D> {
         disk: D,
         image: &LogImage,
         ceiling: Pnode,
+        ceilings: &[Record],
         seat: VaultSeat,
         since: u64,
     ) -> Result<Vault<D>, (LogFault, D)>
         requires fresh { seat.syncs ≡ [] }
         requires start { Tells image.now.list.items seat.book.session.start }
-        requires in_range { IsInRange (Ceiling ceiling) }
+        requires ceilings { ceilings.now ≡ ceilings_between (ceiling_of image.now.list.items) ceiling }
+        requires in_range { All IsInRange ceilings.now }
         requires image { IsRead (D.view disk) image.now }
         requires since { since ≤ (D.view disk).calls }
         requires same { IsTrue (D.view disk).tells → (c : Image) → (D.view disk).left_since since c → c ≡ (D.view disk).seen }
         requires room { image.now.end ≤ 2 ^ 38 }
+        requires size { frame_length ceilings.now ≤ ceilings_length }
         ensures opened { IfOk result (λ v. v ≡ record {
           book = seat.book;
           seen = seat.seen;
@@ -111,20 +115,20 @@ impl<D: Disk> Vault<D> {
           since = since;
           ready = (D.view v.disk).calls;
           opened = (D.view disk).faults;
-          place = image.now.end + ceiling_length;
+          place = image.now.end + frame_length ceilings.now;
           pool = lru_cache [] pool_capacity;
           unsynced = false;
         }) }
         ensures healthy { IfOk result (λ v. (D.view v.disk).faults ≡ (D.view disk).faults) }
         ensures goes_on { IfOk result (λ v. GoesOn (D.view disk) (D.view v.disk)) }
-        // A crash at any moment since then leaves what was there before, or the records from before and the ceiling.
+        // A crash at any moment since then leaves what was there before, or the records from before and those that raise the ceiling.
         ensures begun { IfErr result (λ e. IsBegun (begun_with image.now.list.items (D.view disk).seen.store ceiling seat since) (D.view e.1)) }
         ensures failed { IfErr result (λ e. ((e.0 ≡ LogFault.DiskFault) × (((D.view disk).faults < (D.view e.1).faults) ⊎ IsAtEnd (D.view e.1))) ⊎ (e.0 ≡ LogFault.NoMemory)) }
         ensures stopped { IfErr result (λ e. GoesOn (D.view disk) (D.view e.1)) }
     {
         let first = Snapshot::of(&disk);
         let before = Snapshot::of(&image.list);
-        let mut keeper = match opened(alloc, disk, image, ceiling, &seat, since) {
+        let mut keeper = match opened(alloc, disk, image, ceiling, ceilings, &seat, since) {
             Ok(keeper) => keeper,
             Err((fault, disk)) => return Err((log_fault(fault), disk)),
         };

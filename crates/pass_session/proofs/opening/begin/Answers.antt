@@ -17,7 +17,7 @@ new-requires-in-Ok-open g c =
     let ground = c.in-Ok.ensures in
     let vault = c.in-Ok-open.ensures in
     ready view (view f.first.value) c.args.disk f c.requires.found c.args.objects c.requires.objects.0 c.requires.objects.1 c.requires.short c.logs.ensures.opened
-    c.args.entries c.in-Ok.ground ground.session ground.places ground.ground c.in-Ok.seat ground.seat c.session_ceiling-ceiling.result c.session_ceiling-ceiling.ensures _ c.in-Ok-open.vault vault.opened vault.healthy vault.goes_on
+    c.args.entries c.in-Ok.ground ground.session ground.places ground.ground c.in-Ok.seat ground.seat c.session_ceiling-ceiling.result c.session_ceiling-ceiling.ensures _ _ c.in-Ok-open.vault vault.opened vault.healthy vault.goes_on
     c.requires.entries c.faults-opened.result c.faults-opened.ensures
 
 pub returns-in-Ok-open : goal.returns-in-Ok-open
@@ -28,7 +28,7 @@ returns-in-Ok-open g c =
     let vault = c.in-Ok-open.ensures in
     subst (HasSession view (view f.first.value) c.args.objects c.args.entries) (sym (c.new-in-Ok-open.ensures ∙ ap (opened_with c.in-Ok-open.vault) ground.places))
     (begun view (view f.first.value) c.args.disk f c.requires.found c.args.objects c.requires.objects.0 c.requires.objects.1 c.requires.short c.logs.ensures.opened
-    c.args.entries c.in-Ok.ground ground.session ground.places ground.ground c.in-Ok.seat ground.seat c.session_ceiling-ceiling.result c.session_ceiling-ceiling.ensures _ c.in-Ok-open.vault vault.opened vault.healthy vault.goes_on
+    c.args.entries c.in-Ok.ground ground.session ground.places ground.ground c.in-Ok.seat ground.seat c.session_ceiling-ceiling.result c.session_ceiling-ceiling.ensures _ _ c.in-Ok-open.vault vault.opened vault.healthy vault.goes_on
     c.ceilings.ensures c.images.ensures.begun c.images.ensures.opened)
 
 pub returns-in-Err : goal.returns-in-Err

@@ -21,7 +21,7 @@ use std::sync::Wait;
 /// The number of the first process in a trace.
 const FIRST: u32 = 1;
 
-/// Behind so many calls that made entries these are made durable, and changed blocks are put aside.
+/// Behind so many calls that made entries these are made durable where they are many, and changed blocks are put aside.
 const TRICKLE: u32 = 512;
 
 /// Makes the calls of a trace in the order of its lines, as far as they are ready, over a store that has just begun. `room` comes of the plan.

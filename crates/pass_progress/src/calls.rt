@@ -50,6 +50,6 @@ pub trait Calls<J: Whose> {
         ensures proc { HasMet J.book.session proc.old proc.new }
         ensures trail { (trail.new.who ≡ trail.old.who) × IsPrefix trail.old.seen trail.new.seen × AgreeBy trail.old.who trail.old.seen trail.new.seen };
 
-    /// Makes the entries so far durable and puts changed blocks aside, while other calls go on.
+    /// Makes the entries so far durable where many wait, and then puts changed blocks aside, while other calls go on.
     fn trickle(&self) -> Result<(), CallEnd>;
 }

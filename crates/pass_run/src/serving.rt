@@ -27,6 +27,9 @@ use std::thread::Threads;
 /// How many changed blocks are put aside at once, to be written later.
 const ASIDE: u32 = 1024;
 
+/// From how many entries on, of those that aren't durable, a trickle is worth its frame.
+const ENOUGH: u64 = 1024;
+
 /// A store, with what its calls wait by and take memory from.
 #[derive_where(Clone, Copy)]
 pub(crate) struct Served<'a, 'g, R, J: Opening, D: Disk, G: Gate> {
@@ -36,6 +39,19 @@ pub(crate) struct Served<'a, 'g, R, J: Opening, D: Disk, G: Gate> {
 }
 
 impl<'a, 'g, R: Wait, J: Opening, D: Disk, G: Gate> Served<'a, 'g, R, J, D, G> {
+    /// How many entries were made.
+    fn entered(&self) -> u64 {
+        let mut shelf = self.store.locks.book.lock(self.rt);
+        let note = shelf.note();
+        note.seen()
+    }
+
+    /// How many of them are durable.
+    fn durable(&self) -> u64 {
+        let safe = self.store.vault.lock(self.rt);
+        safe.durable()
+    }
+
     /// Makes the write of a line. Of what the process read last it writes a copy.
     fn write(&self, proc: &mut Proc<J>, fd: u8, payload: &Payload) -> Result<Moved, CallEnd>
         requires { IsLineCall (write_of fd payload.now) }
@@ -127,6 +143,10 @@ impl<'a, 'g, R: Wait, J: Opening, D: Disk, G: Gate> Calls<J> for Served<'a, 'g, 
     }
 
     fn trickle(&self) -> Result<(), CallEnd> {
+        let durable = self.durable();
+        if self.entered().saturating_sub(durable) < ENOUGH {
+            return Ok(());
+        }
         match pass_kept::trickle(
             &self.store.locks,
             &self.store.vault,

@@ -15,8 +15,8 @@ use std::thread::Threads;
 
 /// Makes passes until all have ended or one was left. Where none moves, the first living process meets those that have ended, and the next
 /// pass is made by one worker; where none moves in that one either, and all living ones have seen as much, none can. Behind each pass in
-/// which some moved those that have ended are put aside, its entries are made durable, and changed blocks are kept for later; where that
-/// fails, no further pass is made.
+/// which some moved those that have ended are put aside, and the entries that wait are made durable where they are many, with changed
+/// blocks kept for later; where that fails, no further pass is made.
 pub(crate) fn passes<'a, R: Threads + Wait + Sync, J: Whose + Send, S: Calls<J> + Sync>(
     rt: &R,
     ground: &'a Ground<'a, S>,

@@ -19,7 +19,7 @@ pub struct Ground<'a, S> {
 }
 
 impl<'a, S> Ground<'a, S> {
-    /// Makes the entries so far durable and puts changed blocks aside. Where that fails, why.
+    /// Makes the entries so far durable where many wait, and then puts changed blocks aside. Where that fails, why.
     pub fn trickle<J: Whose>(&self) -> Option<Cause>
     where
         S: Calls<J>,

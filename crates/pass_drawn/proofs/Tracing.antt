@@ -127,7 +127,7 @@ call_named_so number lines process k call at = named_if process call (call_drawn
 
 -- the rules of a trace
 
-fork_behind : (before : List Line) (number child : ℕ) → child ≤ 8192 → is_there before child ≡ false → IsLineBehind before (plain_line (line number 1 (command.Fork child)))
+fork_behind : (before : List Line) (number child : ℕ) → child ≤ 65536 → is_there before child ≡ false → IsLineBehind before (plain_line (line number 1 (command.Fork child)))
 fork_behind before number child small new = record {
   within = small;
   there = refl;

@@ -2,13 +2,14 @@
 //!
 //! `generate` gives exactly the trace of its number and its count of lines, line by line (`trace`): the file, the seven forks, for
 //! each drawn line the next word of the generator PCG XSH RR 64/32, which the number seeds, and the seven waits. What that
-//! generator draws is `rand_pcg`'s contract. With 15 to 100,000 lines it is the trace of the text that is written of it
+//! generator draws is `rand_pcg`'s contract. With 15 lines, and up to as many as a scale allows, it is the trace of the text that is written of it
 //! (`laws::generated_is_read`), so a run may take it as a trace that was read. Beside the proof the first hundred lines for 0, 1
 //! and 2^64 - 1 are compared with what a short program draws that shares no code with this crate (`crates/tests_gen/draw.py`).
 #![tactic(auto)]
 
 ghost use Rattle.std.specs.Prelude.{◌≡◌, ◌+◌, ◌-◌, ◌≤◌, ◌<◌, ◌++◌, IfOk, OnOk, codes, replicate};
 ghost use Rattle.pass_entry.specs.Limits.{transfer_limit};
+ghost use Rattle.pass_trace.specs.declared.limits.Scale.TheVariants.{Long};
 ghost use Rattle.pass_trace.specs.Limits.{most_lines};
 ghost use Rattle.pass_gen.specs.Generated.{line, command_of, transfer_of, first_lines, drawn_lines, last_lines, generated};
 
@@ -107,7 +108,7 @@ fn draw(
     count: u32,
     lines: &mut Vec<TraceLine>,
 ) -> Result<(), AllocError>
-    requires { count ≤ 99985 }
+    requires { count ≤ 999985 }
     ensures { OnOk result (lines.new.items ≡ lines.old.items ++ drawn_lines number count) }
 {
     let mut generator = Pcg32::seed_from_u64(number);
@@ -121,7 +122,7 @@ fn draw(
 
 // The waits, behind so many drawn lines.
 fn wait(count: u32, lines: &mut Vec<TraceLine>) -> Result<(), AllocError>
-    requires { count ≤ 99985 }
+    requires { count ≤ 999985 }
     ensures { OnOk result (lines.new.items ≡ lines.old.items ++ last_lines count) }
 {
     for waited in 0..CHILDREN {
@@ -131,11 +132,11 @@ fn wait(count: u32, lines: &mut Vec<TraceLine>) -> Result<(), AllocError>
     Ok(())
 }
 
-/// The trace of a number, with 15 to 100,000 lines: the first process makes a file and forks seven children; each of
+/// The trace of a number, with 15 lines and more: the first process makes a file and forks seven children; each of
 /// them in turn seeks in it and reads or writes there; then the first one waits for all of them. Where they seek, whether they
 /// read or write, how much and what, is drawn from PCG XSH RR 64/32, which the number seeds. The rule is this project's own.
 pub fn generate(alloc: Global, number: u64, lines: u32) -> Result<Trace, AllocError>
-    requires lines { (15 ≤ lines) × (lines ≤ most_lines) }
+    requires lines { (15 ≤ lines) × (lines ≤ most_lines Long) }
     ensures trace { IfOk result (λ trace. trace.lines.items ≡ generated number lines) }
 {
     let count = lines - LEAST_LINES;

@@ -5,7 +5,8 @@ ghost use Rattle.pass_status.specs.Reading.{StopsInTime};
 ghost use Rattle.pass_trace.specs.Lines.{is_too_long};
 
 use pass_outside::{Failed, Source};
-use pass_trace::limits::{LONGEST_LINE, MOST_LINES};
+use pass_trace::Scale;
+use pass_trace::limits::LONGEST_LINE;
 use std::alloc::{AllocError, Global};
 
 /// How many bytes are asked of the source at once.
@@ -62,13 +63,13 @@ impl Limits {
     }
 
     // One more byte.
-    fn count(&mut self, byte: u8)
-        ensures { self.new ≡ counted self.old byte }
+    fn count(&mut self, scale: Scale, byte: u8)
+        ensures { self.new ≡ counted scale self.old byte }
     {
         if self.over {
             return;
         }
-        if self.lines >= MOST_LINES {
+        if self.lines >= scale.most_lines() {
             self.over = true;
         } else if byte == b'\n' {
             self.lines += 1;
@@ -81,21 +82,25 @@ impl Limits {
     }
 
     // One more piece.
-    fn take(&mut self, piece: &[u8])
-        ensures { self.new ≡ fold counted self.old piece.now }
+    fn take(&mut self, scale: Scale, piece: &[u8])
+        ensures { self.new ≡ fold (counted scale) self.old piece.now }
     {
         'bytes: for byte in piece {
-            self.count(*byte);
+            self.count(scale, *byte);
         }
     }
 }
 
 /// The bytes that a source has left, read to their end, but no further than the piece in which a line is seen to be longer
-/// than one of a trace may be, or to be one too many.
-pub fn read_source<S: Source>(alloc: Global, source: &mut S) -> Result<Vec<u8>, ReadEnd>
+/// than one of a trace may be, or to be one too many for a trace of the scale.
+pub fn read_source<S: Source>(
+    alloc: Global,
+    scale: Scale,
+    source: &mut S,
+) -> Result<Vec<u8>, ReadEnd>
     ensures front { IfOk result (λ text. IsTrue S.tells → S.left source.old ≡ text.items ++ S.left source.new) }
-    ensures whole { IfOk result (λ text. IsTrue S.tells → is_too_long text.items ≡ false → S.left source.new ≡ []) }
-    ensures stops { IfOk result (λ text. StopsInTime text.items) }
+    ensures whole { IfOk result (λ text. IsTrue S.tells → is_too_long scale text.items ≡ false → S.left source.new ≡ []) }
+    ensures stops { IfOk result (λ text. StopsInTime scale text.items) }
     ensures fault { IsErrOf result ReadEnd.ReadFault ↔ HasRisen (S.fault_count source.old) (S.fault_count source.new) }
 {
     let mut text = Vec::new(alloc);
@@ -107,7 +112,7 @@ pub fn read_source<S: Source>(alloc: Global, source: &mut S) -> Result<Vec<u8>, 
             break;
         }
         text.extend_from_slice(&piece[..count])?;
-        limits.take(&piece[..count]);
+        limits.take(scale, &piece[..count]);
     }
     Ok(text)
 }

@@ -23,13 +23,46 @@ use Rattle.pass_entry.proofs.Variants.{guard_ok}
 use Rattle.pass_trace.specs.Calls.{forms_of}
 use Rattle.pass_trace.specs.Lines.{words_of}
 pub use Rattle.pass_trace.specs.Ranges.{IsPayload, IsMode, IsArgs, IsGood, IsGoodLine}
+use Rattle.pass_trace.specs.declared.limits.Scale.{Scale}
+use Rattle.pass_trace.specs.declared.limits.Scale.TheVariants.{Usual, Long}
+use Rattle.pass_trace.specs.Limits.{last_process}
 use Rattle.pass_trace.specs.Rules.{child_of}
 use Rattle.pass_trace.specs.Words.{is_text, is_word, is_number, is_payload, have_forms, have_these, value_of}
 use Rattle.pass_trace.specs.Commands.{◌>>=◌, word_at, number_in, process_of, fd_of, name_of, mode_of, given, decoded, repeated_of, hex_of, payload_of, args_of, command_of, creat_of, open_of, close_of, read_of, write_of, seek_of, truncate_of, pipe_of, fork_of, exec_of, wait_of, await_of, rename_of, unlink_of, mkobj_of, revive_of, freeze_of, disclose_of, tag_of, sync_of}
 use Rattle.pass_trace.specs.Traces.{has_row, row_of, call_line_of, line_of, text_line_of}
 
+-- the usual scale is within the long one
+pub last_low : (scale : Scale) → last_process scale ≤ 65536
+last_low Usual = omega arith
+last_low Long = omega arith
+
+pub good_wide : (scale : Scale) (c : Command) → IsGood scale c → IsGood Long c
+good_wide scale (command.Fork child) h = (h.0, let z = last_low scale in omega (arith, z, h.1))
+good_wide scale (command.Wait child) h = (h.0, let z = last_low scale in omega (arith, z, h.1))
+good_wide scale (command.Await child) h = (h.0, let z = last_low scale in omega (arith, z, h.1))
+good_wide scale (command.Creat fd name) h = h
+good_wide scale (command.Open fd name mode) h = h
+good_wide scale (command.Close fd) h = h
+good_wide scale (command.Read fd len) h = h
+good_wide scale (command.Write fd payload) h = h
+good_wide scale (command.Seek fd off) h = h
+good_wide scale (command.Truncate fd size) h = h
+good_wide scale (command.Pipe reader writer) h = h
+good_wide scale (command.Exec name args) h = h
+good_wide scale (command.Rename from to) h = h
+good_wide scale (command.Unlink name) h = h
+good_wide scale (command.MkObj fd) h = h
+good_wide scale (command.Revive fd pnode) h = h
+good_wide scale (command.Freeze fd) h = h
+good_wide scale (command.Disclose target source) h = h
+good_wide scale (command.Tag fd attr value) h = h
+good_wide scale (command.Sync fd) h = h
+
+pub line_wide : (scale : Scale) (line : TraceLine) → IsGoodLine scale line → IsGoodLine Long line
+line_wide scale line h = record { from = h.from; to = (let z = last_low scale in omega (arith, z, h.to)); command = good_wide scale line.command h.command }
+
 -- the process that a command names is one of a trace
-pub child_of-le : (c : Command) → IsGood c → child_of c ≤ 8192
+pub child_of-le : (c : Command) → IsGood Long c → child_of c ≤ 65536
 child_of-le (command.Fork child) h = h.1
 child_of-le (command.Wait child) h = h.1
 child_of-le (command.Await child) h = h.1
@@ -82,7 +115,7 @@ decoded_ok : (r : Result (List ℕ) FromHexError) (bytes : List ℕ) → decoded
 decoded_ok (Ok xs) bytes h = cc
 decoded_ok (Err e) bytes h = cc
 
-bind_ok : {A B : Type 0} (r : Result A TraceReason) (f : A → Result B TraceReason) (y : B) → (r >>= f) ≡ Ok y → (x : A) × (r ≡ Ok x) × (f x ≡ Ok y)
+pub bind_ok : {A B : Type 0} (r : Result A TraceReason) (f : A → Result B TraceReason) (y : B) → (r >>= f) ≡ Ok y → (x : A) × (r ≡ Ok x) × (f x ≡ Ok y)
 bind_ok (Ok x) f y h = (x, refl, h)
 bind_ok (Err e) f y h = cc
 
@@ -157,61 +190,62 @@ args_is words args form h =
     let parts = guard_ok (is_line (join_with_byte 32 words)) (join_with_byte 32 words) args reason.Length h in
     record { line = subst IsLine parts.1 parts.0; words = (words, form, sym parts.1) }
 
-pub command_is : (call : CallName) (words : List (List ℕ)) (c : Command) → have_these (forms_of call) words ≡ true → command_of call words ≡ Ok c → IsGood c
-unfolding creat_of open_of close_of read_of write_of seek_of truncate_of pipe_of fork_of exec_of wait_of await_of rename_of unlink_of mkobj_of revive_of freeze_of disclose_of tag_of sync_of
-command_is call.Start words c form h = absurd (cc)
-command_is call.Creat words c form h = two_ok (fd_of (word_at words 0)) (name_of (word_at words 1)) command.Creat IsGood c h (λ a b ea eb. (fd_range (word_at words 0) a ea, name_is (word_at words 1) b eb))
-command_is call.OpenName words c form h = two_ok (fd_of (word_at words 0)) (name_of (word_at words 1)) (λ a b. command.Open a b (mode_of (word_at words 2))) IsGood c h (λ a b ea eb. (fd_range (word_at words 0) a ea, name_is (word_at words 1) b eb, mode_is (word_at words 2)))
-command_is call.CloseFd words c form h = one_ok (fd_of (word_at words 0)) command.Close IsGood c h (λ a ea. fd_range (word_at words 0) a ea)
-command_is call.Read words c form h = two_ok (fd_of (word_at words 0)) (number_in 1 4096 (word_at words 1)) command.Read IsGood c h (λ a b ea eb. (fd_range (word_at words 0) a ea, (number_in_range 1 4096 (word_at words 1) b eb).0, (number_in_range 1 4096 (word_at words 1) b eb).1))
-command_is call.Write words c form h = two_ok (fd_of (word_at words 0)) (payload_of (word_at words 1)) command.Write IsGood c h (λ a b ea eb. (fd_range (word_at words 0) a ea, payload_is (word_at words 1) b (payload_form words form) eb))
-command_is call.Seek words c form h = two_ok (fd_of (word_at words 0)) (number_in 0 4294967295 (word_at words 1)) command.Seek IsGood c h (λ a b ea eb. (fd_range (word_at words 0) a ea, (number_in_range 0 4294967295 (word_at words 1) b eb).1))
-command_is call.Truncate words c form h = two_ok (fd_of (word_at words 0)) (number_in 0 4294967295 (word_at words 1)) command.Truncate IsGood c h (λ a b ea eb. (fd_range (word_at words 0) a ea, (number_in_range 0 4294967295 (word_at words 1) b eb).1))
-command_is call.MakePipe words c form h = two_ok (fd_of (word_at words 0)) (fd_of (word_at words 1)) command.Pipe IsGood c h (λ a b ea eb. (fd_range (word_at words 0) a ea, fd_range (word_at words 1) b eb))
-command_is call.Fork words c form h = one_ok (process_of (word_at words 0)) command.Fork IsGood c h (λ a ea. ((number_in_range 1 8192 (word_at words 0) a ea).0, (number_in_range 1 8192 (word_at words 0) a ea).1))
-command_is call.Exec words c form h = two_ok (name_of (word_at words 0)) (args_of (drop 1 words)) command.Exec IsGood c h (λ a b ea eb. (name_is (word_at words 0) a ea, args_is (drop 1 words) b (args_form words form) eb))
-command_is call.WaitChild words c form h = one_ok (process_of (word_at words 0)) command.Wait IsGood c h (λ a ea. ((number_in_range 1 8192 (word_at words 0) a ea).0, (number_in_range 1 8192 (word_at words 0) a ea).1))
-command_is call.Await words c form h = one_ok (process_of (word_at words 0)) command.Await IsGood c h (λ a ea. ((number_in_range 1 8192 (word_at words 0) a ea).0, (number_in_range 1 8192 (word_at words 0) a ea).1))
-command_is call.Exit words c form h = absurd (cc)
-command_is call.Rename words c form h = two_ok (name_of (word_at words 0)) (name_of (word_at words 1)) command.Rename IsGood c h (λ a b ea eb. (name_is (word_at words 0) a ea, name_is (word_at words 1) b eb))
-command_is call.Unlink words c form h = one_ok (name_of (word_at words 0)) command.Unlink IsGood c h (λ a ea. name_is (word_at words 0) a ea)
-command_is call.MakeObj words c form h = one_ok (fd_of (word_at words 0)) command.MkObj IsGood c h (λ a ea. fd_range (word_at words 0) a ea)
-command_is call.Revive words c form h = two_ok (fd_of (word_at words 0)) (number_in 1 (2 ^ 48 - 1) (word_at words 1)) command.Revive IsGood c h (λ a b ea eb. (fd_range (word_at words 0) a ea, (number_in_range 1 (2 ^ 48 - 1) (word_at words 1) b eb).0, (number_in_range 1 (2 ^ 48 - 1) (word_at words 1) b eb).1))
-command_is call.FreezeObj words c form h = one_ok (fd_of (word_at words 0)) command.Freeze IsGood c h (λ a ea. fd_range (word_at words 0) a ea)
-command_is call.Disclose words c form h = two_ok (fd_of (word_at words 0)) (fd_of (word_at words 1)) command.Disclose IsGood c h (λ a b ea eb. (fd_range (word_at words 0) a ea, fd_range (word_at words 1) b eb))
-command_is call.TagObj words c form h = three_ok (fd_of (word_at words 0)) (name_of (word_at words 1)) (name_of (word_at words 2)) command.Tag IsGood c h (λ a b d ea eb ed. (fd_range (word_at words 0) a ea, name_is (word_at words 1) b eb, name_is (word_at words 2) d ed))
-command_is call.Sync words c form h = one_ok (fd_of (word_at words 0)) command.Sync IsGood c h (λ a ea. fd_range (word_at words 0) a ea)
+module _ (scale : Scale) where
+  pub command_is : (call : CallName) (words : List (List ℕ)) (c : Command) → have_these (forms_of call) words ≡ true → command_of scale call words ≡ Ok c → IsGood scale c
+  unfolding creat_of open_of close_of read_of write_of seek_of truncate_of pipe_of fork_of exec_of wait_of await_of rename_of unlink_of mkobj_of revive_of freeze_of disclose_of tag_of sync_of
+  command_is call.Start words c form h = absurd (cc)
+  command_is call.Creat words c form h = two_ok (fd_of (word_at words 0)) (name_of (word_at words 1)) command.Creat (IsGood scale) c h (λ a b ea eb. (fd_range (word_at words 0) a ea, name_is (word_at words 1) b eb))
+  command_is call.OpenName words c form h = two_ok (fd_of (word_at words 0)) (name_of (word_at words 1)) (λ a b. command.Open a b (mode_of (word_at words 2))) (IsGood scale) c h (λ a b ea eb. (fd_range (word_at words 0) a ea, name_is (word_at words 1) b eb, mode_is (word_at words 2)))
+  command_is call.CloseFd words c form h = one_ok (fd_of (word_at words 0)) command.Close (IsGood scale) c h (λ a ea. fd_range (word_at words 0) a ea)
+  command_is call.Read words c form h = two_ok (fd_of (word_at words 0)) (number_in 1 4096 (word_at words 1)) command.Read (IsGood scale) c h (λ a b ea eb. (fd_range (word_at words 0) a ea, (number_in_range 1 4096 (word_at words 1) b eb).0, (number_in_range 1 4096 (word_at words 1) b eb).1))
+  command_is call.Write words c form h = two_ok (fd_of (word_at words 0)) (payload_of (word_at words 1)) command.Write (IsGood scale) c h (λ a b ea eb. (fd_range (word_at words 0) a ea, payload_is (word_at words 1) b (payload_form words form) eb))
+  command_is call.Seek words c form h = two_ok (fd_of (word_at words 0)) (number_in 0 4294967295 (word_at words 1)) command.Seek (IsGood scale) c h (λ a b ea eb. (fd_range (word_at words 0) a ea, (number_in_range 0 4294967295 (word_at words 1) b eb).1))
+  command_is call.Truncate words c form h = two_ok (fd_of (word_at words 0)) (number_in 0 4294967295 (word_at words 1)) command.Truncate (IsGood scale) c h (λ a b ea eb. (fd_range (word_at words 0) a ea, (number_in_range 0 4294967295 (word_at words 1) b eb).1))
+  command_is call.MakePipe words c form h = two_ok (fd_of (word_at words 0)) (fd_of (word_at words 1)) command.Pipe (IsGood scale) c h (λ a b ea eb. (fd_range (word_at words 0) a ea, fd_range (word_at words 1) b eb))
+  command_is call.Fork words c form h = one_ok (process_of scale (word_at words 0)) command.Fork (IsGood scale) c h (λ a ea. ((number_in_range 1 (last_process scale) (word_at words 0) a ea).0, (number_in_range 1 (last_process scale) (word_at words 0) a ea).1))
+  command_is call.Exec words c form h = two_ok (name_of (word_at words 0)) (args_of (drop 1 words)) command.Exec (IsGood scale) c h (λ a b ea eb. (name_is (word_at words 0) a ea, args_is (drop 1 words) b (args_form words form) eb))
+  command_is call.WaitChild words c form h = one_ok (process_of scale (word_at words 0)) command.Wait (IsGood scale) c h (λ a ea. ((number_in_range 1 (last_process scale) (word_at words 0) a ea).0, (number_in_range 1 (last_process scale) (word_at words 0) a ea).1))
+  command_is call.Await words c form h = one_ok (process_of scale (word_at words 0)) command.Await (IsGood scale) c h (λ a ea. ((number_in_range 1 (last_process scale) (word_at words 0) a ea).0, (number_in_range 1 (last_process scale) (word_at words 0) a ea).1))
+  command_is call.Exit words c form h = absurd (cc)
+  command_is call.Rename words c form h = two_ok (name_of (word_at words 0)) (name_of (word_at words 1)) command.Rename (IsGood scale) c h (λ a b ea eb. (name_is (word_at words 0) a ea, name_is (word_at words 1) b eb))
+  command_is call.Unlink words c form h = one_ok (name_of (word_at words 0)) command.Unlink (IsGood scale) c h (λ a ea. name_is (word_at words 0) a ea)
+  command_is call.MakeObj words c form h = one_ok (fd_of (word_at words 0)) command.MkObj (IsGood scale) c h (λ a ea. fd_range (word_at words 0) a ea)
+  command_is call.Revive words c form h = two_ok (fd_of (word_at words 0)) (number_in 1 (2 ^ 48 - 1) (word_at words 1)) command.Revive (IsGood scale) c h (λ a b ea eb. (fd_range (word_at words 0) a ea, (number_in_range 1 (2 ^ 48 - 1) (word_at words 1) b eb).0, (number_in_range 1 (2 ^ 48 - 1) (word_at words 1) b eb).1))
+  command_is call.FreezeObj words c form h = one_ok (fd_of (word_at words 0)) command.Freeze (IsGood scale) c h (λ a ea. fd_range (word_at words 0) a ea)
+  command_is call.Disclose words c form h = two_ok (fd_of (word_at words 0)) (fd_of (word_at words 1)) command.Disclose (IsGood scale) c h (λ a b ea eb. (fd_range (word_at words 0) a ea, fd_range (word_at words 1) b eb))
+  command_is call.TagObj words c form h = three_ok (fd_of (word_at words 0)) (name_of (word_at words 1)) (name_of (word_at words 2)) command.Tag (IsGood scale) c h (λ a b d ea eb ed. (fd_range (word_at words 0) a ea, name_is (word_at words 1) b eb, name_is (word_at words 2) d ed))
+  command_is call.Sync words c form h = one_ok (fd_of (word_at words 0)) command.Sync (IsGood scale) c h (λ a ea. fd_range (word_at words 0) a ea)
 
--- a line of a trace that words say
-row_is : (number : ℕ) (process : List ℕ) (call : Option CallName) (words : List (List ℕ)) (line : TraceLine) → row_of number process call words ≡ Ok line → IsGoodLine line
-unfolding call_line_of
-row_is number process None words line h = cc
-row_is number process (Some call) words line h =
-    elim (has_row process call words) as (λ b. has_row process call words ≡ b → cond b (call_line_of number process call words) (Err reason.Form) ≡ Ok line → IsGoodLine line) [
-      | true ↦ λ form e.
-          let forms = (and_parts (is_number process) (have_these (forms_of call) words) form).1 in
-          let p = bind_ok (process_of process) (λ p. command_of call words >>= λ c. Ok (record { number = number; process = p; command = c })) line e in
-          let c = bind_ok (command_of call words) (λ c. Ok (record { number = number; process = p.0; command = c })) line p.2 in
-          let range = number_in_range 1 8192 process p.0 p.1 in
-          let good : IsGoodLine (record { number = number; process = p.0; command = c.0 }) = record { from = range.0; to = range.1; command = command_is call words c.0 forms c.1 } in
-          let same : record { number = number; process = p.0; command = c.0 } ≡ line = cc in
-          subst IsGoodLine same good
-      | false ↦ λ form e. cc
-    ] refl h
+  -- a line of a trace that words say
+  row_is : (number : ℕ) (process : List ℕ) (call : Option CallName) (words : List (List ℕ)) (line : TraceLine) → row_of scale number process call words ≡ Ok line → IsGoodLine scale line
+  unfolding call_line_of
+  row_is number process None words line h = cc
+  row_is number process (Some call) words line h =
+      elim (has_row process call words) as (λ b. has_row process call words ≡ b → cond b (call_line_of scale number process call words) (Err reason.Form) ≡ Ok line → IsGoodLine scale line) [
+        | true ↦ λ form e.
+            let forms = (and_parts (is_number process) (have_these (forms_of call) words) form).1 in
+            let p = bind_ok (process_of scale process) (λ p. command_of scale call words >>= λ c. Ok (record { number = number; process = p; command = c })) line e in
+            let c = bind_ok (command_of scale call words) (λ c. Ok (record { number = number; process = p.0; command = c })) line p.2 in
+            let range = number_in_range 1 (last_process scale) process p.0 p.1 in
+            let good : IsGoodLine scale (record { number = number; process = p.0; command = c.0 }) = record { from = range.0; to = range.1; command = command_is call words c.0 forms c.1 } in
+            let same : record { number = number; process = p.0; command = c.0 } ≡ line = cc in
+            subst (IsGoodLine scale) same good
+        | false ↦ λ form e. cc
+      ] refl h
 
-pub line_is : (number : ℕ) (words : List (List ℕ)) (line : TraceLine) → line_of number words ≡ Ok line → IsGoodLine line
-unfolding line_of
-line_is number [] line h = cc
-line_is number (process ∷ []) line h = cc
-line_is number (process ∷ call ∷ words) line h = row_is number process (call_of call) words line h
+  pub line_is : (number : ℕ) (words : List (List ℕ)) (line : TraceLine) → line_of scale number words ≡ Ok line → IsGoodLine scale line
+  unfolding line_of
+  line_is number [] line h = cc
+  line_is number (process ∷ []) line h = cc
+  line_is number (process ∷ call ∷ words) line h = row_is number process (call_of call) words line h
 
-text_line_cases : (a b c : Bool) (read : Result TraceLine TraceReason) (line : TraceLine) → cond a (Err reason.Many) (cond b (Err reason.Length) (cond c (Ok None) (read >>= λ l. Ok (Some l)))) ≡ Ok (Some line) → read ≡ Ok line
-text_line_cases true b c read line h = cc
-text_line_cases false true c read line h = cc
-text_line_cases false false true read line h = cc
-text_line_cases false false false (Ok l) line h = cc
-text_line_cases false false false (Err r) line h = cc
+  text_line_cases : (a b c : Bool) (read : Result TraceLine TraceReason) (line : TraceLine) → cond a (Err reason.Many) (cond b (Err reason.Length) (cond c (Ok None) (read >>= λ l. Ok (Some l)))) ≡ Ok (Some line) → read ≡ Ok line
+  text_line_cases true b c read line h = cc
+  text_line_cases false true c read line h = cc
+  text_line_cases false false true read line h = cc
+  text_line_cases false false false (Ok l) line h = cc
+  text_line_cases false false false (Err r) line h = cc
 
-pub text_line_is : (number : ℕ) (text : List ℕ) (line : TraceLine) → text_line_of number text ≡ Ok (Some line) → IsGoodLine line
-unfolding text_line_of
-text_line_is number text line h = line_is number (words_of text) line (text_line_cases _ _ _ (line_of number (words_of text)) line h)
+  pub text_line_is : (number : ℕ) (text : List ℕ) (line : TraceLine) → text_line_of scale number text ≡ Ok (Some line) → IsGoodLine scale line
+  unfolding text_line_of
+  text_line_is number text line h = line_is number (words_of text) line (text_line_cases _ _ _ (line_of scale number (words_of text)) line h)

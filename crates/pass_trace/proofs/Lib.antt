@@ -6,4 +6,5 @@ pub mod LinesLemmas
 pub mod Spelled
 pub mod Table
 pub mod TooLong
+pub mod Wider
 pub mod Written

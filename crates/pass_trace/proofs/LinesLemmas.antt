@@ -9,6 +9,7 @@ use Rattle.pass_trace.specs.declared.trace.TraceFault.TheVariants as trace
 use Rattle.pass_trace.specs.declared.fields.LineFault.{LineFault}
 use Rattle.pass_trace.specs.declared.fields.LineFault.TheVariants.{Bad, NoMemory}
 use Rattle.pass_trace.specs.Gives.{IsReason, fault_at_line}
+use Rattle.pass_trace.specs.declared.limits.Scale.{Scale}
 use Rattle.pass_trace.specs.Lines.{lines_of}
 use Rattle.pass_trace.specs.Traces.{text_line_of, said, lines_from, reason_behind, fault_at, IsFirstFault}
 
@@ -78,39 +79,40 @@ Stands-from_drop xs i x rest d e =
       front = take_more xs i d there ∙ ap (λ y. take i xs ++ y ∷ []) here;
     }
 
-pub lines_from-push : (number : ℕ) (texts : List (List ℕ)) (text : List ℕ) → lines_from number (texts ++ text ∷ []) ≡ lines_from number texts ++ said (text_line_of (number + length texts) text)
-lines_from-push number [] text =
-    let e : number ≡ number + 0 = omega arith in
-    append-nil (said (text_line_of number text)) ∙ ap (λ n. said (text_line_of n text)) e
-lines_from-push number (t ∷ texts) text =
-    let e : (number + 1) + length texts ≡ number + suc (length texts) = omega arith in
-    ap (λ ls. said (text_line_of number t) ++ ls) (lines_from-push (number + 1) texts text ∙ ap (λ n. lines_from (number + 1) texts ++ said (text_line_of n text)) e)
-    ∙ sym (append_assoc (said (text_line_of number t)) (lines_from (number + 1) texts) (said (text_line_of (number + suc (length texts)) text)))
+module _ (scale : Scale) where
+  pub lines_from-push : (number : ℕ) (texts : List (List ℕ)) (text : List ℕ) → lines_from scale number (texts ++ text ∷ []) ≡ lines_from scale number texts ++ said (text_line_of scale (number + length texts) text)
+  lines_from-push number [] text =
+      let e : number ≡ number + 0 = omega arith in
+      append-nil (said (text_line_of scale number text)) ∙ ap (λ n. said (text_line_of scale n text)) e
+  lines_from-push number (t ∷ texts) text =
+      let e : (number + 1) + length texts ≡ number + suc (length texts) = omega arith in
+      ap (λ ls. said (text_line_of scale number t) ++ ls) (lines_from-push (number + 1) texts text ∙ ap (λ n. lines_from scale (number + 1) texts ++ said (text_line_of scale n text)) e)
+      ∙ sym (append_assoc (said (text_line_of scale number t)) (lines_from scale (number + 1) texts) (said (text_line_of scale (number + suc (length texts)) text)))
 
--- the trace of one more line of the text
-pub lines_from-take : (texts : List (List ℕ)) (i : ℕ) (text : List ℕ) (rest : List (List ℕ)) → Stands texts i text rest [] → lines_from 1 (take (i + 1) texts) ≡ lines_from 1 (take i texts) ++ said (text_line_of (i + 1) text)
-lines_from-take texts i text rest at =
-    let size = length-take-le i texts (omega (arith, at.there)) in
-    let e : 1 + length (take i texts) ≡ i + 1 = omega (arith, size) in
-    ap (lines_from 1) at.front ∙ lines_from-push 1 (take i texts) text ∙ ap (λ n. lines_from 1 (take i texts) ++ said (text_line_of n text)) e
+  -- the trace of one more line of the text
+  pub lines_from-take : (texts : List (List ℕ)) (i : ℕ) (text : List ℕ) (rest : List (List ℕ)) → Stands texts i text rest [] → lines_from scale 1 (take (i + 1) texts) ≡ lines_from scale 1 (take i texts) ++ said (text_line_of scale (i + 1) text)
+  lines_from-take texts i text rest at =
+      let size = length-take-le i texts (omega (arith, at.there)) in
+      let e : 1 + length (take i texts) ≡ i + 1 = omega (arith, size) in
+      ap (lines_from scale 1) at.front ∙ lines_from-push 1 (take i texts) text ∙ ap (λ n. lines_from scale 1 (take i texts) ++ said (text_line_of scale n text)) e
 
--- what the reader finds at a line is what the text has there
-pub fault_at-read : (texts : List (List ℕ)) (i : ℕ) (text : List ℕ) (rest : List (List ℕ)) (earlier : List TraceLine) (found : Option TraceReason) → Stands texts i text rest [] → earlier ≡ lines_from 1 (take i texts) → reason_behind earlier (text_line_of (i + 1) text) ≡ found → fault_at texts i ≡ found
-fault_at-read texts i text rest earlier found at lines e =
-    ap (λ t. reason_behind (lines_from 1 (take i texts)) (text_line_of (i + 1) t)) at.here ∙ ap (λ ls. reason_behind ls (text_line_of (i + 1) text)) (sym lines) ∙ e
+  -- what the reader finds at a line is what the text has there
+  pub fault_at-read : (texts : List (List ℕ)) (i : ℕ) (text : List ℕ) (rest : List (List ℕ)) (earlier : List TraceLine) (found : Option TraceReason) → Stands texts i text rest [] → earlier ≡ lines_from scale 1 (take i texts) → reason_behind scale earlier (text_line_of scale (i + 1) text) ≡ found → fault_at scale texts i ≡ found
+  fault_at-read texts i text rest earlier found at lines e =
+      ap (λ t. reason_behind scale (lines_from scale 1 (take i texts)) (text_line_of scale (i + 1) t)) at.here ∙ ap (λ ls. reason_behind scale ls (text_line_of scale (i + 1) text)) (sym lines) ∙ e
 
--- the reader's fault at a line behind lines with none is the first fault of the text
-pub IsFirstFault-read : (bytes : List ℕ) (i : ℕ) (text : List ℕ) (rest : List (List ℕ)) (earlier : List TraceLine) (fault : LineFault) → Stands (lines_of bytes) i text rest [] → earlier ≡ lines_from 1 (take i (lines_of bytes)) → ((k : ℕ) → k < i → fault_at (lines_of bytes) k ≡ None) → IsReason fault (reason_behind earlier (text_line_of (i + 1) text)) → (line : ℕ) (reason : TraceReason) → fault_at_line (i + 1) fault ≡ trace.BadTrace line reason → IsFirstFault bytes line reason
-IsFirstFault-read bytes i text rest earlier NoMemory at lines sound found line reason e = cc
-IsFirstFault-read bytes i text rest earlier (Bad r) at lines sound found line reason e =
-    let place : i + 1 ≡ line = cc in
-    let same : r ≡ reason = cc in
-    let before : (i + 1) - 1 ≡ i = omega arith in
-    let here = fault_at-read (lines_of bytes) i text rest earlier (Some r) at lines found in
-    let first : IsFirstFault bytes (i + 1) r = record {
-      number = omega arith;
-      there = omega (arith, at.there);
-      fault = ap (fault_at (lines_of bytes)) before ∙ here;
-      first = λ k h. sound k (omega (arith, h));
-    } in
-    subst (λ x. IsFirstFault bytes line x) same (subst (λ n. IsFirstFault bytes n r) place first)
+  -- the reader's fault at a line behind lines with none is the first fault of the text
+  pub IsFirstFault-read : (bytes : List ℕ) (i : ℕ) (text : List ℕ) (rest : List (List ℕ)) (earlier : List TraceLine) (fault : LineFault) → Stands (lines_of bytes) i text rest [] → earlier ≡ lines_from scale 1 (take i (lines_of bytes)) → ((k : ℕ) → k < i → fault_at scale (lines_of bytes) k ≡ None) → IsReason fault (reason_behind scale earlier (text_line_of scale (i + 1) text)) → (line : ℕ) (reason : TraceReason) → fault_at_line (i + 1) fault ≡ trace.BadTrace line reason → IsFirstFault scale bytes line reason
+  IsFirstFault-read bytes i text rest earlier NoMemory at lines sound found line reason e = cc
+  IsFirstFault-read bytes i text rest earlier (Bad r) at lines sound found line reason e =
+      let place : i + 1 ≡ line = cc in
+      let same : r ≡ reason = cc in
+      let before : (i + 1) - 1 ≡ i = omega arith in
+      let here = fault_at-read (lines_of bytes) i text rest earlier (Some r) at lines found in
+      let first : IsFirstFault scale bytes (i + 1) r = record {
+        number = omega arith;
+        there = omega (arith, at.there);
+        fault = ap (fault_at scale (lines_of bytes)) before ∙ here;
+        first = λ k h. sound k (omega (arith, h));
+      } in
+      subst (λ x. IsFirstFault scale bytes line x) same (subst (λ n. IsFirstFault scale bytes n r) place first)

@@ -8,10 +8,13 @@ use Rattle.pass_trace.specs.declared.trace.Command.{Command}
 use Rattle.pass_trace.specs.declared.trace.Command.TheVariants.{Fork}
 use Rattle.pass_trace.specs.declared.trace.TraceLine.{TraceLine}
 use Rattle.pass_trace.specs.declared.trace.TraceReason.TheVariants as reason
+use Rattle.pass_trace.specs.declared.limits.Scale.{Scale}
+use Rattle.pass_trace.specs.declared.limits.Scale.TheVariants.{Usual, Long}
+use Rattle.pass_trace.specs.Limits.{most_created}
 use Rattle.pass_trace.specs.Rules.{forks, forks_as, is_there, creates, count_created, rule_of}
 use Rattle.pass_trace.specs.Tables.{IsTable}
 
-pub IsTable-none : (parents : List ℕ) → length parents ≡ 8193 → ((k : ℕ) → get_or parents k 0 ≡ 0) → IsTable [] parents 0
+pub IsTable-none : (parents : List ℕ) → length parents ≡ 65537 → ((k : ℕ) → get_or parents k 0 ≡ 0) → IsTable [] parents 0
 IsTable-none parents size zero = record {
   size = size;
   count = refl;
@@ -33,6 +36,11 @@ rule_fits true true true false h = (refl, refl, refl)
 rule_fits true true false d h = (refl, refl, refl)
 rule_fits true false c d h = cc
 rule_fits false b c d h = cc
+
+-- a trace of any scale makes no more objects than one of the long scale
+created_low : (scale : Scale) → most_created scale ≤ 65535
+created_low Usual = omega arith
+created_low Long = omega arith
 
 count_created-push : (lines : List TraceLine) (line : TraceLine) → count_created (lines ++ line ∷ []) ≡ count_created lines + cond (creates line.command) 1 0
 count_created-push lines line =
@@ -63,7 +71,7 @@ Forked lines parents child = ltb 0 (get_or parents child 0) ≡ list_any (forks 
 abbrev ByParent : List TraceLine → List ℕ → ℕ → ℕ → Type 0
 ByParent lines parents parent child = eqb (get_or parents child 0) parent ≡ list_any (forks_as parent child) lines
 
-forked_same : (lines : List TraceLine) (parents : List ℕ) (number process child q : ℕ) → length parents ≡ 8193 → child < 8193 → 1 ≤ process → q ≡ child → Forked (lines ++ fork_line number process child ∷ []) (set parents child process) q
+forked_same : (lines : List TraceLine) (parents : List ℕ) (number process child q : ℕ) → length parents ≡ 65537 → child < 65537 → 1 ≤ process → q ≡ child → Forked (lines ++ fork_line number process child ∷ []) (set parents child process) q
 forked_same lines parents number process child q size small some same =
     let at = get_or-set_same parents child process 0 (omega arith) in
     let P : ℕ → Type 0 = λ k. Forked (lines ++ fork_line number process child ∷ []) (set parents child process) k in
@@ -73,7 +81,7 @@ forked_other : (lines : List TraceLine) (parents : List ℕ) (number process chi
 forked_other lines parents number process child q other had =
     ap (λ v. ltb 0 v) (get_or-set_other parents child q process 0 other) ∙ had ∙ sym (list_any-push_no (forks q) lines (fork_line number process child) (ne_eqb child q (λ e. other (sym e))))
 
-by_parent_same : (lines : List TraceLine) (parents : List ℕ) (number process child parent q : ℕ) → length parents ≡ 8193 → child < 8193 → list_any (forks child) lines ≡ false → q ≡ child → ByParent (lines ++ fork_line number process child ∷ []) (set parents child process) parent q
+by_parent_same : (lines : List TraceLine) (parents : List ℕ) (number process child parent q : ℕ) → length parents ≡ 65537 → child < 65537 → list_any (forks child) lines ≡ false → q ≡ child → ByParent (lines ++ fork_line number process child ∷ []) (set parents child process) parent q
 by_parent_same lines parents number process child parent q size small none same =
     let at = get_or-set_same parents child process 0 (omega arith) in
     let here = eq-eqb child child refl in
@@ -95,22 +103,23 @@ by_parent_other lines parents number process child parent q other had =
     ∙ had
     ∙ sym (list_any-push_no (forks_as parent q) lines (fork_line number process child) (and_right (eqb process parent) (eqb child q) elsewhere))
 
-table_at_fork : (lines : List TraceLine) (parents : List ℕ) (created number process child : ℕ) → IsTable lines parents created → 1 ≤ process → child ≤ 8192 → rule_of lines (fork_line number process child) ≡ None → IsTable (lines ++ fork_line number process child ∷ []) (set parents child process) (created + 1)
-table_at_fork lines parents created number process child t some small fits =
-    let parts = rule_fits (is_there lines process) (not (is_there lines child)) true (leb 8191 (count_created lines)) fits in
-    let none = (or_parts (eqb child 1) (list_any (forks child) lines) (not-true (is_there lines child) parts.1)).1 in
-    let room = leb-false 8191 (count_created lines) parts.2 in
-    let more = count_created-push lines (fork_line number process child) in
-    record {
-      size = length-set parents child process ∙ t.size;
-      count = omega (arith, more, t.count);
-      most = omega (arith, room, t.count);
-      forked = λ q h. ⊎_elim (λ same. forked_same lines parents number process child q t.size (omega arith) some same) (λ other. forked_other lines parents number process child q other (t.forked q h)) (cases_eq q child);
-      by_parent = λ parent q p h. ⊎_elim (λ same. by_parent_same lines parents number process child parent q t.size (omega arith) none same) (λ other. by_parent_other lines parents number process child parent q other (t.by_parent parent q p h)) (cases_eq q child);
-    }
+module _ (scale : Scale) where
+  table_at_fork : (lines : List TraceLine) (parents : List ℕ) (created number process child : ℕ) → IsTable lines parents created → 1 ≤ process → child ≤ 65536 → rule_of scale lines (fork_line number process child) ≡ None → IsTable (lines ++ fork_line number process child ∷ []) (set parents child process) (created + 1)
+  table_at_fork lines parents created number process child t some small fits =
+      let parts = rule_fits (is_there lines process) (not (is_there lines child)) true (leb (most_created scale) (count_created lines)) fits in
+      let none = (or_parts (eqb child 1) (list_any (forks child) lines) (not-true (is_there lines child) parts.1)).1 in
+      let room = leb-false (most_created scale) (count_created lines) parts.2 in
+      let more = count_created-push lines (fork_line number process child) in
+      record {
+        size = length-set parents child process ∙ t.size;
+        count = omega (arith, more, t.count);
+        most = omega (arith, room, t.count, created_low scale);
+        forked = λ q h. ⊎_elim (λ same. forked_same lines parents number process child q t.size (omega arith) some same) (λ other. forked_other lines parents number process child q other (t.forked q h)) (cases_eq q child);
+        by_parent = λ parent q p h. ⊎_elim (λ same. by_parent_same lines parents number process child parent q t.size (omega arith) none same) (λ other. by_parent_other lines parents number process child parent q other (t.by_parent parent q p h)) (cases_eq q child);
+      }
 
--- the table behind a line that forks child
-pub IsTable-fork : (lines : List TraceLine) (parents : List ℕ) (created child : ℕ) (line : TraceLine) → IsTable lines parents created → line.command ≡ Fork child → 1 ≤ line.process → child ≤ 8192 → rule_of lines line ≡ None → IsTable (lines ++ line ∷ []) (set parents child line.process) (created + 1)
-IsTable-fork lines parents created child line t is some small fits =
-    let P : Command → Type 0 = λ c. rule_of lines (record { number = line.number; process = line.process; command = c }) ≡ None → IsTable (lines ++ record { number = line.number; process = line.process; command = c } ∷ []) (set parents child line.process) (created + 1) in
-    subst P (sym is) (table_at_fork lines parents created line.number line.process child t some small) fits
+  -- the table behind a line that forks child
+  pub IsTable-fork : (lines : List TraceLine) (parents : List ℕ) (created child : ℕ) (line : TraceLine) → IsTable lines parents created → line.command ≡ Fork child → 1 ≤ line.process → child ≤ 65536 → rule_of scale lines line ≡ None → IsTable (lines ++ line ∷ []) (set parents child line.process) (created + 1)
+  IsTable-fork lines parents created child line t is some small fits =
+      let P : Command → Type 0 = λ c. rule_of scale lines (record { number = line.number; process = line.process; command = c }) ≡ None → IsTable (lines ++ record { number = line.number; process = line.process; command = c } ∷ []) (set parents child line.process) (created + 1) in
+      subst P (sym is) (table_at_fork lines parents created line.number line.process child t some small) fits

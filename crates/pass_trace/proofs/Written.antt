@@ -27,6 +27,10 @@ use Rattle.pass_trace.specs.Words.{is_word, is_mode, is_hex, is_payload, have_th
 use Rattle.pass_trace.specs.Commands.{◌>>=◌, number_in, process_of, fd_of, name_of, mode_of, given, decoded, hex_of, payload_of, args_of, command_of, creat_of, open_of, close_of, read_of, write_of, seek_of, truncate_of, pipe_of, fork_of, exec_of, wait_of, await_of, rename_of, unlink_of, mkobj_of, revive_of, freeze_of, disclose_of, tag_of, sync_of}
 use Rattle.pass_trace.specs.Traces.{row_of, call_line_of, line_of, text_line_of}
 use Rattle.pass_trace.specs.Texts.{spaced, payload_word, mode_word, command_words, line_text}
+use Rattle.pass_trace.specs.declared.limits.Scale.{Scale}
+use Rattle.pass_trace.specs.declared.limits.Scale.TheVariants.{Long}
+use Rattle.pass_trace.specs.Limits.{last_process, most_lines}
+use Rattle.pass_trace.proofs.Good.{last_low, good_wide}
 use Rattle.pass_trace.specs.Ranges.{IsGood, IsGoodLine, IsPayload, IsMode, IsArgs}
 use Rattle.pass_trace.proofs.Spelled.{are_graphic, words_of-behind, words_of-spaced, join_with_byte-spaced, are_printable, are_graphic-decimal, is_number-decimal, number_in-decimal}
 
@@ -255,7 +259,7 @@ fd_of-decimal : (n : ℕ) → n ≤ 63 → fd_of (decimal n) ≡ Ok n
 fd_of-decimal n h = number_in-decimal 0 63 n (omega arith) (omega arith) h
 
 -- the words of what is written
-pub words_of-line : (process : List ℕ) (c : Command) → are_graphic process ≡ true → IsGood c → words_of (process ++ spaced (command_words c)) ≡ process ∷ call_word (call_named c) ∷ words_named c
+pub words_of-line : (process : List ℕ) (c : Command) → are_graphic process ≡ true → IsGood Long c → words_of (process ++ spaced (command_words c)) ≡ process ∷ call_word (call_named c) ∷ words_named c
 words_of-line process (command.Creat a b) p h = words_of-spaced process (command_words (command.Creat a b)) p (and_from _ _ (are_graphic-decimal a (omega (arith, h.0))) (and_from _ _ (graphic_name b h.1) refl))
 words_of-line process (command.Open a b d) p h = words_of-spaced process (command_words (command.Open a b d)) p (and_from _ _ (are_graphic-decimal a (omega (arith, h.0))) (and_from _ _ (graphic_name b h.1) (and_from _ _ (graphic_mode d) refl)))
 words_of-line process (command.Close a) p h = words_of-spaced process (command_words (command.Close a)) p (and_from _ _ (are_graphic-decimal a (omega (arith, h))) refl)
@@ -284,7 +288,7 @@ words_of-line process (command.Disclose a b) p h = words_of-spaced process (comm
 words_of-line process (command.Tag a b d) p h = words_of-spaced process (command_words (command.Tag a b d)) p (and_from _ _ (are_graphic-decimal a (omega (arith, h.0))) (and_from _ _ (graphic_name b h.1) (and_from _ _ (graphic_name d h.2) refl)))
 words_of-line process (command.Sync a) p h = words_of-spaced process (command_words (command.Sync a)) p (and_from _ _ (are_graphic-decimal a (omega (arith, h))) refl)
 
-pub have_forms-named : (c : Command) → IsGood c → have_these (forms_of (call_named c)) (words_named c) ≡ true
+pub have_forms-named : (c : Command) → IsGood Long c → have_these (forms_of (call_named c)) (words_named c) ≡ true
 have_forms-named (command.Creat a b) h = (and_from _ _ (is_number-decimal a (omega (arith, h.0))) (and_from _ _ (is_word-name b h.1) refl))
 have_forms-named (command.Open a b d) h = (and_from _ _ (is_number-decimal a (omega (arith, h.0))) (and_from _ _ (is_word-name b h.1) (and_from _ _ (is_mode-word d h.2) refl)))
 have_forms-named (command.Close a) h = (and_from _ _ (is_number-decimal a (omega (arith, h))) refl)
@@ -307,32 +311,33 @@ have_forms-named (command.Disclose a b) h = (and_from _ _ (is_number-decimal a (
 have_forms-named (command.Tag a b d) h = (and_from _ _ (is_number-decimal a (omega (arith, h.0))) (and_from _ _ (is_word-name b h.1) (and_from _ _ (is_word-name d h.2) refl)))
 have_forms-named (command.Sync a) h = (and_from _ _ (is_number-decimal a (omega (arith, h))) refl)
 
-pub command_of-named : (c : Command) → IsGood c → command_of (call_named c) (words_named c) ≡ Ok c
-unfolding creat_of open_of close_of read_of write_of seek_of truncate_of pipe_of fork_of exec_of wait_of await_of rename_of unlink_of mkobj_of revive_of freeze_of disclose_of tag_of sync_of
-command_of-named (command.Creat a b) h = two_reads (fd_of (decimal a)) (name_of b) command.Creat a b (fd_of-decimal a h.0) (name_of-name b h.1)
-command_of-named (command.Open a b d) h =
-    two_reads (fd_of (decimal a)) (name_of b) (λ x y. command.Open x y (mode_of (mode_word d))) a b (fd_of-decimal a h.0) (name_of-name b h.1) ∙ ap (λ m. Ok (command.Open a b m)) (mode_of-word d h.2)
-command_of-named (command.Close a) h = one_reads (fd_of (decimal a)) command.Close a (fd_of-decimal a h)
-command_of-named (command.Read a b) h = two_reads (fd_of (decimal a)) (number_in 1 4096 (decimal b)) command.Read a b (fd_of-decimal a h.0) (number_in-decimal 1 4096 b (omega (arith, h.2)) h.1 h.2)
-command_of-named (command.Write a b) h = two_reads (fd_of (decimal a)) (payload_of (payload_word b)) command.Write a b (fd_of-decimal a h.0) (payload_of-word b h.1)
-command_of-named (command.Seek a b) h = two_reads (fd_of (decimal a)) (number_in 0 4294967295 (decimal b)) command.Seek a b (fd_of-decimal a h.0) (number_in-decimal 0 4294967295 b (omega (arith, h.1)) (omega arith) h.1)
-command_of-named (command.Truncate a b) h = two_reads (fd_of (decimal a)) (number_in 0 4294967295 (decimal b)) command.Truncate a b (fd_of-decimal a h.0) (number_in-decimal 0 4294967295 b (omega (arith, h.1)) (omega arith) h.1)
-command_of-named (command.Pipe a b) h = two_reads (fd_of (decimal a)) (fd_of (decimal b)) command.Pipe a b (fd_of-decimal a h.0) (fd_of-decimal b h.1)
-command_of-named (command.Fork a) h = one_reads (process_of (decimal a)) command.Fork a (number_in-decimal 1 8192 a (omega (arith, h.1)) h.0 h.1)
-command_of-named (command.Exec a []) h = two_reads (name_of a) (args_of []) command.Exec a [] (name_of-name a h.0) args_of-none
-command_of-named (command.Exec a (b ∷ bs)) h = two_reads (name_of a) (args_of (words_of (b ∷ bs))) command.Exec a (b ∷ bs) (name_of-name a h.0) (args_of-words (b ∷ bs) h.1.line)
-command_of-named (command.Wait a) h = one_reads (process_of (decimal a)) command.Wait a (number_in-decimal 1 8192 a (omega (arith, h.1)) h.0 h.1)
-command_of-named (command.Await a) h = one_reads (process_of (decimal a)) command.Await a (number_in-decimal 1 8192 a (omega (arith, h.1)) h.0 h.1)
-command_of-named (command.Rename a b) h = two_reads (name_of a) (name_of b) command.Rename a b (name_of-name a h.0) (name_of-name b h.1)
-command_of-named (command.Unlink a) h = one_reads (name_of a) command.Unlink a (name_of-name a h)
-command_of-named (command.MkObj a) h = one_reads (fd_of (decimal a)) command.MkObj a (fd_of-decimal a h)
-command_of-named (command.Revive a b) h = two_reads (fd_of (decimal a)) (number_in 1 (2 ^ 48 - 1) (decimal b)) command.Revive a b (fd_of-decimal a h.0) (number_in-decimal 1 (2 ^ 48 - 1) b (omega (arith, h.2)) h.1 h.2)
-command_of-named (command.Freeze a) h = one_reads (fd_of (decimal a)) command.Freeze a (fd_of-decimal a h)
-command_of-named (command.Disclose a b) h = two_reads (fd_of (decimal a)) (fd_of (decimal b)) command.Disclose a b (fd_of-decimal a h.0) (fd_of-decimal b h.1)
-command_of-named (command.Tag a b d) h = three_reads (fd_of (decimal a)) (name_of b) (name_of d) command.Tag a b d (fd_of-decimal a h.0) (name_of-name b h.1) (name_of-name d h.2)
-command_of-named (command.Sync a) h = one_reads (fd_of (decimal a)) command.Sync a (fd_of-decimal a h)
+module _ (scale : Scale) where
+  pub command_of-named : (c : Command) → IsGood scale c → command_of scale (call_named c) (words_named c) ≡ Ok c
+  unfolding creat_of open_of close_of read_of write_of seek_of truncate_of pipe_of fork_of exec_of wait_of await_of rename_of unlink_of mkobj_of revive_of freeze_of disclose_of tag_of sync_of
+  command_of-named (command.Creat a b) h = two_reads (fd_of (decimal a)) (name_of b) command.Creat a b (fd_of-decimal a h.0) (name_of-name b h.1)
+  command_of-named (command.Open a b d) h =
+      two_reads (fd_of (decimal a)) (name_of b) (λ x y. command.Open x y (mode_of (mode_word d))) a b (fd_of-decimal a h.0) (name_of-name b h.1) ∙ ap (λ m. Ok (command.Open a b m)) (mode_of-word d h.2)
+  command_of-named (command.Close a) h = one_reads (fd_of (decimal a)) command.Close a (fd_of-decimal a h)
+  command_of-named (command.Read a b) h = two_reads (fd_of (decimal a)) (number_in 1 4096 (decimal b)) command.Read a b (fd_of-decimal a h.0) (number_in-decimal 1 4096 b (omega (arith, h.2)) h.1 h.2)
+  command_of-named (command.Write a b) h = two_reads (fd_of (decimal a)) (payload_of (payload_word b)) command.Write a b (fd_of-decimal a h.0) (payload_of-word b h.1)
+  command_of-named (command.Seek a b) h = two_reads (fd_of (decimal a)) (number_in 0 4294967295 (decimal b)) command.Seek a b (fd_of-decimal a h.0) (number_in-decimal 0 4294967295 b (omega (arith, h.1)) (omega arith) h.1)
+  command_of-named (command.Truncate a b) h = two_reads (fd_of (decimal a)) (number_in 0 4294967295 (decimal b)) command.Truncate a b (fd_of-decimal a h.0) (number_in-decimal 0 4294967295 b (omega (arith, h.1)) (omega arith) h.1)
+  command_of-named (command.Pipe a b) h = two_reads (fd_of (decimal a)) (fd_of (decimal b)) command.Pipe a b (fd_of-decimal a h.0) (fd_of-decimal b h.1)
+  command_of-named (command.Fork a) h = one_reads (process_of scale (decimal a)) command.Fork a (number_in-decimal 1 (last_process scale) a (omega (arith, h.1, last_low scale)) h.0 h.1)
+  command_of-named (command.Exec a []) h = two_reads (name_of a) (args_of []) command.Exec a [] (name_of-name a h.0) args_of-none
+  command_of-named (command.Exec a (b ∷ bs)) h = two_reads (name_of a) (args_of (words_of (b ∷ bs))) command.Exec a (b ∷ bs) (name_of-name a h.0) (args_of-words (b ∷ bs) h.1.line)
+  command_of-named (command.Wait a) h = one_reads (process_of scale (decimal a)) command.Wait a (number_in-decimal 1 (last_process scale) a (omega (arith, h.1, last_low scale)) h.0 h.1)
+  command_of-named (command.Await a) h = one_reads (process_of scale (decimal a)) command.Await a (number_in-decimal 1 (last_process scale) a (omega (arith, h.1, last_low scale)) h.0 h.1)
+  command_of-named (command.Rename a b) h = two_reads (name_of a) (name_of b) command.Rename a b (name_of-name a h.0) (name_of-name b h.1)
+  command_of-named (command.Unlink a) h = one_reads (name_of a) command.Unlink a (name_of-name a h)
+  command_of-named (command.MkObj a) h = one_reads (fd_of (decimal a)) command.MkObj a (fd_of-decimal a h)
+  command_of-named (command.Revive a b) h = two_reads (fd_of (decimal a)) (number_in 1 (2 ^ 48 - 1) (decimal b)) command.Revive a b (fd_of-decimal a h.0) (number_in-decimal 1 (2 ^ 48 - 1) b (omega (arith, h.2)) h.1 h.2)
+  command_of-named (command.Freeze a) h = one_reads (fd_of (decimal a)) command.Freeze a (fd_of-decimal a h)
+  command_of-named (command.Disclose a b) h = two_reads (fd_of (decimal a)) (fd_of (decimal b)) command.Disclose a b (fd_of-decimal a h.0) (fd_of-decimal b h.1)
+  command_of-named (command.Tag a b d) h = three_reads (fd_of (decimal a)) (name_of b) (name_of d) command.Tag a b d (fd_of-decimal a h.0) (name_of-name b h.1) (name_of-name d h.2)
+  command_of-named (command.Sync a) h = one_reads (fd_of (decimal a)) command.Sync a (fd_of-decimal a h)
 
-length-command : (c : Command) → IsGood c → length (spaced (command_words c)) ≤ 8300
+length-command : (c : Command) → IsGood Long c → length (spaced (command_words c)) ≤ 8300
 length-command (command.Creat a b) h = omega (arith, length-spaced (command_words (command.Creat a b)) (and_from _ _ (short_decimal a (omega (arith, h.0))) (and_from _ _ (short_name b h.1) refl)))
 length-command (command.Open a b d) h = omega (arith, length-spaced (command_words (command.Open a b d)) (and_from _ _ (short_decimal a (omega (arith, h.0))) (and_from _ _ (short_name b h.1) (and_from _ _ (short_mode d) refl))))
 length-command (command.Close a) h = omega (arith, length-spaced (command_words (command.Close a)) (and_from _ _ (short_decimal a (omega (arith, h))) refl))
@@ -362,51 +367,52 @@ length-command (command.Sync a) h = omega (arith, length-spaced (command_words (
 abbrev pub renumbered : ℕ → TraceLine → TraceLine
 renumbered number line = record { number = number; process = line.process; command = line.command }
 
-row_of-named : (number : ℕ) (line : TraceLine) → IsGoodLine line → row_of number (decimal line.process) (call_of (call_word (call_named line.command))) (words_named line.command) ≡ Ok (renumbered number line)
-unfolding call_line_of
-row_of-named number line h =
-    let call = call_named line.command in
-    let words = words_named line.command in
-    let process = number_in-decimal 1 8192 line.process (omega (arith, h.to)) h.from h.to in
-    let row = and_from _ _ (is_number-decimal line.process (omega (arith, h.to))) (have_forms-named line.command h.command) in
-    ap (λ o. row_of number (decimal line.process) o words) (call_of-call_word call)
-    ∙ ap (λ b. cond b (call_line_of number (decimal line.process) call words) (Err reason.Form)) row
-    ∙ ap (λ r. r >>= λ p. command_of call words >>= λ c. Ok (record { number = number; process = p; command = c })) process
-    ∙ ap (λ r. r >>= λ c. Ok (record { number = number; process = line.process; command = c })) (command_of-named line.command h.command)
+module _ (scale : Scale) where
+  row_of-named : (number : ℕ) (line : TraceLine) → IsGoodLine scale line → row_of scale number (decimal line.process) (call_of (call_word (call_named line.command))) (words_named line.command) ≡ Ok (renumbered number line)
+  unfolding call_line_of
+  row_of-named number line h =
+      let call = call_named line.command in
+      let words = words_named line.command in
+      let process = number_in-decimal 1 (last_process scale) line.process (omega (arith, h.to, last_low scale)) h.from h.to in
+      let row = and_from _ _ (is_number-decimal line.process (omega (arith, h.to, last_low scale))) (have_forms-named line.command (good_wide scale line.command h.command)) in
+      ap (λ o. row_of scale number (decimal line.process) o words) (call_of-call_word call)
+      ∙ ap (λ b. cond b (call_line_of scale number (decimal line.process) call words) (Err reason.Form)) row
+      ∙ ap (λ r. r >>= λ p. command_of scale call words >>= λ c. Ok (record { number = number; process = p; command = c })) process
+      ∙ ap (λ r. r >>= λ c. Ok (record { number = number; process = line.process; command = c })) (command_of-named scale line.command h.command)
 
-line_of-named : (number : ℕ) (line : TraceLine) → IsGoodLine line → line_of number (decimal line.process ∷ call_word (call_named line.command) ∷ words_named line.command) ≡ Ok (renumbered number line)
-unfolding line_of
-line_of-named number line h = row_of-named number line h
+  line_of-named : (number : ℕ) (line : TraceLine) → IsGoodLine scale line → line_of scale number (decimal line.process ∷ call_word (call_named line.command) ∷ words_named line.command) ≡ Ok (renumbered number line)
+  unfolding line_of
+  line_of-named number line h = row_of-named number line h
 
-pub line_of-text : (number : ℕ) (line : TraceLine) → IsGoodLine line → line_of number (words_of (line_text line)) ≡ Ok (renumbered number line)
-line_of-text number line h =
-    ap (line_of number) (words_of-line (decimal line.process) line.command (are_graphic-decimal line.process (omega (arith, h.to))) h.command) ∙ line_of-named number line h
+  pub line_of-text : (number : ℕ) (line : TraceLine) → IsGoodLine scale line → line_of scale number (words_of (line_text line)) ≡ Ok (renumbered number line)
+  line_of-text number line h =
+      ap (line_of scale number) (words_of-line (decimal line.process) line.command (are_graphic-decimal line.process (omega (arith, h.to, last_low scale))) (good_wide scale line.command h.command)) ∙ line_of-named number line h
 
-is_skipped-number : (front rest : List ℕ) → 0 < length front → 48 < get_or front 0 0 → is_skipped (front ++ rest) ≡ false
-is_skipped-number [] rest some digit = absurd (omega arith)
-is_skipped-number (d ∷ front) rest some digit = ne_eqb d 35 (λ e. omega (arith, e, digit))
+  is_skipped-number : (front rest : List ℕ) → 0 < length front → 48 < get_or front 0 0 → is_skipped (front ++ rest) ≡ false
+  is_skipped-number [] rest some digit = absurd (omega arith)
+  is_skipped-number (d ∷ front) rest some digit = ne_eqb d 35 (λ e. omega (arith, e, digit))
 
-text_line_steps : (a b c : Bool) (read : Result TraceLine TraceReason) (line : TraceLine) → a ≡ false → b ≡ false → c ≡ false → read ≡ Ok line → cond a (Err reason.Many) (cond b (Err reason.Length) (cond c (Ok None) (read >>= λ l. Ok (Some l)))) ≡ Ok (Some line)
-text_line_steps a b c read line ea eb ec er =
-    ap (λ a. cond a (Err reason.Many) (cond b (Err reason.Length) (cond c (Ok None) (read >>= λ l. Ok (Some l))))) ea
-    ∙ ap (λ b. cond b (Err reason.Length) (cond c (Ok None) (read >>= λ l. Ok (Some l)))) eb
-    ∙ ap (λ c. cond c (Ok None) (read >>= λ l. Ok (Some l))) ec
-    ∙ ap (λ r. r >>= λ l. Ok (Some l)) er
+  text_line_steps : (a b c : Bool) (read : Result TraceLine TraceReason) (line : TraceLine) → a ≡ false → b ≡ false → c ≡ false → read ≡ Ok line → cond a (Err reason.Many) (cond b (Err reason.Length) (cond c (Ok None) (read >>= λ l. Ok (Some l)))) ≡ Ok (Some line)
+  text_line_steps a b c read line ea eb ec er =
+      ap (λ a. cond a (Err reason.Many) (cond b (Err reason.Length) (cond c (Ok None) (read >>= λ l. Ok (Some l))))) ea
+      ∙ ap (λ b. cond b (Err reason.Length) (cond c (Ok None) (read >>= λ l. Ok (Some l)))) eb
+      ∙ ap (λ c. cond c (Ok None) (read >>= λ l. Ok (Some l))) ec
+      ∙ ap (λ r. r >>= λ l. Ok (Some l)) er
 
-pub text_line_of-text : (number : ℕ) (line : TraceLine) → number ≤ 100000 → IsGoodLine line → text_line_of number (line_text line) ≡ Ok (Some (renumbered number line))
-unfolding text_line_of
-text_line_of-text number line within h =
-    let small : line.process < 2 ^ 64 = omega (arith, h.to) in
-    let digits = length-decimal-le 15 line.process (lit< tt) (omega (arith, h.to)) small in
-    let size = length-append (decimal line.process) (spaced (command_words line.command)) in
-    let rest = length-command line.command h.command in
-    text_line_steps _ _ _ (line_of number (words_of (line_text line))) (renumbered number line)
-    (le-ltb 100000 number within)
-    (le-ltb 8400 (length (line_text line)) (omega (arith, digits, size, rest)))
-    (is_skipped-number (decimal line.process) (spaced (command_words line.command)) (decimal_nonempty line.process small) (first_decimal line.process h.from small))
-    (line_of-text number line h)
+  pub text_line_of-text : (number : ℕ) (line : TraceLine) → number ≤ most_lines scale → IsGoodLine scale line → text_line_of scale number (line_text line) ≡ Ok (Some (renumbered number line))
+  unfolding text_line_of
+  text_line_of-text number line within h =
+      let small : line.process < 2 ^ 64 = omega (arith, h.to, last_low scale) in
+      let digits = length-decimal-le 15 line.process (lit< tt) (omega (arith, h.to, last_low scale)) small in
+      let size = length-append (decimal line.process) (spaced (command_words line.command)) in
+      let rest = length-command line.command (good_wide scale line.command h.command) in
+      text_line_steps _ _ _ (line_of scale number (words_of (line_text line))) (renumbered number line)
+      (le-ltb (most_lines scale) number within)
+      (le-ltb 8400 (length (line_text line)) (omega (arith, digits, size, rest)))
+      (is_skipped-number (decimal line.process) (spaced (command_words line.command)) (decimal_nonempty line.process small) (first_decimal line.process h.from small))
+      (line_of-text number line h)
 
-graphic_named : (c : Command) → IsGood c → list_all are_graphic (words_named c) ≡ true
+graphic_named : (c : Command) → IsGood Long c → list_all are_graphic (words_named c) ≡ true
 graphic_named (command.Creat a b) h = (and_from _ _ (are_graphic-decimal a (omega (arith, h.0))) (and_from _ _ (graphic_name b h.1) refl))
 graphic_named (command.Open a b d) h = (and_from _ _ (are_graphic-decimal a (omega (arith, h.0))) (and_from _ _ (graphic_name b h.1) (and_from _ _ (graphic_mode d) refl)))
 graphic_named (command.Close a) h = (and_from _ _ (are_graphic-decimal a (omega (arith, h))) refl)
@@ -429,7 +435,7 @@ graphic_named (command.Disclose a b) h = (and_from _ _ (are_graphic-decimal a (o
 graphic_named (command.Tag a b d) h = (and_from _ _ (are_graphic-decimal a (omega (arith, h.0))) (and_from _ _ (graphic_name b h.1) (and_from _ _ (graphic_name d h.2) refl)))
 graphic_named (command.Sync a) h = (and_from _ _ (are_graphic-decimal a (omega (arith, h))) refl)
 
-pub is_printable-text : (line : TraceLine) → IsGoodLine line → list_all is_line_byte (line_text line) ≡ true
+pub is_printable-text : (line : TraceLine) → IsGoodLine Long line → list_all is_line_byte (line_text line) ≡ true
 is_printable-text line h =
     let graphic = are_graphic-decimal line.process (omega (arith, h.to)) in
     let words = words_of-line (decimal line.process) line.command graphic h.command in

@@ -15,6 +15,7 @@ use Rattle.pass_trace.specs.declared.trace.Payload.{Payload}
 use Rattle.pass_trace.specs.declared.trace.Payload.TheVariants.{Given, Last}
 use Rattle.pass_trace.specs.declared.trace.TraceReason.{TraceReason}
 use Rattle.pass_trace.specs.declared.trace.TraceReason.TheVariants as reason
+use Rattle.pass_trace.specs.declared.limits.Scale.{Scale}
 use Rattle.pass_trace.specs.Limits.{greatest_offset, last_process}
 use Rattle.pass_trace.specs.Words.{is_text, value_of}
 
@@ -33,8 +34,8 @@ unfoldable pub number_in : ℕ → ℕ → List ℕ → Result ℕ TraceReason
 number_in low high word = if nat_le low (value_of word) && nat_le (value_of word) high then Ok (value_of word) else Err reason.Number
 
 -- the number of a process of the trace
-abbrev pub process_of : List ℕ → Result ℕ TraceReason
-process_of word = number_in 1 last_process word
+abbrev pub process_of : Scale → List ℕ → Result ℕ TraceReason
+process_of scale word = number_in 1 (last_process scale) word
 
 -- the number of a descriptor, 0 to 63
 abbrev pub fd_of : List ℕ → Result ℕ TraceReason
@@ -139,9 +140,9 @@ pipe_of words = do
   Ok (command.Pipe reader writer)
 
 -- fork Q, a process of the trace
-unfoldable pub fork_of : List (List ℕ) → Result Command TraceReason
-fork_of words = do
-  child ← process_of (word_at words 0)
+unfoldable pub fork_of : Scale → List (List ℕ) → Result Command TraceReason
+fork_of scale words = do
+  child ← process_of scale (word_at words 0)
   Ok (command.Fork child)
 
 -- exec NAME and any number of words
@@ -152,15 +153,15 @@ exec_of words = do
   Ok (command.Exec name args)
 
 -- wait Q, a process of the trace
-unfoldable pub wait_of : List (List ℕ) → Result Command TraceReason
-wait_of words = do
-  child ← process_of (word_at words 0)
+unfoldable pub wait_of : Scale → List (List ℕ) → Result Command TraceReason
+wait_of scale words = do
+  child ← process_of scale (word_at words 0)
   Ok (command.Wait child)
 
 -- await Q, a process of the trace
-unfoldable pub await_of : List (List ℕ) → Result Command TraceReason
-await_of words = do
-  child ← process_of (word_at words 0)
+unfoldable pub await_of : Scale → List (List ℕ) → Result Command TraceReason
+await_of scale words = do
+  child ← process_of scale (word_at words 0)
   Ok (command.Await child)
 
 -- rename NAME NAME
@@ -218,26 +219,26 @@ sync_of words = do
 
 -- The command of a call and the words behind it, which have their forms, or the first reason why it is none.
 -- In each row the numbers stand before the names, so a number outside its range comes before a length.
-abbrev pub command_of : CallName → List (List ℕ) → Result Command TraceReason
-command_of call.Start words = Err reason.Form
-command_of call.Creat words = creat_of words
-command_of call.OpenName words = open_of words
-command_of call.CloseFd words = close_of words
-command_of call.Read words = read_of words
-command_of call.Write words = write_of words
-command_of call.Seek words = seek_of words
-command_of call.Truncate words = truncate_of words
-command_of call.MakePipe words = pipe_of words
-command_of call.Fork words = fork_of words
-command_of call.Exec words = exec_of words
-command_of call.WaitChild words = wait_of words
-command_of call.Await words = await_of words
-command_of call.Exit words = Err reason.Form
-command_of call.Rename words = rename_of words
-command_of call.Unlink words = unlink_of words
-command_of call.MakeObj words = mkobj_of words
-command_of call.Revive words = revive_of words
-command_of call.FreezeObj words = freeze_of words
-command_of call.Disclose words = disclose_of words
-command_of call.TagObj words = tag_of words
-command_of call.Sync words = sync_of words
+abbrev pub command_of : Scale → CallName → List (List ℕ) → Result Command TraceReason
+command_of scale call.Start words = Err reason.Form
+command_of scale call.Creat words = creat_of words
+command_of scale call.OpenName words = open_of words
+command_of scale call.CloseFd words = close_of words
+command_of scale call.Read words = read_of words
+command_of scale call.Write words = write_of words
+command_of scale call.Seek words = seek_of words
+command_of scale call.Truncate words = truncate_of words
+command_of scale call.MakePipe words = pipe_of words
+command_of scale call.Fork words = fork_of scale words
+command_of scale call.Exec words = exec_of words
+command_of scale call.WaitChild words = wait_of scale words
+command_of scale call.Await words = await_of scale words
+command_of scale call.Exit words = Err reason.Form
+command_of scale call.Rename words = rename_of words
+command_of scale call.Unlink words = unlink_of words
+command_of scale call.MakeObj words = mkobj_of words
+command_of scale call.Revive words = revive_of words
+command_of scale call.FreezeObj words = freeze_of words
+command_of scale call.Disclose words = disclose_of words
+command_of scale call.TagObj words = tag_of words
+command_of scale call.Sync words = sync_of words

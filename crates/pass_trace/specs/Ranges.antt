@@ -11,6 +11,7 @@ use Rattle.pass_trace.specs.declared.trace.Command.TheVariants as command
 use Rattle.pass_trace.specs.declared.trace.Payload.{Payload}
 use Rattle.pass_trace.specs.declared.trace.Payload.TheVariants.{Given, Last}
 use Rattle.pass_trace.specs.declared.trace.TraceLine.{TraceLine}
+use Rattle.pass_trace.specs.declared.limits.Scale.{Scale}
 use Rattle.pass_trace.specs.Limits.{last_process, greatest_offset}
 use Rattle.pass_trace.specs.Words.{is_word}
 
@@ -30,30 +31,30 @@ pub record IsArgs (args : List ℕ) : Type 0 where
   pub words : (ws : List (List ℕ)) × (list_all is_word ws ≡ true) × (args ≡ join_with_byte 32 ws)
 
 -- each field of the command is in its range
-abbrev pub IsGood : Command → Type 0
-IsGood (command.Creat fd name) = (fd ≤ 63) × IsName name
-IsGood (command.Open fd name mode) = (fd ≤ 63) × IsName name × IsMode mode
-IsGood (command.Close fd) = fd ≤ 63
-IsGood (command.Read fd len) = (fd ≤ 63) × (1 ≤ len) × (len ≤ transfer_limit)
-IsGood (command.Write fd payload) = (fd ≤ 63) × IsPayload payload
-IsGood (command.Seek fd off) = (fd ≤ 63) × (off ≤ greatest_offset)
-IsGood (command.Truncate fd size) = (fd ≤ 63) × (size ≤ greatest_offset)
-IsGood (command.Pipe reader writer) = (reader ≤ 63) × (writer ≤ 63)
-IsGood (command.Fork child) = (1 ≤ child) × (child ≤ last_process)
-IsGood (command.Exec name args) = IsName name × IsArgs args
-IsGood (command.Wait child) = (1 ≤ child) × (child ≤ last_process)
-IsGood (command.Await child) = (1 ≤ child) × (child ≤ last_process)
-IsGood (command.Rename from to) = IsName from × IsName to
-IsGood (command.Unlink name) = IsName name
-IsGood (command.MkObj fd) = fd ≤ 63
-IsGood (command.Revive fd pnode) = (fd ≤ 63) × (1 ≤ pnode) × (pnode ≤ number_limit - 1)
-IsGood (command.Freeze fd) = fd ≤ 63
-IsGood (command.Disclose target source) = (target ≤ 63) × (source ≤ 63)
-IsGood (command.Tag fd attr value) = (fd ≤ 63) × IsName attr × IsName value
-IsGood (command.Sync fd) = fd ≤ 63
+abbrev pub IsGood : Scale → Command → Type 0
+IsGood scale (command.Creat fd name) = (fd ≤ 63) × IsName name
+IsGood scale (command.Open fd name mode) = (fd ≤ 63) × IsName name × IsMode mode
+IsGood scale (command.Close fd) = fd ≤ 63
+IsGood scale (command.Read fd len) = (fd ≤ 63) × (1 ≤ len) × (len ≤ transfer_limit)
+IsGood scale (command.Write fd payload) = (fd ≤ 63) × IsPayload payload
+IsGood scale (command.Seek fd off) = (fd ≤ 63) × (off ≤ greatest_offset)
+IsGood scale (command.Truncate fd size) = (fd ≤ 63) × (size ≤ greatest_offset)
+IsGood scale (command.Pipe reader writer) = (reader ≤ 63) × (writer ≤ 63)
+IsGood scale (command.Fork child) = (1 ≤ child) × (child ≤ last_process scale)
+IsGood scale (command.Exec name args) = IsName name × IsArgs args
+IsGood scale (command.Wait child) = (1 ≤ child) × (child ≤ last_process scale)
+IsGood scale (command.Await child) = (1 ≤ child) × (child ≤ last_process scale)
+IsGood scale (command.Rename from to) = IsName from × IsName to
+IsGood scale (command.Unlink name) = IsName name
+IsGood scale (command.MkObj fd) = fd ≤ 63
+IsGood scale (command.Revive fd pnode) = (fd ≤ 63) × (1 ≤ pnode) × (pnode ≤ number_limit - 1)
+IsGood scale (command.Freeze fd) = fd ≤ 63
+IsGood scale (command.Disclose target source) = (target ≤ 63) × (source ≤ 63)
+IsGood scale (command.Tag fd attr value) = (fd ≤ 63) × IsName attr × IsName value
+IsGood scale (command.Sync fd) = fd ≤ 63
 
 -- so is each field of the line; its number is free
-pub record IsGoodLine (line : TraceLine) : Type 0 where
+pub record IsGoodLine (scale : Scale) (line : TraceLine) : Type 0 where
   pub from : 1 ≤ line.process
-  pub to : line.process ≤ last_process
-  pub command : IsGood line.command
+  pub to : line.process ≤ last_process scale
+  pub command : IsGood scale line.command

@@ -1,6 +1,7 @@
 -- The rules that look at the earlier lines of a trace. All of them are this project's own.
 use Rattle.std.specs.Prelude.{◌≡◌, ℕ, ◌&&◌, ◌||◌, ◌==◌, nat_le, Bool, true, false, not, List, [], ◌∷◌, ◌++◌, if◌then◌else◌, Option, Some, None, count_by}
 use Rattle.std.specs.List.{list_any}
+use Rattle.pass_trace.specs.declared.limits.Scale.{Scale}
 use Rattle.pass_trace.specs.Limits.{most_created}
 use Rattle.pass_trace.specs.Ranges.{IsGoodLine}
 use Rattle.pass_trace.specs.declared.trace.Command.{Command}
@@ -47,10 +48,10 @@ count_created lines = count_by (λ line. creates line.command) lines
 
 -- The first reason why a line may not stand behind the earlier ones. The objects that it may make are
 -- counted beside its first process.
-abbrev pub rule_of : List TraceLine → TraceLine → Option TraceReason
-rule_of earlier line =
+abbrev pub rule_of : Scale → List TraceLine → TraceLine → Option TraceReason
+rule_of scale earlier line =
     if not (is_there earlier line.process && may_call earlier line.process line.command) then Some reason.Process
-    else if creates line.command && nat_le most_created (count_created earlier) then Some reason.Many
+    else if creates line.command && nat_le (most_created scale) (count_created earlier) then Some reason.Many
     else None
 
 -- the process that a command names, or 0
@@ -61,6 +62,6 @@ child_of (Await child) = child
 child_of _ = 0
 
 -- the lines may stand behind the earlier ones, each with its fields in their ranges and no reason against its place
-abbrev pub LinesFollow : List TraceLine → List TraceLine → Type 0
-LinesFollow earlier [] = Unit {0}
-LinesFollow earlier (line ∷ lines) = IsGoodLine line × (rule_of earlier line ≡ None) × LinesFollow (earlier ++ line ∷ []) lines
+abbrev pub LinesFollow : Scale → List TraceLine → List TraceLine → Type 0
+LinesFollow scale earlier [] = Unit {0}
+LinesFollow scale earlier (line ∷ lines) = IsGoodLine scale line × (rule_of scale earlier line ≡ None) × LinesFollow scale (earlier ++ line ∷ []) lines

@@ -1,9 +1,10 @@
 //! The lines of a trace so far, and what the lines behind them may be.
 ghost use Rattle.std.specs.Prelude.{◌≡◌, ℕ, ◌≤◌, ◌++◌, ◌∷◌, [], length, slice_index, IfOk, OnOk, OnErr, None};
+ghost use Rattle.pass_trace.specs.declared.limits.Scale.TheVariants.{Long};
 ghost use Rattle.pass_trace.specs.Limits.{last_process};
 ghost use Rattle.pass_trace.specs.Rules.{is_there, may_call, rule_of, child_of};
 
-use crate::limits::{LAST_PROCESS, MOST_CREATED};
+use crate::limits::Scale;
 use crate::objects::creates;
 use crate::trace::{Command, TraceLine, TraceReason};
 use std::alloc::{AllocError, Global};
@@ -40,7 +41,7 @@ impl Earlier {
     pub(crate) fn new(alloc: Global) -> Result<Earlier, AllocError>
         ensures { IfOk result (λ e. e ≡ []) }
     {
-        let parents = zeros(alloc, LAST_PROCESS as usize + 1)?;
+        let parents = zeros(alloc, Scale::Long.last_process() as usize + 1)?;
         Ok(Earlier {
             lines: Vec::new(alloc),
             parents,
@@ -49,7 +50,7 @@ impl Earlier {
     }
 
     fn is_there(&self, process: u32) -> bool
-        requires { process ≤ last_process }
+        requires { process ≤ last_process Long }
         ensures { result ≡ is_there self.now process }
     {
         process == 1 || self.parents[process as usize] > 0
@@ -57,7 +58,7 @@ impl Earlier {
 
     fn may_call(&self, process: u32, command: &Command) -> bool
         requires parent { 1 ≤ process }
-        requires child { child_of command.now ≤ last_process }
+        requires child { child_of command.now ≤ last_process Long }
         ensures { result ≡ may_call self.now process command.now }
     {
         match command {
@@ -69,29 +70,30 @@ impl Earlier {
     }
 
     // The first reason why the line may not come next.
-    pub(crate) fn rule_of(&self, line: &TraceLine) -> Option<TraceReason>
+    pub(crate) fn rule_of(&self, scale: Scale, line: &TraceLine) -> Option<TraceReason>
         requires process { 1 ≤ line.now.process }
-        requires process_end { line.now.process ≤ last_process }
-        requires child { child_of line.now.command ≤ last_process }
-        ensures { result ≡ rule_of self.now line.now }
+        requires process_end { line.now.process ≤ last_process Long }
+        requires child { child_of line.now.command ≤ last_process Long }
+        ensures { result ≡ rule_of scale self.now line.now }
     {
         if !(self.is_there(line.process) && self.may_call(line.process, &line.command)) {
             return Some(TraceReason::Process);
         }
-        if creates(&line.command) && self.created >= MOST_CREATED {
+        if creates(&line.command) && self.created >= scale.most_created() {
             return Some(TraceReason::Many);
         }
         None
     }
 
     // Puts a line behind the others.
-    pub(crate) fn push(&mut self, line: TraceLine) -> Result<(), AllocError>
+    pub(crate) fn push(&mut self, scale: Scale, line: TraceLine) -> Result<(), AllocError>
         requires process { 1 ≤ line.process }
-        requires child { child_of line.command ≤ last_process }
-        requires fits { rule_of self.old line ≡ None }
+        requires child { child_of line.command ≤ last_process Long }
+        requires fits { rule_of scale self.old line ≡ None }
         ensures ok { OnOk result (self.new ≡ self.old ++ line ∷ []) }
         ensures err { OnErr result (self.new ≡ self.old) }
     {
+        let _ = scale;
         let made = u32::from(creates(&line.command));
         let process = line.process;
         let child = match line.command {

@@ -7,7 +7,7 @@ ghost use Rattle.pass_trace.specs.Commands.{number_in, process_of, fd_of, name_o
 ghost use Rattle.pass_trace.specs.Gives.{Gives, fault_at_line};
 ghost use Rattle.hex.specs.Hex.{decode_sized};
 
-use crate::limits::LAST_PROCESS;
+use crate::limits::Scale;
 use crate::trace::{Payload, TraceFault, TraceReason};
 use hex::{FromHex, FromHexError};
 use pass_entry::{Bytes, Mode, TRANSFER_LIMIT, Text, TextFault};
@@ -81,11 +81,11 @@ pub(crate) fn number_in(word: &[u8], low: u64, high: u64) -> Result<u64, LineFau
 }
 
 // The number of a process of the trace.
-pub(crate) fn process_of(word: &[u8]) -> Result<u32, LineFault>
-    ensures value { Gives (λ n. n) result (process_of word.now) }
-    ensures within { IfOk result (λ n. (1 ≤ n) × (n ≤ last_process)) }
+pub(crate) fn process_of(scale: Scale, word: &[u8]) -> Result<u32, LineFault>
+    ensures value { Gives (λ n. n) result (process_of scale word.now) }
+    ensures within { IfOk result (λ n. (1 ≤ n) × (n ≤ last_process scale)) }
 {
-    let process = number_in(word, 1, u64::from(LAST_PROCESS))?;
+    let process = number_in(word, 1, u64::from(scale.last_process()))?;
     Ok(process as u32)
 }
 

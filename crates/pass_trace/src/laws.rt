@@ -2,7 +2,8 @@
 ghost use Rattle.std.specs.Prelude.{◌≡◌, ◌≤◌, ◌⊎◌, ℕ, List, [], length};
 ghost use Rattle.pass_trace.specs.declared.trace.TraceLine.{TraceLine};
 ghost use Rattle.pass_trace.specs.declared.trace.TraceReason.{TraceReason};
-ghost use Rattle.pass_trace.specs.Lawful.{ObjectsLaw, StaysLaw, TooLongLaw};
+ghost use Rattle.pass_trace.specs.Lawful.{ObjectsLaw, StaysLaw, TooLongLaw, WiderLaw};
+ghost use Rattle.pass_trace.specs.declared.limits.Scale.{Scale};
 ghost use Rattle.pass_trace.specs.Limits.{most_lines};
 ghost use Rattle.pass_trace.specs.Rules.{LinesFollow};
 ghost use Rattle.pass_trace.specs.Traces.{trace_of, IsTraceText, IsFirstFault};
@@ -10,31 +11,31 @@ ghost use Rattle.pass_trace.specs.Texts.{text_of, renumbered_from};
 
 /// A text is one of a trace, or has one first fault with one reason.
 pub fn text_or_one_fault()
-    ensures either { (bytes : List ℕ) → IsTraceText bytes
-        ⊎ ((line : ℕ) × (reason : TraceReason) × IsFirstFault bytes line reason) }
-    ensures apart { (bytes : List ℕ) (line : ℕ) (reason : TraceReason) →
-        IsFirstFault bytes line reason → ¬ IsTraceText bytes }
-    ensures alone { (bytes : List ℕ) (line other : ℕ) (reason another : TraceReason) →
-        IsFirstFault bytes line reason → IsFirstFault bytes other another →
+    ensures either { (scale : Scale) (bytes : List ℕ) → IsTraceText scale bytes
+        ⊎ ((line : ℕ) × (reason : TraceReason) × IsFirstFault scale bytes line reason) }
+    ensures apart { (scale : Scale) (bytes : List ℕ) (line : ℕ) (reason : TraceReason) →
+        IsFirstFault scale bytes line reason → ¬ IsTraceText scale bytes }
+    ensures alone { (scale : Scale) (bytes : List ℕ) (line other : ℕ) (reason another : TraceReason) →
+        IsFirstFault scale bytes line reason → IsFirstFault scale bytes other another →
         (line ≡ other) × (reason ≡ another) }
 {}
 
 /// The lines of a trace may follow each other. No more than a text may have, that may follow each other, are the
 /// trace of what is written of them, numbered from 1.
 pub fn lines_that_follow()
-    ensures lines { (bytes : List ℕ) → IsTraceText bytes →
-        LinesFollow [] (trace_of bytes) × (length (trace_of bytes) ≤ most_lines) }
-    ensures text { (lines : List TraceLine) → LinesFollow [] lines → length lines ≤ most_lines →
-        IsTraceText (text_of lines) }
-    ensures trace { (lines : List TraceLine) → LinesFollow [] lines → length lines ≤ most_lines →
+    ensures lines { (scale : Scale) (bytes : List ℕ) → IsTraceText scale bytes →
+        LinesFollow scale [] (trace_of bytes) × (length (trace_of bytes) ≤ most_lines scale) }
+    ensures text { (scale : Scale) (lines : List TraceLine) → LinesFollow scale [] lines → length lines ≤ most_lines scale →
+        IsTraceText scale (text_of lines) }
+    ensures trace { (scale : Scale) (lines : List TraceLine) → LinesFollow scale [] lines → length lines ≤ most_lines scale →
         trace_of (text_of lines) ≡ renumbered_from 1 lines }
 {}
 
 /// What is written of the trace of a text is a text with the same processes and commands, whose
 /// lines are numbered from 1.
 pub fn written_is_read_again()
-    ensures text { (bytes : List ℕ) → IsTraceText bytes → IsTraceText (text_of (trace_of bytes)) }
-    ensures trace { (bytes : List ℕ) → IsTraceText bytes →
+    ensures text { (scale : Scale) (bytes : List ℕ) → IsTraceText scale bytes → IsTraceText scale (text_of (trace_of bytes)) }
+    ensures trace { (scale : Scale) (bytes : List ℕ) → IsTraceText scale bytes →
         trace_of (text_of (trace_of bytes)) ≡ renumbered_from 1 (trace_of bytes) }
 {}
 
@@ -47,4 +48,9 @@ pub fn traces()
 pub fn long_texts()
     ensures apart { TooLongLaw }
     ensures stays { StaysLaw }
+{}
+
+/// A text of a trace of any scale is one of the long scale.
+pub fn scales()
+    ensures { WiderLaw }
 {}

@@ -7,7 +7,7 @@ ghost use Rattle.pass_trace.specs.Traces.{line_of};
 
 use crate::call::forms_of;
 use crate::fields::{LineFault, fd_of, mode_of, name_of, number_in, payload_of, process_of};
-use crate::limits::GREATEST_OFFSET;
+use crate::limits::{GREATEST_OFFSET, Scale};
 use crate::trace::{Command, TraceLine, TraceReason};
 use crate::words::{have_these, is_number};
 use pass_entry::{CallName, NUMBER_LIMIT, TRANSFER_LIMIT, Text, TextFault};
@@ -144,10 +144,10 @@ fn pipe_of(words: &[&[u8]]) -> Result<Command, LineFault>
 }
 
 #[tactic(auto, unfolding(crate::specs::Commands::fork_of))]
-fn fork_of(words: &[&[u8]]) -> Result<Command, LineFault>
-    ensures { Gives (λ c. c) result (fork_of (map (λ w. w.now) words.now)) }
+fn fork_of(scale: Scale, words: &[&[u8]]) -> Result<Command, LineFault>
+    ensures { Gives (λ c. c) result (fork_of scale (map (λ w. w.now) words.now)) }
 {
-    let child = process_of(word_at(words, 0))?;
+    let child = process_of(scale, word_at(words, 0))?;
     Ok(Command::Fork { child })
 }
 
@@ -161,18 +161,18 @@ fn exec_of(alloc: Global, words: &[&[u8]]) -> Result<Command, LineFault>
 }
 
 #[tactic(auto, unfolding(crate::specs::Commands::wait_of))]
-fn wait_of(words: &[&[u8]]) -> Result<Command, LineFault>
-    ensures { Gives (λ c. c) result (wait_of (map (λ w. w.now) words.now)) }
+fn wait_of(scale: Scale, words: &[&[u8]]) -> Result<Command, LineFault>
+    ensures { Gives (λ c. c) result (wait_of scale (map (λ w. w.now) words.now)) }
 {
-    let child = process_of(word_at(words, 0))?;
+    let child = process_of(scale, word_at(words, 0))?;
     Ok(Command::Wait { child })
 }
 
 #[tactic(auto, unfolding(crate::specs::Commands::await_of))]
-fn await_of(words: &[&[u8]]) -> Result<Command, LineFault>
-    ensures { Gives (λ c. c) result (await_of (map (λ w. w.now) words.now)) }
+fn await_of(scale: Scale, words: &[&[u8]]) -> Result<Command, LineFault>
+    ensures { Gives (λ c. c) result (await_of scale (map (λ w. w.now) words.now)) }
 {
-    let child = process_of(word_at(words, 0))?;
+    let child = process_of(scale, word_at(words, 0))?;
     Ok(Command::Await { child })
 }
 
@@ -246,8 +246,13 @@ fn sync_of(words: &[&[u8]]) -> Result<Command, LineFault>
 }
 
 // The command of a call and the words behind it, which have their forms.
-fn command_of(alloc: Global, call: CallName, words: &[&[u8]]) -> Result<Command, LineFault>
-    ensures { Gives (λ c. c) result (command_of call (map (λ w. w.now) words.now)) }
+fn command_of(
+    alloc: Global,
+    scale: Scale,
+    call: CallName,
+    words: &[&[u8]],
+) -> Result<Command, LineFault>
+    ensures { Gives (λ c. c) result (command_of scale call (map (λ w. w.now) words.now)) }
 {
     match call {
         CallName::Start | CallName::Exit => Err(LineFault::Bad(TraceReason::Form)),
@@ -259,10 +264,10 @@ fn command_of(alloc: Global, call: CallName, words: &[&[u8]]) -> Result<Command,
         CallName::Seek => seek_of(words),
         CallName::Truncate => truncate_of(words),
         CallName::MakePipe => pipe_of(words),
-        CallName::Fork => fork_of(words),
+        CallName::Fork => fork_of(scale, words),
         CallName::Exec => exec_of(alloc, words),
-        CallName::WaitChild => wait_of(words),
-        CallName::Await => await_of(words),
+        CallName::WaitChild => wait_of(scale, words),
+        CallName::Await => await_of(scale, words),
         CallName::Rename => rename_of(alloc, words),
         CallName::Unlink => unlink_of(alloc, words),
         CallName::MakeObj => mkobj_of(words),
@@ -276,8 +281,13 @@ fn command_of(alloc: Global, call: CallName, words: &[&[u8]]) -> Result<Command,
 
 // What the words of a line say.
 #[tactic(auto, unfolding(crate::specs::Traces::line_of, crate::specs::Traces::call_line_of))]
-pub(crate) fn line_of(alloc: Global, number: u32, words: &[&[u8]]) -> Result<TraceLine, LineFault>
-    ensures { Gives (λ l. l) result (line_of number (map (λ w. w.now) words.now)) }
+pub(crate) fn line_of(
+    alloc: Global,
+    scale: Scale,
+    number: u32,
+    words: &[&[u8]],
+) -> Result<TraceLine, LineFault>
+    ensures { Gives (λ l. l) result (line_of scale number (map (λ w. w.now) words.now)) }
 {
     let [process, call, words @ ..] = words else {
         return Err(LineFault::Bad(TraceReason::Form));
@@ -288,8 +298,8 @@ pub(crate) fn line_of(alloc: Global, number: u32, words: &[&[u8]]) -> Result<Tra
     if !is_number(process) || !have_these(forms_of(call), words) {
         return Err(LineFault::Bad(TraceReason::Form));
     }
-    let process = process_of(process)?;
-    let command = command_of(alloc, call, words)?;
+    let process = process_of(scale, process)?;
+    let command = command_of(alloc, scale, call, words)?;
     Ok(TraceLine {
         number,
         process,

@@ -1,5 +1,7 @@
 //! How many turns are left from each line of a trace on.
 ghost use Rattle.std.specs.Prelude.{◌≡◌, ◌≤◌, ◌+◌, ◌*◌, ℕ, [], IfOk, length};
+ghost use Rattle.pass_trace.specs.declared.limits.Scale.TheVariants.{Long};
+ghost use Rattle.pass_trace.specs.Limits.{most_lines};
 ghost use Rattle.pass_trace.specs.TraceLines.{call_of, plain_trace};
 ghost use Rattle.pass_replay.specs.Lines.{AreLinesBehind};
 ghost use Rattle.pass_walk.specs.Lefts.{AreLefts, of_child};
@@ -29,7 +31,7 @@ fn left_to_child(behind: &BTreeMap<u32, u64>, command: &Command) -> u64
 /// Looks at each line once, the last one first.
 pub(crate) fn lefts_of(alloc: Global, lines: &[TraceLine]) -> Result<Vec<u64>, AllocError>
     requires ordered { AreLinesBehind [] (plain_trace lines.now) }
-    requires few { length lines.now ≤ 100000 }
+    requires few { length lines.now ≤ most_lines Long }
     ensures { IfOk result (λ lefts. AreLefts (plain_trace lines.now) lefts.items) }
 {
     let mut behind = BTreeMap::new(alloc);

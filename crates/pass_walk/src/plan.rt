@@ -1,6 +1,8 @@
 //! What a run keeps of its trace.
 ghost use Rattle.std.specs.Prelude.{◌≡◌, ◌≤◌, ◌<◌, ◌+◌, [], ℕ, IfOk, Some, length, slice_get};
 ghost use Rattle.pass_plain.specs.Traces.{Line as AnyLine};
+ghost use Rattle.pass_trace.specs.declared.limits.Scale.TheVariants.{Long};
+ghost use Rattle.pass_trace.specs.Limits.{most_lines};
 ghost use Rattle.pass_trace.specs.TraceLines.{plain_trace};
 ghost use Rattle.pass_replay.specs.Lines.{AreLinesBehind, IsLineAt, IsNextLine};
 ghost use Rattle.pass_walk.specs.Lefts.{AreLefts, HasRoomFor, left_at};
@@ -61,7 +63,7 @@ impl<'a> Plan<'a> {
     /// The plan of a trace, which keeps the rules of traces.
     pub fn of(alloc: Global, lines: &'a [TraceLine]) -> Result<Plan<'a>, AllocError>
         requires ordered { AreLinesBehind [] (plain_trace lines.now) }
-        requires few { length lines.now ≤ 100000 }
+        requires few { length lines.now ≤ most_lines Long }
         ensures { IfOk result (λ plan. plan ≡ lines.now) }
     {
         let places = Places::of(alloc, lines)?;

@@ -3,7 +3,7 @@ use Rattle.pass_trace.proofs.Again.{follows, within, text_of-follows, trace_of-f
 use Rattle.pass_trace.proofs.laws.written_is_read_again.Goals as goal
 
 pub returns-clause-text : goal.returns-clause-text
-returns-clause-text c bytes h = text_of-follows (trace_of bytes) (follows bytes h) (within bytes h)
+returns-clause-text c scale bytes h = text_of-follows scale (trace_of bytes) (follows scale bytes h) (within scale bytes h)
 
 pub returns-clause-trace : goal.returns-clause-trace
-returns-clause-trace c bytes h = trace_of-follows (trace_of bytes) (follows bytes h) (within bytes h)
+returns-clause-trace c scale bytes h = trace_of-follows scale (trace_of bytes) (follows scale bytes h) (within scale bytes h)

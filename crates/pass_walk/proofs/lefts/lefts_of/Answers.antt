@@ -26,7 +26,7 @@ module _ (lines : List TraceLine) (place : ℕ) (l : TraceLine) (some : 1 ≤ pl
   next_behind : (process : ℕ) → left_behind old process ≡ left_in (drop (place - 1 + 1) (plain_trace lines)) process
   next_behind process = behind process ∙ ap (λ n. left_in (drop n (plain_trace lines)) process) (let z : place ≡ place - 1 + 1 = omega (arith, some) in z)
 
-  few_left : AreLinesBehind [] (plain_trace lines) → length lines ≤ 100000 → 1 + child + own ≤ 200001
+  few_left : AreLinesBehind [] (plain_trace lines) → length lines ≤ 1000000 → 1 + child + own ≤ 2000001
   few_left ordered few =
       let a = left_fits (plain_trace lines) (place - 1) (plain_line l) at old next_behind ordered in
       let b = its in

@@ -10,6 +10,6 @@ invariant_of-self-in-Some c =
       | in-Fork w ↦
           let is : c.args.line.command ≡ Fork c.in-Some.child = cc in
           let one : c.from-made.result ≡ 1 = search rules in
-          rw (c.in_ok-push.ensures.items, one) (IsTable-fork _ _ _ _ _ c.self.invariant is (search rules) (search rules) (search rules))
+          rw (c.in_ok-push.ensures.items, one) (IsTable-fork c.args.scale _ _ _ _ _ c.self.invariant is (search rules) (search rules) (search rules))
       | in_default w ↦ cc
     ]

@@ -4,8 +4,10 @@ use Rattle.std.specs.Prelude.{◌≢◌, Bool, Option, Some, None, Result, Ok, E
 use Rattle.std.specs.Option.{option_map_or}
 use Rattle.pass_status.specs.declared.status.Status.{Status}
 use Rattle.pass_status.specs.declared.status.Status.TheVariants as status
+use Rattle.pass_trace.specs.declared.limits.Scale.{Scale}
+use Rattle.pass_trace.specs.declared.limits.Scale.TheVariants.{Usual}
 use Rattle.pass_ask.specs.Asked.{IsPut, IsQuestionRead, asked_in}
-use Rattle.pass_ask.specs.Words.{Reads, Text, asks_lines, command_of, drawn_by, drawn_of, is_gen, is_replay, is_replay_command, is_follow, is_follow_command, is_run, is_run_command, lines_asked, lines_by, question_in, question_of}
+use Rattle.pass_ask.specs.Words.{Reads, Text, asks_lines, command_of, drawn_by, drawn_of, is_gen, is_replay, is_replay_command, is_follow, is_follow_command, is_run, is_run_command, lines_asked, lines_by, question_in, question_of, scale_in, scale_of}
 use Rattle.pass_ask.specs.declared.words.Command.{Command}
 use Rattle.pass_ask.specs.declared.words.Command.TheVariants.{Run, Replay, Gen, Ask, Questions, Follow}
 use Rattle.pass_ask.specs.declared.words.Question.{Question}
@@ -15,8 +17,12 @@ pub ok_same : {A : Type 0} (r : Result A Status) (a b : A) → r ≡ Ok a → a 
 ok_same r a b is same = is ∙ ap (λ x. Ok x) same
 
 module _ (words : List Text) (r : Result Command Status) (read : Reads r (command_of words)) where
-  pub runs : (workers : ℕ) → r ≡ Ok (Run workers) → IsTrue (is_run words)
-  runs workers is = ap (λ (o : Option Command). option_map_or is_run_command o false) (subst (λ (x : Result Command Status). Reads x (command_of words)) is read)
+  pub runs : (scale : Scale) (workers : ℕ) → r ≡ Ok (Run scale workers) → IsTrue (is_run words)
+  runs scale workers is = ap (λ (o : Option Command). option_map_or is_run_command o false) (subst (λ (x : Result Command Status). Reads x (command_of words)) is read)
+
+  -- how large a trace these words run
+  pub runs_at : (c : Command) → r ≡ Ok c → scale_of words ≡ scale_in c
+  runs_at c is = ap (λ (o : Option Command). option_map_or scale_in o Usual) (subst (λ (x : Result Command Status). Reads x (command_of words)) is read)
 
   -- which words these are not
   pub not_run : (c : Option Command) → command_of words ≡ c → option_map_or is_run_command c false ≡ false → ¬ (IsTrue (is_run words))
@@ -60,14 +66,14 @@ module _ (words : List Text) (r : Result Command Status) (read : Reads r (comman
       let named : command_of words ≡ Some (Questions json) = subst (λ (x : Result Command Status). Reads x (command_of words)) is read in
       (not_run (Some (Questions json)) named refl, not_follow (Some (Questions json)) named refl, ap is_some (lines_as (Questions json) is), draws_so (Questions json) is)
 
-  pub runs_only : (workers : ℕ) → r ≡ Ok (Run workers) → ¬ (IsTrue (is_follow words))
-  runs_only workers is = not_follow (Some (Run workers)) (subst (λ (x : Result Command Status). Reads x (command_of words)) is read) refl
+  pub runs_only : (scale : Scale) (workers : ℕ) → r ≡ Ok (Run scale workers) → ¬ (IsTrue (is_follow words))
+  runs_only scale workers is = not_follow (Some (Run scale workers)) (subst (λ (x : Result Command Status). Reads x (command_of words)) is read) refl
 
   -- a run in the order of the lines is a run
-  pub replays : r ≡ Ok Replay → IsTrue (is_run words) × ¬ (IsTrue (is_follow words))
-  replays is =
-      let named : command_of words ≡ Some Replay = subst (λ (x : Result Command Status). Reads x (command_of words)) is read in
-      (ap (λ (o : Option Command). option_map_or is_run_command o false) named, not_follow (Some Replay) named refl)
+  pub replays : (scale : Scale) → r ≡ Ok (Replay scale) → IsTrue (is_run words) × ¬ (IsTrue (is_follow words))
+  replays scale is =
+      let named : command_of words ≡ Some (Replay scale) = subst (λ (x : Result Command Status). Reads x (command_of words)) is read in
+      (ap (λ (o : Option Command). option_map_or is_run_command o false) named, not_follow (Some (Replay scale)) named refl)
 
   -- and no other command is one
   pub not_replay : (c : Command) → r ≡ Ok c → is_replay_command c ≡ false → ¬ (IsTrue (is_replay words))

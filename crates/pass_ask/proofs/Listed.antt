@@ -2,6 +2,7 @@
 use Rattle.std.proofs.Common.{◌≡◌, ◌<◌, ◌≤◌, Bool, false, List, [], ◌∷◌, length, refl, arith}
 use Rattle.std.specs.Prelude.{Option, None, map}
 use Rattle.std.specs.Borrow.{Bor}
+use Rattle.pass_trace.specs.declared.limits.Scale.{Scale}
 use Rattle.pass_ask.specs.Words.{Text, gen_in, match_in, query_in, recipe_in, send_in}
 
 pub too_few : (name : Text) (words : List (Bor Text)) → length words < 1 → query_in name (map (λ w. w.now) words) ≡ None
@@ -43,13 +44,13 @@ places_too_many [] many = absurd (omega arith)
 places_too_many (x ∷ []) many = absurd (omega arith)
 places_too_many (x ∷ y ∷ words) many = refl
 
-pub drawn_too_short : (workers : Option Text) (words : List (Bor Text)) → length words < 2 → gen_in false workers (map (λ w. w.now) words) ≡ None
-drawn_too_short workers [] few = refl
-drawn_too_short workers (x ∷ []) few = refl
-drawn_too_short workers (x ∷ y ∷ words) few = absurd (omega arith)
+pub drawn_too_short : (scale : Scale) (workers : Option Text) (words : List (Bor Text)) → length words < 2 → gen_in scale false workers (map (λ w. w.now) words) ≡ None
+drawn_too_short scale workers [] few = refl
+drawn_too_short scale workers (x ∷ []) few = refl
+drawn_too_short scale workers (x ∷ y ∷ words) few = absurd (omega arith)
 
-pub drawn_too_long : (workers : Option Text) (words : List (Bor Text)) → 3 ≤ length words → gen_in false workers (map (λ w. w.now) words) ≡ None
-drawn_too_long workers [] many = absurd (omega arith)
-drawn_too_long workers (x ∷ []) many = absurd (omega arith)
-drawn_too_long workers (x ∷ y ∷ []) many = absurd (omega arith)
-drawn_too_long workers (x ∷ y ∷ z ∷ words) many = refl
+pub drawn_too_long : (scale : Scale) (workers : Option Text) (words : List (Bor Text)) → 3 ≤ length words → gen_in scale false workers (map (λ w. w.now) words) ≡ None
+drawn_too_long scale workers [] many = absurd (omega arith)
+drawn_too_long scale workers (x ∷ []) many = absurd (omega arith)
+drawn_too_long scale workers (x ∷ y ∷ []) many = absurd (omega arith)
+drawn_too_long scale workers (x ∷ y ∷ z ∷ words) many = refl

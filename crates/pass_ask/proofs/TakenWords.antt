@@ -72,33 +72,35 @@ refused_words app words r e s is err fails only memory =
         (ap (λ (a : App). unless_fault (fault_of a words) (taken (matches_of command_line words))) (sym is)
         ∙ none_taken (fault_of app words) (kind_of e) (taken (matches_of command_line words)) among)
 
-abbrev found_by : Option Text → Option Text → Option Text → Option Text → List Text → Option Command
-found_by replay json workers name words = option_and_then (λ n. command_by (is_set replay) (is_set json) workers n words) name
+abbrev found_by : Option Text → Option Text → Option Text → Option Text → Option Text → List Text → Option Command
+found_by replay long json workers name words = option_and_then (λ n. command_by (is_set replay) (is_set long) (is_set json) workers n words) name
 
 -- what was found, by what each option and word gave
-pub found_as : (rows : List Row) (replay json workers name : Option Text) (words : List Text) → first_of (codes "replay") rows ≡ replay → first_of (codes "json") rows ≡ json
-    → first_of (codes "workers") rows ≡ workers → first_of (codes "command") rows ≡ name → unwrap_or (all_of (codes "word") rows) [] ≡ words
-    → command_found rows ≡ option_and_then (λ n. command_by (is_set replay) (is_set json) workers n words) name
-found_as rows replay json workers name words r a b c d =
-    ap (λ r. found_by r (first_of (codes "json") rows) (first_of (codes "workers") rows) (first_of (codes "command") rows) (unwrap_or (all_of (codes "word") rows) [])) r
-    ∙ ap (λ j. found_by replay j (first_of (codes "workers") rows) (first_of (codes "command") rows) (unwrap_or (all_of (codes "word") rows) [])) a
-    ∙ ap (λ w. found_by replay json w (first_of (codes "command") rows) (unwrap_or (all_of (codes "word") rows) [])) b
-    ∙ ap (λ n. found_by replay json workers n (unwrap_or (all_of (codes "word") rows) [])) c
-    ∙ ap (λ ws. found_by replay json workers name ws) d
+pub found_as : (rows : List Row) (replay long json workers name : Option Text) (words : List Text) → first_of (codes "replay") rows ≡ replay → first_of (codes "long") rows ≡ long
+    → first_of (codes "json") rows ≡ json → first_of (codes "workers") rows ≡ workers → first_of (codes "command") rows ≡ name → unwrap_or (all_of (codes "word") rows) [] ≡ words
+    → command_found rows ≡ option_and_then (λ n. command_by (is_set replay) (is_set long) (is_set json) workers n words) name
+found_as rows replay long json workers name words r l a b c d =
+    ap (λ r. found_by r (first_of (codes "long") rows) (first_of (codes "json") rows) (first_of (codes "workers") rows) (first_of (codes "command") rows) (unwrap_or (all_of (codes "word") rows) [])) r
+    ∙ ap (λ l. found_by replay l (first_of (codes "json") rows) (first_of (codes "workers") rows) (first_of (codes "command") rows) (unwrap_or (all_of (codes "word") rows) [])) l
+    ∙ ap (λ j. found_by replay long j (first_of (codes "workers") rows) (first_of (codes "command") rows) (unwrap_or (all_of (codes "word") rows) [])) a
+    ∙ ap (λ w. found_by replay long json w (first_of (codes "command") rows) (unwrap_or (all_of (codes "word") rows) [])) b
+    ∙ ap (λ n. found_by replay long json workers n (unwrap_or (all_of (codes "word") rows) [])) c
+    ∙ ap (λ ws. found_by replay long json workers name ws) d
 
-abbrev told_by : Option Text → Option Text → Option Text → Flags → Text → List Text → Option Command
-told_by replay json workers flags name words = told_in (is_set replay) (is_set json) workers flags name words
+abbrev told_by : Option Text → Option Text → Option Text → Option Text → Flags → Text → List Text → Option Command
+told_by replay long json workers flags name words = told_in (is_set replay) (is_set long) (is_set json) workers flags name words
 
 -- the same of a question about names
-pub told_as : (rows : List Row) (replay json workers : Option Text) (flags : Flags) (name : Text) (words : List Text) → first_of (codes "replay") rows ≡ replay
+pub told_as : (rows : List Row) (replay long json workers : Option Text) (flags : Flags) (name : Text) (words : List Text) → first_of (codes "replay") rows ≡ replay → first_of (codes "long") rows ≡ long
     → first_of (codes "json") rows ≡ json → first_of (codes "workers") rows ≡ workers → flags_in rows ≡ flags → unwrap_or (all_of (codes "word") rows) [] ≡ words
-    → told_found rows name ≡ told_in (is_set replay) (is_set json) workers flags name words
-told_as rows replay json workers flags name words r a b c d =
-    ap (λ r. told_by r (first_of (codes "json") rows) (first_of (codes "workers") rows) (flags_in rows) name (unwrap_or (all_of (codes "word") rows) [])) r
-    ∙ ap (λ j. told_by replay j (first_of (codes "workers") rows) (flags_in rows) name (unwrap_or (all_of (codes "word") rows) [])) a
-    ∙ ap (λ w. told_by replay json w (flags_in rows) name (unwrap_or (all_of (codes "word") rows) [])) b
-    ∙ ap (λ f. told_by replay json workers f name (unwrap_or (all_of (codes "word") rows) [])) c
-    ∙ ap (λ ws. told_by replay json workers flags name ws) d
+    → told_found rows name ≡ told_in (is_set replay) (is_set long) (is_set json) workers flags name words
+told_as rows replay long json workers flags name words r l a b c d =
+    ap (λ r. told_by r (first_of (codes "long") rows) (first_of (codes "json") rows) (first_of (codes "workers") rows) (flags_in rows) name (unwrap_or (all_of (codes "word") rows) [])) r
+    ∙ ap (λ l. told_by replay l (first_of (codes "json") rows) (first_of (codes "workers") rows) (flags_in rows) name (unwrap_or (all_of (codes "word") rows) [])) l
+    ∙ ap (λ j. told_by replay long j (first_of (codes "workers") rows) (flags_in rows) name (unwrap_or (all_of (codes "word") rows) [])) a
+    ∙ ap (λ w. told_by replay long json w (flags_in rows) name (unwrap_or (all_of (codes "word") rows) [])) b
+    ∙ ap (λ f. told_by replay long json workers f name (unwrap_or (all_of (codes "word") rows) [])) c
+    ∙ ap (λ ws. told_by replay long json workers flags name ws) d
 
 abbrev taken_by : List Row → Option Text → Option Command
 taken_by rows name = option_and_then (λ n. if tells (flags_in rows) n then told_found rows n else command_found rows) name

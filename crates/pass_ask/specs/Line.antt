@@ -13,6 +13,10 @@ json_rule = record (new_rule (codes "json")) { long = Some (codes "json"); actio
 abbrev pub replay_rule : Rule
 replay_rule = record (new_rule (codes "replay")) { long = Some (codes "replay"); action = Some SetTrue }
 
+-- --long
+abbrev pub long_rule : Rule
+long_rule = record (new_rule (codes "long")) { long = Some (codes "long"); action = Some SetTrue }
+
 -- --workers N
 abbrev pub workers_rule : Rule
 workers_rule = record (new_rule (codes "workers")) { long = Some (codes "workers"); action = Some Set }
@@ -44,4 +48,4 @@ abbrev pub telling_line : App → App
 telling_line line = with_rule (with_rule (with_rule line names_rule) data_rule) plain_rule
 
 unfoldable pub command_line : App
-command_line = with_rule (with_rule (telling_line (with_rule (with_rule (with_rule bare_line json_rule) replay_rule) workers_rule)) command_rule) words_rule
+command_line = with_rule (with_rule (telling_line (with_rule (with_rule (with_rule (with_rule bare_line json_rule) replay_rule) long_rule) workers_rule)) command_rule) words_rule

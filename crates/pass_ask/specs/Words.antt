@@ -13,6 +13,9 @@ use Rattle.pass_query.specs.declared.question.Query.{Query}
 use Rattle.pass_query.specs.declared.question.Query.TheVariants.{Ancestors, Descendants, Path, Named}
 use Rattle.pass_status.specs.declared.status.Status.{Status}
 use Rattle.pass_status.specs.declared.status.Status.TheVariants as status
+use Rattle.pass_trace.specs.declared.limits.Scale.{Scale}
+use Rattle.pass_trace.specs.declared.limits.Scale.TheVariants.{Usual, Long}
+use Rattle.pass_trace.specs.Limits.{most_lines}
 use Rattle.pass_trace.specs.Words.{is_text}
 use Rattle.pass_ask.specs.Line.{command_line}
 use Rattle.pass_ask.specs.Numbers.{number_in, node_in, seed_in}
@@ -33,19 +36,24 @@ abbrev pub workers_in : Option Text → Option ℕ
 workers_in None = Some 4
 workers_in (Some word) = number_in 1 64 word
 
+-- how large a trace is, by whether --long is given
+abbrev pub scale_by : Bool → Scale
+scale_by true = Long
+scale_by false = Usual
+
 -- run, --workers N
-abbrev pub run_in : Bool → Option Text → List Text → Option Command
-run_in false workers [] = option_map Run (workers_in workers)
-run_in _ _ _ = None
+abbrev pub run_in : Scale → Bool → Option Text → List Text → Option Command
+run_in scale false workers [] = option_map (Run scale) (workers_in workers)
+run_in _ _ _ _ = None
 
 abbrev pub gen_of : Option ℕ → Option ℕ → Option ℕ → Option Command
 gen_of (Some workers) (Some number) (Some lines) = Some (Gen workers number lines)
 gen_of _ _ _ = None
 
--- gen NUMBER LINES, --workers N: a trace has 15 to 100,000 lines
-abbrev pub gen_in : Bool → Option Text → List Text → Option Command
-gen_in false workers (number ∷ lines ∷ []) = gen_of (workers_in workers) (seed_in number) (number_in 15 100000 lines)
-gen_in _ _ _ = None
+-- gen NUMBER LINES, --workers N: a trace has 15 lines, and up to as many as its scale allows
+abbrev pub gen_in : Scale → Bool → Option Text → List Text → Option Command
+gen_in scale false workers (number ∷ lines ∷ []) = gen_of (workers_in workers) (seed_in number) (number_in 15 (most_lines scale) lines)
+gen_in _ _ _ _ = None
 
 -- check, questions and follow, which take no further word
 abbrev pub alone_in : Command → Bool → Option Text → List Text → Option Command
@@ -109,16 +117,17 @@ graph_in json name words =
     if is_text name (codes "recipe") then recipe_in json words
     else option_map (λ query. Lineage query (form_of json)) (query_in name words)
 
--- run --replay, which goes with nothing else
-abbrev pub replay_in : Bool → Option Text → Text → List Text → Option Command
-replay_in json workers name words = if is_text name (codes "run") then alone_in Replay json workers words else None
+-- run --replay, which goes with nothing else but --long
+abbrev pub replay_in : Scale → Bool → Option Text → Text → List Text → Option Command
+replay_in scale json workers name words = if is_text name (codes "run") then alone_in (Replay scale) json workers words else None
 
--- The command without --replay by whether --json is given, what --workers gives, COMMAND and its words. --workers goes with run and gen alone,
--- --json with the queries and with many of them.
-abbrev pub command_in : Bool → Option Text → Text → List Text → Option Command
-command_in json workers name words =
-    if is_text name (codes "run") then run_in json workers words
-    else if is_text name (codes "gen") then gen_in json workers words
+-- The command without --replay by whether --long and --json are given, what --workers gives, COMMAND and its words. --long and --workers
+-- go with run and gen alone, --json with the queries and with many of them.
+abbrev pub command_in : Bool → Bool → Option Text → Text → List Text → Option Command
+command_in long json workers name words =
+    if is_text name (codes "run") then run_in (scale_by long) json workers words
+    else if is_text name (codes "gen") then gen_in (scale_by long) json workers words
+    else if long then None
     else if is_text name (codes "check") then alone_in (Ask Check) json workers words
     else if is_text name (codes "questions") then alone_in (Questions json) false workers words
     else if is_text name (codes "follow") then alone_in Follow json workers words
@@ -127,10 +136,10 @@ command_in json workers name words =
     else if is_text name (codes "match") then option_map Ask (match_in json words)
     else option_map (λ q. Ask (Graph q)) (graph_in json name words)
 
--- the command by whether --replay is given
-abbrev pub command_by : Bool → Bool → Option Text → Text → List Text → Option Command
-command_by true json workers name words = replay_in json workers name words
-command_by false json workers name words = command_in json workers name words
+-- the command by whether --replay and --long are given
+abbrev pub command_by : Bool → Bool → Bool → Option Text → Text → List Text → Option Command
+command_by true long json workers name words = replay_in (scale_by long) json workers name words
+command_by false long json workers name words = command_in long json workers name words
 
 -- a flag that was given has the value true
 abbrev pub is_set : Option Text → Bool
@@ -138,7 +147,7 @@ is_set value = option_map_or (λ text. is_text text (codes "true")) value false
 
 -- what the command line found
 abbrev pub command_found : List Row → Option Command
-command_found rows = option_and_then (λ name. command_by (is_set (first_of (codes "replay") rows)) (is_set (first_of (codes "json") rows)) (first_of (codes "workers") rows) name
+command_found rows = option_and_then (λ name. command_by (is_set (first_of (codes "replay") rows)) (is_set (first_of (codes "long") rows)) (is_set (first_of (codes "json") rows)) (first_of (codes "workers") rows) name
     (unwrap_or (all_of (codes "word") rows) [])) (first_of (codes "command") rows)
 
 abbrev pub unless_fault : {X : Type 0} → Kinds → Option X → Option X
@@ -149,12 +158,12 @@ unless_fault (kind ∷ kinds) found = None
 abbrev pub flags_in : List Row → Flags
 flags_in rows = record { names = is_set (first_of (codes "names") rows); flows = is_set (first_of (codes "data") rows); plain = is_set (first_of (codes "plain") rows) }
 
--- a question about names, with which --replay and --workers don't go
-abbrev pub told_in : Bool → Bool → Option Text → Flags → Text → List Text → Option Command
-told_in replay json workers flags name words = if replay || is_some workers then None else option_map (λ q. Ask (Graph (Told q (form_of json)))) (inquiry_in flags name words)
+-- a question about names, with which --replay, --long and --workers don't go
+abbrev pub told_in : Bool → Bool → Bool → Option Text → Flags → Text → List Text → Option Command
+told_in replay long json workers flags name words = if replay || (long || is_some workers) then None else option_map (λ q. Ask (Graph (Told q (form_of json)))) (inquiry_in flags name words)
 
 abbrev pub told_found : List Row → Text → Option Command
-told_found rows name = told_in (is_set (first_of (codes "replay") rows)) (is_set (first_of (codes "json") rows)) (first_of (codes "workers") rows) (flags_in rows) name (unwrap_or (all_of (codes "word") rows) [])
+told_found rows name = told_in (is_set (first_of (codes "replay") rows)) (is_set (first_of (codes "long") rows)) (is_set (first_of (codes "json") rows)) (first_of (codes "workers") rows) (flags_in rows) name (unwrap_or (all_of (codes "word") rows) [])
 
 -- what the command line found, where it may ask about names
 abbrev pub taken : List Row → Option Command
@@ -165,7 +174,7 @@ unfoldable pub command_of : List Text → Option Command
 command_of words = unless_fault (fault_of command_line words) (taken (matches_of command_line words))
 
 abbrev pub is_replay_command : Command → Bool
-is_replay_command Replay = true
+is_replay_command (Replay scale) = true
 is_replay_command _ = false
 
 -- the words are those of run --replay
@@ -173,13 +182,22 @@ abbrev pub is_replay : List Text → Bool
 is_replay words = option_map_or is_replay_command (command_of words) false
 
 abbrev pub is_run_command : Command → Bool
-is_run_command (Run workers) = true
-is_run_command Replay = true
+is_run_command (Run scale workers) = true
+is_run_command (Replay scale) = true
 is_run_command _ = false
 
 -- the words are those of run, in whatever order
 abbrev pub is_run : List Text → Bool
 is_run words = option_map_or is_run_command (command_of words) false
+
+abbrev pub scale_in : Command → Scale
+scale_in (Run scale workers) = scale
+scale_in (Replay scale) = scale
+scale_in _ = Usual
+
+-- how large a trace the words run
+abbrev pub scale_of : List Text → Scale
+scale_of words = option_map_or scale_in (command_of words) Usual
 
 -- what a command draws: a number and how many lines
 abbrev pub drawn_by : Command → Option (ℕ × ℕ)
@@ -237,6 +255,6 @@ Reads (Err status.NoMemory) read = Unit {0}
 Reads (Err _) read = ⊥
 
 abbrev pub HasWorkers : Command → Type 0
-HasWorkers (Run workers) = (1 ≤ workers) × (workers ≤ 64)
-HasWorkers (Gen workers number lines) = (1 ≤ workers) × (workers ≤ 64) × (15 ≤ lines) × (lines ≤ 100000)
+HasWorkers (Run scale workers) = (1 ≤ workers) × (workers ≤ 64)
+HasWorkers (Gen workers number lines) = (1 ≤ workers) × (workers ≤ 64) × (15 ≤ lines) × (lines ≤ most_lines Long)
 HasWorkers _ = Unit {0}

@@ -55,7 +55,7 @@ pub(crate) fn question_in(command: Result<Command, Status>) -> Result<Question, 
         Ok(Command::Ask(question)) => Ok(question),
         Ok(
             Command::Run { .. }
-            | Command::Replay
+            | Command::Replay { .. }
             | Command::Gen { .. }
             | Command::Questions { .. }
             | Command::Follow,

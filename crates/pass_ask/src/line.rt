@@ -1,7 +1,7 @@
 //! The command line of the program.
 ghost use Rattle.std.specs.Prelude.{◌≡◌, IfOk, false};
 ghost use Rattle.clap.specs.Words.{app_of, rule_of};
-ghost use Rattle.pass_ask.specs.Line.{bare_line, command_line, json_rule, replay_rule, workers_rule, names_rule, data_rule, plain_rule, telling_line, command_rule, words_rule};
+ghost use Rattle.pass_ask.specs.Line.{bare_line, command_line, json_rule, replay_rule, long_rule, workers_rule, names_rule, data_rule, plain_rule, telling_line, command_rule, words_rule};
 
 use clap::{Arg, ArgAction, Command};
 use std::alloc::{AllocError, Global};
@@ -23,6 +23,16 @@ fn replay<'a>(alloc: Global) -> Arg<'a>
 {
     Arg::new(alloc, "replay")
         .long("replay")
+        .action(ArgAction::SetTrue)
+}
+
+// The flag `--long`.
+fn long<'a>(alloc: Global) -> Arg<'a>
+    ensures rule { rule_of result ≡ long_rule }
+    ensures local { result.global ≡ false }
+{
+    Arg::new(alloc, "long")
+        .long("long")
         .action(ArgAction::SetTrue)
 }
 
@@ -102,13 +112,14 @@ fn bare_line<'a>(alloc: Global) -> Command<'a>
         .disable_version_flag(true)
 }
 
-/// The command line: `[--json] [--replay] [--workers N] [--names] [--data] [--plain] COMMAND [WORD]..`.
+/// The command line: `[--json] [--replay] [--long] [--workers N] [--names] [--data] [--plain] COMMAND [WORD]..`.
 pub fn command_line<'a>(alloc: Global) -> Result<Command<'a>, AllocError>
     ensures { IfOk result (λ line. app_of line ≡ command_line) }
 {
     let flagged = bare_line(alloc).arg(json(alloc))?;
     let ordered = flagged.arg(replay(alloc))?;
-    let optional = ordered.arg(workers(alloc))?;
+    let sized = ordered.arg(long(alloc))?;
+    let optional = sized.arg(workers(alloc))?;
     let flags = telling(alloc, optional)?;
     let named = flags.arg(command(alloc))?;
     let whole = named.arg(words(alloc))?;

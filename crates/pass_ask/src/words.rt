@@ -1,7 +1,8 @@
 //! The commands of the program, and how its words name them.
 ghost use Rattle.std.specs.Prelude.{◌≡◌, ◌≢◌, ◌⊎◌, ◌≤◌, Option, IfOk, IfSome, map, option_map, string_bytes};
 ghost use Rattle.clap.specs.Words.{found_of, kind_of, rows_of};
-ghost use Rattle.pass_ask.specs.Words.{Reads, HasWorkers, alone_in, command_by, command_found, command_in, replay_in, command_of, flags_in, form_of, gen_in, gen_of, graph_in, match_in, match_of, is_set, path_on, query_in, query_on, name_in, recipe_in, run_in, send_in, last_place, taken, told_found, told_in, workers_in, writes};
+ghost use Rattle.pass_ask.specs.Words.{Reads, HasWorkers, alone_in, command_by, command_found, command_in, replay_in, scale_by, command_of, flags_in, form_of, gen_in, gen_of, graph_in, match_in, match_of, is_set, path_on, query_in, query_on, name_in, recipe_in, run_in, send_in, last_place, taken, told_found, told_in, workers_in, writes};
+ghost use Rattle.pass_trace.specs.Limits.{most_lines};
 ghost use Rattle.pass_ask.specs.Numbers.{node_in, number_in, seed_in};
 ghost use Rattle.pass_query.specs.declared.question.Query.{Query};
 ghost use Rattle.pass_ask.specs.declared.words.GraphQuestion.{GraphQuestion};
@@ -19,6 +20,7 @@ use pass_entry::{Node, Text, TextFault};
 use pass_files::{Inquiry, Spelled};
 use pass_query::{Form, Query};
 use pass_status::Status;
+use pass_trace::Scale;
 use pass_view::Table;
 use std::alloc::{AllocError, Global};
 
@@ -28,10 +30,8 @@ const WORKERS: u32 = 4;
 /// How many workers may take turns.
 const MOST_WORKERS: u64 = 64;
 
-/// The fewest and the most lines of a trace that is drawn.
+/// The fewest lines of a trace that is drawn.
 const LEAST_LINES: u64 = 15;
-
-const MOST_LINES: u64 = 100_000;
 
 /// The greatest number of 19 digits: no longer one is read.
 const LAST_PLACE: u64 = 9_999_999_999_999_999_999;
@@ -83,12 +83,15 @@ pub enum Question {
 /// What the program's words ask for.
 #[derive(Drop)]
 pub enum Command {
-    /// To run the trace of the source.
+    /// To run the trace of the source, of this scale.
     Run {
+        scale: Scale,
         workers: u32,
     },
-    /// To run the trace of the source in the order of its lines.
-    Replay,
+    /// To run the trace of the source, of this scale, in the order of its lines.
+    Replay {
+        scale: Scale,
+    },
     /// To run the trace that a number draws, with so many lines.
     Gen {
         workers: u32,
@@ -111,9 +114,8 @@ pub fn writes(alloc: Global, words: &[String]) -> Result<bool, AllocError>
 {
     match read_words(alloc, words) {
         Ok(Command::Ask(_) | Command::Questions { .. }) => Ok(false),
-        Ok(Command::Run { .. } | Command::Replay | Command::Gen { .. } | Command::Follow) => Ok(
-            true,
-        ),
+        Ok(Command::Run { .. } | Command::Replay { .. } | Command::Gen { .. } | Command::Follow) =>
+            Ok(true),
         Err(Status::BadWords) => Ok(false),
         Err(_) => Err(AllocError),
     }
@@ -176,28 +178,30 @@ fn told_found(alloc: Global, matches: &ArgMatches<'_>, name: &[u8]) -> Result<Co
     ensures workers { IfOk result HasWorkers }
 {
     let replay = is_set(matches.get_str("replay"));
+    let long = is_set(matches.get_str("long"));
     let json = is_set(matches.get_str("json"));
     let workers = matches.get_str("workers");
     let flags = flags_in(matches);
     match matches.get_strs("word") {
-        Some(words) => told_in(alloc, replay, json, workers, flags, name, words),
-        None => told_in(alloc, replay, json, workers, flags, name, &[]),
+        Some(words) => told_in(alloc, replay, long, json, workers, flags, name, words),
+        None => told_in(alloc, replay, long, json, workers, flags, name, &[]),
     }
 }
 
 fn told_in(
     alloc: Global,
     replay: bool,
+    long: bool,
     json: bool,
     workers: Option<&str>,
     flags: Flags,
     name: &[u8],
     words: &[&str],
 ) -> Result<Command, Status>
-    ensures command { Reads result (told_in replay json (option_map (λ w. w.now) workers.entry) flags name.now (map (λ w. w.now) words.now)) }
+    ensures command { Reads result (told_in replay long json (option_map (λ w. w.now) workers.entry) flags name.now (map (λ w. w.now) words.now)) }
     ensures workers { IfOk result HasWorkers }
 {
-    if replay || workers.is_some() {
+    if replay || long || workers.is_some() {
         return Err(Status::BadWords);
     }
     match inquiry_in(alloc, flags, name, words) {
@@ -218,11 +222,12 @@ fn command_found(alloc: Global, matches: &ArgMatches<'_>) -> Result<Command, Sta
         return Err(Status::BadWords);
     };
     let replay = is_set(matches.get_str("replay"));
+    let long = is_set(matches.get_str("long"));
     let json = is_set(matches.get_str("json"));
     let workers = matches.get_str("workers");
     match matches.get_strs("word") {
-        Some(words) => command_by(alloc, replay, json, workers, name.as_bytes(), words),
-        None => command_by(alloc, replay, json, workers, name.as_bytes(), &[]),
+        Some(words) => command_by(alloc, replay, long, json, workers, name.as_bytes(), words),
+        None => command_by(alloc, replay, long, json, workers, name.as_bytes(), &[]),
     }
 }
 
@@ -240,47 +245,65 @@ fn is_set(value: Option<&str>) -> bool
 fn command_by(
     alloc: Global,
     replay: bool,
+    long: bool,
     json: bool,
     workers: Option<&str>,
     name: &[u8],
     words: &[&str],
 ) -> Result<Command, Status>
-    ensures command { Reads result (command_by replay json (option_map (λ w. w.now) workers.entry) name.now (map (λ w. w.now) words.now)) }
+    ensures command { Reads result (command_by replay long json (option_map (λ w. w.now) workers.entry) name.now (map (λ w. w.now) words.now)) }
     ensures workers { IfOk result HasWorkers }
 {
     if replay {
-        return or_bad(replay_in(json, workers, name, words));
+        return or_bad(replay_in(scale_by(long), json, workers, name, words));
     }
-    command_in(alloc, json, workers, name, words)
+    command_in(alloc, long, json, workers, name, words)
 }
 
-// The run in the order of the lines, with which nothing else goes.
-fn replay_in(json: bool, workers: Option<&str>, name: &[u8], words: &[&str]) -> Option<Command>
-    ensures command { result ≡ replay_in json (option_map (λ w. w.now) workers.entry) name.now (map (λ w. w.now) words.now) }
+// How large a trace is, by whether `--long` is given.
+fn scale_by(long: bool) -> Scale
+    ensures { result ≡ scale_by long }
+{
+    if long { Scale::Long } else { Scale::Usual }
+}
+
+// The run in the order of the lines, with which nothing else goes but `--long`.
+fn replay_in(
+    scale: Scale,
+    json: bool,
+    workers: Option<&str>,
+    name: &[u8],
+    words: &[&str],
+) -> Option<Command>
+    ensures command { result ≡ replay_in scale json (option_map (λ w. w.now) workers.entry) name.now (map (λ w. w.now) words.now) }
     ensures workers { IfSome result HasWorkers }
 {
     if name != b"run".as_slice() {
         return None;
     }
-    alone_in(Command::Replay, json, workers, words)
+    alone_in(Command::Replay { scale }, json, workers, words)
 }
 
 // The command without `--replay`.
 fn command_in(
     alloc: Global,
+    long: bool,
     json: bool,
     workers: Option<&str>,
     name: &[u8],
     words: &[&str],
 ) -> Result<Command, Status>
-    ensures command { Reads result (command_in json (option_map (λ w. w.now) workers.entry) name.now (map (λ w. w.now) words.now)) }
+    ensures command { Reads result (command_in long json (option_map (λ w. w.now) workers.entry) name.now (map (λ w. w.now) words.now)) }
     ensures workers { IfOk result HasWorkers }
 {
     if name == b"run".as_slice() {
-        return or_bad(run_in(json, workers, words));
+        return or_bad(run_in(scale_by(long), json, workers, words));
     }
     if name == b"gen".as_slice() {
-        return or_bad(gen_in(json, workers, words));
+        return or_bad(gen_in(scale_by(long), json, workers, words));
+    }
+    if long {
+        return Err(Status::BadWords);
     }
     if name == b"check".as_slice() {
         return or_bad(alone_in(Command::Ask(Question::Check), json, workers, words));
@@ -326,20 +349,20 @@ fn or_bad(command: Option<Command>) -> Result<Command, Status>
     }
 }
 
-fn run_in(json: bool, workers: Option<&str>, words: &[&str]) -> Option<Command>
-    ensures command { result ≡ run_in json (option_map (λ w. w.now) workers.entry) (map (λ w. w.now) words.now) }
+fn run_in(scale: Scale, json: bool, workers: Option<&str>, words: &[&str]) -> Option<Command>
+    ensures command { result ≡ run_in scale json (option_map (λ w. w.now) workers.entry) (map (λ w. w.now) words.now) }
     ensures workers { IfSome result HasWorkers }
 {
     if json || !words.is_empty() {
         return None;
     }
     let workers = workers_in(workers)?;
-    Some(Command::Run { workers })
+    Some(Command::Run { scale, workers })
 }
 
 #[tactic(auto, using(crate::proofs::Listed::drawn_too_short, crate::proofs::Listed::drawn_too_long))]
-fn gen_in(json: bool, workers: Option<&str>, words: &[&str]) -> Option<Command>
-    ensures command { result ≡ gen_in json (option_map (λ w. w.now) workers.entry) (map (λ w. w.now) words.now) }
+fn gen_in(scale: Scale, json: bool, workers: Option<&str>, words: &[&str]) -> Option<Command>
+    ensures command { result ≡ gen_in scale json (option_map (λ w. w.now) workers.entry) (map (λ w. w.now) words.now) }
     ensures workers { IfSome result HasWorkers }
 {
     if json {
@@ -348,18 +371,18 @@ fn gen_in(json: bool, workers: Option<&str>, words: &[&str]) -> Option<Command>
     match words {
         [] => None,
         [_] => None,
-        [number, lines] => gen_of(workers, number.as_bytes(), lines.as_bytes()),
+        [number, lines] => gen_of(scale, workers, number.as_bytes(), lines.as_bytes()),
         [_, _, _, ..] => None,
     }
 }
 
-fn gen_of(workers: Option<&str>, number: &[u8], lines: &[u8]) -> Option<Command>
-    ensures command { result ≡ gen_of (workers_in (option_map (λ w. w.now) workers.entry)) (seed_in number.now) (number_in 15 100000 lines.now) }
+fn gen_of(scale: Scale, workers: Option<&str>, number: &[u8], lines: &[u8]) -> Option<Command>
+    ensures command { result ≡ gen_of (workers_in (option_map (λ w. w.now) workers.entry)) (seed_in number.now) (number_in 15 (most_lines scale) lines.now) }
     ensures workers { IfSome result HasWorkers }
 {
     let workers = workers_in(workers)?;
     let number = seed_in(number)?;
-    let lines = number_in(lines, LEAST_LINES, MOST_LINES)?;
+    let lines = number_in(lines, LEAST_LINES, u64::from(scale.most_lines()))?;
     Some(Command::Gen {
         workers,
         number,

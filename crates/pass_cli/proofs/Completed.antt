@@ -2,6 +2,7 @@
 use Rattle.std.proofs.Common.{◌≡◌, ◌∙◌, ℕ, List, refl, sym, ap, subst, arith, ⊎_elim}
 use Rattle.std.specs.Prelude.{◌≢◌, ◌++◌, None, IsTrue}
 use Rattle.pass_outside.specs.Moments.{Moment, IsAtEnd}
+use Rattle.pass_trace.specs.declared.limits.Scale.{Scale}
 use Rattle.pass_status.specs.declared.status.Status.{Status}
 use Rattle.pass_status.specs.declared.status.Status.TheVariants as status
 use Rattle.pass_run.specs.Stored.{session_fault, IsEnd}
@@ -14,8 +15,8 @@ report_of_end status.Done report is = refl
 report_of_end status.Stuck report is = refl
 report_of_end _ report is = absurd is
 
-module _ {D : Type 0} (view : D → Moment) (source : SourceSeen) (sink : SinkSeen) (old new : D) (out : Outcome) (answered : Status)
-    (a : IsAnswer view source sink old new out answered) (traced : IsTraced a.bytes source.before source.after)
+module _ {D : Type 0} (view : D → Moment) (scale : Scale) (source : SourceSeen) (sink : SinkSeen) (old new : D) (out : Outcome) (answered : Status)
+    (a : IsAnswer view scale source sink old new out answered) (traced : IsTraced scale a.bytes source.before source.after)
     (same : (view new).faults ≡ (view old).faults) (more : ¬ (IsAtEnd (view new))) (clean : session_fault a.by.log ≡ None) (taken : answered ≢ status.WriteFault) where
   no_fault : IsNoDiskFault a.judged
   no_fault opened now is =

@@ -8,6 +8,7 @@ use Rattle.pass_run.specs.Ends.{EndsAs}
 use Rattle.pass_run.specs.Stored.{session_fault, IsEnd, HasEnded}
 use Rattle.pass_status.specs.declared.status.Status.{Status}
 use Rattle.pass_status.specs.declared.status.Status.TheVariants as status
+use Rattle.pass_trace.specs.declared.limits.Scale.TheVariants.{Long}
 use Rattle.pass_trace.specs.TraceLines.{session_of_trace, plain_trace}
 use Rattle.pass_trace.specs.Traces.{trace_of}
 use Rattle.pass_trace.specs.declared.trace.TraceLine.{TraceLine}
@@ -38,8 +39,8 @@ only_done status.Stuck ends is = let z : false ≡ true = ends in absurd (cc)
 only_done _ ends is = absurd is
 
 module _ {D : Type 0} (view : D → Moment) (number lines : ℕ) (least : 15 ≤ lines) (old new : D) (out : Outcome) (judged : Status) (report : List ℕ)
-    (run : HasRun view (drawn_bytes number lines) 0 0 old new out judged report) (same : generated number lines ≡ trace_of (drawn_bytes number lines)) (never : NeverStuckLaw)
-    (traced : IsTraced (drawn_bytes number lines) 0 0) where
+    (run : HasRun view Long (drawn_bytes number lines) 0 0 old new out judged report) (same : generated number lines ≡ trace_of (drawn_bytes number lines)) (never : NeverStuckLaw)
+    (traced : IsTraced Long (drawn_bytes number lines) 0 0) where
   ended : IsEnd judged → HasEnded (view old).calls (view old) (view new) (generated number lines) out.list out.start out.history out.syncs judged report
   ended end = subst (λ (ls : List TraceLine). HasEnded (view old).calls (view old) (view new) ls out.list out.start out.history out.syncs judged report) (sym same) (run.whole end)
 
@@ -52,7 +53,7 @@ module _ {D : Type 0} (view : D → Moment) (number lines : ℕ) (least : 15 ≤
 
   ends : ends_drawn judged ≡ true
   ends = ends_so judged run.by.no_other (λ is. still (run.by.read_fault.0 is))
-      (λ line reason is. not_text-from_fault (drawn_bytes number lines) line reason ((run.by.bad_trace line reason).0 is).1 traced.text) never_stuck
+      (λ line reason is. not_text-from_fault Long (drawn_bytes number lines) line reason ((run.by.bad_trace line reason).0 is).1 traced.text) never_stuck
 
   done_exactly : judged ≡ status.Done ↔ (IsNoDiskFault judged × (session_fault run.log ≡ None))
   done_exactly = (

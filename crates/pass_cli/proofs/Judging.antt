@@ -6,6 +6,7 @@ use Rattle.pass_outside.specs.Faults.{HasRisen}
 use Rattle.pass_outside.specs.Moments.{Moment}
 use Rattle.pass_recover.specs.declared.fault.OpenFault.{OpenFault}
 use Rattle.pass_recover.specs.Faults.{LogHas}
+use Rattle.pass_trace.specs.declared.limits.Scale.{Scale}
 use Rattle.pass_trace.specs.declared.trace.Trace.{Trace}
 use Rattle.pass_trace.specs.declared.trace.TraceLine.{TraceLine}
 use Rattle.pass_trace.specs.declared.trace.TraceReason.{TraceReason}
@@ -24,29 +25,29 @@ use Rattle.pass_entry.proofs.Lists.{some_is}
 -- what was read of a source
 
 -- a text that is a trace was read to its end
-pub trace_read : (tells : Bool) (text left rest : List ℕ) (before after : ℕ) (trace : Trace) → ¬ HasRisen before after
-    → (IsTrue tells → left ≡ text ++ rest) → (IsTrue tells → is_too_long text ≡ false → rest ≡ []) → IsTraceText text → trace.lines.items ≡ trace_of text
-    → OfBytes tells left (λ bytes. IsTraceRead bytes before after (Ok trace))
-trace_read tells text left rest before after trace unfailed front whole is same =
-    (text, λ t. sym (front t ∙ ap (λ (r : List ℕ). text ++ r) (whole t (short (is_too_long text) refl)) ∙ append-nil text), (record { unfailed = unfailed; text = is }, same))
+pub trace_read : (scale : Scale) (tells : Bool) (text left rest : List ℕ) (before after : ℕ) (trace : Trace) → ¬ HasRisen before after
+    → (IsTrue tells → left ≡ text ++ rest) → (IsTrue tells → is_too_long scale text ≡ false → rest ≡ []) → IsTraceText scale text → trace.lines.items ≡ trace_of text
+    → OfBytes tells left (λ bytes. IsTraceRead scale bytes before after (Ok trace))
+trace_read scale tells text left rest before after trace unfailed front whole is same =
+    (text, λ t. sym (front t ∙ ap (λ (r : List ℕ). text ++ r) (whole t (short (is_too_long scale text) refl)) ∙ append-nil text), (record { unfailed = unfailed; text = is }, same))
   where
-    short : (long : Bool) → is_too_long text ≡ long → is_too_long text ≡ false
-    short true long = absurd (too_long_is_none text long is)
+    short : (long : Bool) → is_too_long scale text ≡ long → is_too_long scale text ≡ false
+    short true long = absurd (too_long_is_none scale text long is)
     short false long = long
 
 -- the first fault of what was read is that of all bytes
-fault_goes : (text rest : List ℕ) (line : ℕ) (why : TraceReason) (long : Bool) → is_too_long text ≡ long → (is_too_long text ≡ false → rest ≡ []) → IsFirstFault text line why
-    → IsFirstFault (text ++ rest) line why
-fault_goes text rest line why true long none first = too_long_stays text rest long line why first
-fault_goes text rest line why false short none first =
-    subst (λ (t : List ℕ). IsFirstFault t line why) (sym (ap (λ (r : List ℕ). text ++ r) (none short) ∙ append-nil text)) first
+fault_goes : (scale : Scale) (text rest : List ℕ) (line : ℕ) (why : TraceReason) (long : Bool) → is_too_long scale text ≡ long → (is_too_long scale text ≡ false → rest ≡ []) → IsFirstFault scale text line why
+    → IsFirstFault scale (text ++ rest) line why
+fault_goes scale text rest line why true long none first = too_long_stays scale text rest long line why first
+fault_goes scale text rest line why false short none first =
+    subst (λ (t : List ℕ). IsFirstFault scale t line why) (sym (ap (λ (r : List ℕ). text ++ r) (none short) ∙ append-nil text)) first
 
-pub fault_read : (tells : Bool) (text left rest : List ℕ) (before after line : ℕ) (why : TraceReason) → ¬ HasRisen before after
-    → (IsTrue tells → left ≡ text ++ rest) → (IsTrue tells → is_too_long text ≡ false → rest ≡ []) → IsFirstFault text line why
-    → OfBytes tells left (λ bytes. IsTraceRead bytes before after (Err (status.BadTrace line why)))
-fault_read false text left rest before after line why unfailed front whole first = (text, λ t. absurd (cc), (unfailed, first))
-fault_read true text left rest before after line why unfailed front whole first =
-    (text ++ rest, λ t. sym (front t), (unfailed, fault_goes text rest line why (is_too_long text) refl (whole refl) first))
+pub fault_read : (scale : Scale) (tells : Bool) (text left rest : List ℕ) (before after line : ℕ) (why : TraceReason) → ¬ HasRisen before after
+    → (IsTrue tells → left ≡ text ++ rest) → (IsTrue tells → is_too_long scale text ≡ false → rest ≡ []) → IsFirstFault scale text line why
+    → OfBytes tells left (λ bytes. IsTraceRead scale bytes before after (Err (status.BadTrace line why)))
+fault_read scale false text left rest before after line why unfailed front whole first = (text, λ t. absurd (cc), (unfailed, first))
+fault_read scale true text left rest before after line why unfailed front whole first =
+    (text ++ rest, λ t. sym (front t), (unfailed, fault_goes scale text rest line why (is_too_long scale text) refl (whole refl) first))
 
 -- small facts
 
@@ -61,11 +62,11 @@ now_is a b opened now same = cc
 
 -- what is judged without a run
 
-module _ (bytes : List ℕ) (before after : ℕ) (log : List ℕ) (m : Moment) where
+module _ (scale : Scale) (bytes : List ℕ) (before after : ℕ) (log : List ℕ) (m : Moment) where
   abbrev Refused : Status → Type 0
-  Refused judged = IsRunJudged bytes before after log m m judged
+  Refused judged = IsRunJudged scale bytes before after log m m judged
 
-  pub refusal_judged : (judged : Status) → judged ≢ status.NoMemory → IsRefusal bytes before after judged → Refused judged
+  pub refusal_judged : (judged : Status) → judged ≢ status.NoMemory → IsRefusal scale bytes before after judged → Refused judged
   refusal_judged status.ReadFault known rose = record {
     read_fault = (λ is. rose, λ is. refl);
     bad_trace = λ line why. (λ is. absurd (cc), λ is. absurd (is.0 rose));
@@ -79,21 +80,21 @@ module _ (bytes : List ℕ) (before after : ℕ) (log : List ℕ) (m : Moment) w
     read_fault = (λ is. absurd (cc), λ is. absurd (unfailed is));
     bad_trace = λ other another. (λ is. (unfailed, moved other another is), λ is. same other another is.1);
     disk_fault = λ opened now is. absurd (cc);
-    unhidden = λ runs risen. absurd (not_text-from_fault bytes line why first runs.text);
-    bad_store = λ fault. (λ is. absurd (cc), λ is. absurd (not_text-from_fault bytes line why first is.0.text));
-    ended = (λ is. absurd is, λ is. absurd (not_text-from_fault bytes line why first is.0.text));
+    unhidden = λ runs risen. absurd (not_text-from_fault scale bytes line why first runs.text);
+    bad_store = λ fault. (λ is. absurd (cc), λ is. absurd (not_text-from_fault scale bytes line why first is.0.text));
+    ended = (λ is. absurd is, λ is. absurd (not_text-from_fault scale bytes line why first is.0.text));
     no_other = refl;
   }
     where
-      moved : (other : ℕ) (another : TraceReason) → status.BadTrace line why ≡ status.BadTrace other another → IsFirstFault bytes other another
+      moved : (other : ℕ) (another : TraceReason) → status.BadTrace line why ≡ status.BadTrace other another → IsFirstFault scale bytes other another
       moved other another is =
           let place : line ≡ other = cc in
           let reason : why ≡ another = cc in
-          subst (λ (r : TraceReason). IsFirstFault bytes other r) reason (subst (λ n. IsFirstFault bytes n why) place first)
+          subst (λ (r : TraceReason). IsFirstFault scale bytes other r) reason (subst (λ n. IsFirstFault scale bytes n why) place first)
 
-      same : (other : ℕ) (another : TraceReason) → IsFirstFault bytes other another → status.BadTrace line why ≡ status.BadTrace other another
+      same : (other : ℕ) (another : TraceReason) → IsFirstFault scale bytes other another → status.BadTrace line why ≡ status.BadTrace other another
       same other another is =
-          let both = same_fault bytes line other why another first is in
+          let both = same_fault scale bytes line other why another first is in
           ap (λ n. status.BadTrace n why) both.0 ∙ ap (λ (r : TraceReason). status.BadTrace other r) both.1
   refusal_judged status.NoMemory known is = absurd (known refl)
   refusal_judged _ known is = absurd is
@@ -106,19 +107,19 @@ pub still_unwritten : {D : Type 0} (view : D → Moment) (old new : D) → new �
 still_unwritten view old new same = subst (λ d. IsUnwritten (view old) (view d)) (sym same) (unwritten (view old))
 
 -- a refused run
-pub refusal_run : {D : Type 0} (view : D → Moment) (bytes : List ℕ) (before after : ℕ) (disk : D) (out : Outcome) (judged : Status) (report : List ℕ) → judged ≢ status.NoMemory
-    → IsRefusal bytes before after judged → IsNothing out → HasRun view bytes before after disk disk out judged report
-refusal_run view bytes before after disk out judged report known refusal nothing = record {
+pub refusal_run : (scale : Scale) {D : Type 0} (view : D → Moment) (bytes : List ℕ) (before after : ℕ) (disk : D) (out : Outcome) (judged : Status) (report : List ℕ) → judged ≢ status.NoMemory
+    → IsRefusal scale bytes before after judged → IsNothing out → HasRun view scale bytes before after disk disk out judged report
+refusal_run scale view bytes before after disk out judged report known refusal nothing = record {
   log = (view disk).seen.log;
   logged = λ tells. refl;
-  by = refusal_judged bytes before after (view disk).seen.log (view disk) judged known refusal;
+  by = refusal_judged scale bytes before after (view disk).seen.log (view disk) judged known refusal;
   untouched = λ stays. refl;
   refused = λ comes. alone;
   recorded = inl alone;
   whole = λ ends. absurd (no_end judged refusal ends);
 }
   where
-    no_end : (s : Status) → IsRefusal bytes before after s → IsEnd s → ⊥
+    no_end : (s : Status) → IsRefusal scale bytes before after s → IsEnd s → ⊥
     no_end status.Done is ends = is
     no_end status.Stuck is ends = is
     no_end _ is ends = ends
@@ -128,12 +129,12 @@ refusal_run view bytes before after disk out judged report known refusal nothing
 
 -- what is judged by a run
 
-module _ (bytes : List ℕ) (before after : ℕ) (old new : Moment) (traced : IsTraced bytes before after) where
+module _ (scale : Scale) (bytes : List ℕ) (before after : ℕ) (old new : Moment) (traced : IsTraced scale bytes before after) where
   abbrev Judged : List ℕ → Status → Type 0
-  Judged log judged = IsRunJudged bytes before after log old new judged
+  Judged log judged = IsRunJudged scale bytes before after log old new judged
 
-  no_fault : (line : ℕ) (why : TraceReason) → IsFirstFault bytes line why → ⊥
-  no_fault line why first = not_text-from_fault bytes line why first traced.text
+  no_fault : (line : ℕ) (why : TraceReason) → IsFirstFault scale bytes line why → ⊥
+  no_fault line why first = not_text-from_fault scale bytes line why first traced.text
 
   disk_judged : (log : List ℕ) (a b : ℕ) → HasFailed old new a b → Judged log (status.DiskFault a b)
   disk_judged log a b failed = record {
@@ -193,17 +194,17 @@ pub record Ran {D : Type 0} (view : D → Moment) (old new : D) (lines : List Tr
   pub ended : IsEnd judged → HasEnded (view old).calls (view old) (view new) lines out.list out.start out.history out.syncs judged report
 
 -- and what is judged by it
-module _ {D : Type 0} (view : D → Moment) (bytes : List ℕ) (before after : ℕ) (old new : D) (out : Outcome) (judged : Status) (report : List ℕ) (traced : IsTraced bytes before after)
+module _ (scale : Scale) {D : Type 0} (view : D → Moment) (bytes : List ℕ) (before after : ℕ) (old new : D) (out : Outcome) (judged : Status) (report : List ℕ) (traced : IsTraced scale bytes before after)
     (r : Ran view old new (trace_of bytes) out judged report) where
   abbrev Goal : Type 0
-  Goal = HasRun view bytes before after old new out judged report
+  Goal = HasRun view scale bytes before after old new out judged report
 
-  with_log : (log : List ℕ) → (IsTrue (view old).tells → log ≡ (view old).seen.log) → (s : Status) → judged ≡ s → IsRunJudged bytes before after log (view old) (view new) s
+  with_log : (log : List ℕ) → (IsTrue (view old).tells → log ≡ (view old).seen.log) → (s : Status) → judged ≡ s → IsRunJudged scale bytes before after log (view old) (view new) s
       → (comes_before s ≡ true → IsRefused (view old) (view new) judged out) → Goal
   with_log log logged s is by refused = record {
     log = log;
     logged = logged;
-    by = subst (λ (t : Status). IsRunJudged bytes before after log (view old) (view new) t) (sym is) by;
+    by = subst (λ (t : Status). IsRunJudged scale bytes before after log (view old) (view new) t) (sym is) by;
     untouched = λ stops. absurd (stops traced);
     refused = λ comes. refused (sym (ap comes_before is) ∙ comes);
     recorded = r.recorded;
@@ -213,24 +214,24 @@ module _ {D : Type 0} (view : D → Moment) (bytes : List ℕ) (before after : �
   of_store : (log : List ℕ) → (IsTrue (view old).tells → log ≡ (view old).seen.log) → (view new).faults ≡ (view old).faults → (found : Option OpenFault) → session_fault log ≡ found
       → IsStoreJudged found judged → Goal
   of_store log logged still (Some fault) has is =
-      with_log log logged (status.BadStore fault) is (store_judged bytes before after (view old) (view new) traced log fault still has) (λ comes. r.bad_store fault is)
+      with_log log logged (status.BadStore fault) is (store_judged scale bytes before after (view old) (view new) traced log fault still has) (λ comes. r.bad_store fault is)
   of_store log logged still None has (inl is) =
-      with_log log logged status.Done is (end_judged bytes before after (view old) (view new) traced log status.Done tt still has) (λ comes. absurd (cc))
+      with_log log logged status.Done is (end_judged scale bytes before after (view old) (view new) traced log status.Done tt still has) (λ comes. absurd (cc))
   of_store log logged still None has (inr is) =
-      with_log log logged status.Stuck is (end_judged bytes before after (view old) (view new) traced log status.Stuck tt still has) (λ comes. absurd (cc))
+      with_log log logged status.Stuck is (end_judged scale bytes before after (view old) (view new) traced log status.Stuck tt still has) (λ comes. absurd (cc))
 
   of_log : (IsOfDisk judged → ⊥) → Goal
   of_log not_disk = let (log, logged, is) = r.by_log not_disk in of_store log logged (r.no_fault not_disk) (session_fault log) refl is
 
   by_status : (s : Status) → judged ≡ s → Goal
   by_status (status.DiskFault a b) is =
-      with_log (view old).seen.log (λ tells. refl) (status.DiskFault a b) is (disk_judged bytes before after (view old) (view new) traced (view old).seen.log a b (r.disk_fault a b is)) (λ comes. absurd (cc))
+      with_log (view old).seen.log (λ tells. refl) (status.DiskFault a b) is (disk_judged scale bytes before after (view old) (view new) traced (view old).seen.log a b (r.disk_fault a b is)) (λ comes. absurd (cc))
   by_status _ is = of_log (λ disk. subst IsOfDisk is disk)
 
-pub ran_run : {D : Type 0} (view : D → Moment) (bytes : List ℕ) (before after : ℕ) (old new : D) (lines : List TraceLine) (out : Outcome) (judged : Status) (report : List ℕ)
-    → IsTraced bytes before after → lines ≡ trace_of bytes → Ran view old new lines out judged report → HasRun view bytes before after old new out judged report
-ran_run view bytes before after old new lines out judged report traced same ran =
-    by_status view bytes before after old new out judged report traced (subst (λ (ls : List TraceLine). Ran view old new ls out judged report) same ran) judged refl
+pub ran_run : (scale : Scale) {D : Type 0} (view : D → Moment) (bytes : List ℕ) (before after : ℕ) (old new : D) (lines : List TraceLine) (out : Outcome) (judged : Status) (report : List ℕ)
+    → IsTraced scale bytes before after → lines ≡ trace_of bytes → Ran view old new lines out judged report → HasRun view scale bytes before after old new out judged report
+ran_run scale view bytes before after old new lines out judged report traced same ran =
+    by_status scale view bytes before after old new out judged report traced (subst (λ (ls : List TraceLine). Ran view old new ls out judged report) same ran) judged refl
 
 -- a status that a run may end with isn't one of the sink
 pub no_write : (s : Status) → ends_run s ≡ true → s ≢ status.WriteFault

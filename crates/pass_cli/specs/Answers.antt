@@ -9,6 +9,7 @@ use Rattle.pass_plain.specs.declared.start.Start.{Start}
 use Rattle.pass_recover.specs.declared.fault.OpenFault.{OpenFault}
 use Rattle.pass_trace.specs.declared.trace.Trace.{Trace}
 use Rattle.pass_trace.specs.declared.trace.TraceReason.{TraceReason}
+use Rattle.pass_trace.specs.declared.limits.Scale.{Scale}
 use Rattle.pass_trace.specs.TraceLines.{objects_of}
 use Rattle.pass_trace.specs.Traces.{trace_of, IsTraceText, IsFirstFault}
 use Rattle.pass_run.specs.declared.ending.RunEnd.{RunEnd}
@@ -28,28 +29,28 @@ OfBytes tells left Holds = (bytes : List ℕ) × (IsTrue tells → bytes ≡ lef
 
 -- of what a source had left a text was read, and no more than its rest is left: nothing, unless the text is too long for a
 -- trace; and but for its last piece the text isn't
-pub record IsReadInTime (left rest : List ℕ) : Type 0 where
+pub record IsReadInTime (scale : Scale) (left rest : List ℕ) : Type 0 where
   pub text : List ℕ
   pub parts : left ≡ text ++ rest
-  pub whole : is_too_long text ≡ false → rest ≡ []
-  pub stops : StopsInTime text
+  pub whole : is_too_long scale text ≡ false → rest ≡ []
+  pub stops : StopsInTime scale text
 
--- the source didn't fail, and its bytes are the text of a trace
-pub record IsTraced (bytes : List ℕ) (before after : ℕ) : Type 0 where
+-- the source didn't fail, and its bytes are the text of a trace of this scale
+pub record IsTraced (scale : Scale) (bytes : List ℕ) (before after : ℕ) : Type 0 where
   pub unfailed : ¬ HasRisen before after
-  pub text : IsTraceText bytes
+  pub text : IsTraceText scale bytes
 
 -- by which status the source and its bytes are refused before a trace is run
-abbrev pub IsRefusal : List ℕ → ℕ → ℕ → Status → Type 0
-IsRefusal bytes before after status.ReadFault = HasRisen before after
-IsRefusal bytes before after (status.BadTrace line reason) = (¬ HasRisen before after) × IsFirstFault bytes line reason
-IsRefusal bytes before after status.NoMemory = Unit {0}
-IsRefusal bytes before after _ = ⊥
+abbrev pub IsRefusal : Scale → List ℕ → ℕ → ℕ → Status → Type 0
+IsRefusal scale bytes before after status.ReadFault = HasRisen before after
+IsRefusal scale bytes before after (status.BadTrace line reason) = (¬ HasRisen before after) × IsFirstFault scale bytes line reason
+IsRefusal scale bytes before after status.NoMemory = Unit {0}
+IsRefusal scale bytes before after _ = ⊥
 
 -- what is read: the trace of the bytes, or a status that refuses them
-abbrev pub IsTraceRead : List ℕ → ℕ → ℕ → Result Trace Status → Type 0
-IsTraceRead bytes before after (Ok trace) = IsTraced bytes before after × (trace.lines.items ≡ trace_of bytes)
-IsTraceRead bytes before after (Err refusal) = IsRefusal bytes before after refusal
+abbrev pub IsTraceRead : Scale → List ℕ → ℕ → ℕ → Result Trace Status → Type 0
+IsTraceRead scale bytes before after (Ok trace) = IsTraced scale bytes before after × (trace.lines.items ≡ trace_of bytes)
+IsTraceRead scale bytes before after (Err refusal) = IsRefusal scale bytes before after refusal
 
 -- the statuses with which a run may end
 abbrev pub ends_run : Status → Bool
@@ -64,15 +65,15 @@ ends_run _ = false
 -- What a run is judged by: the bytes of the source, its count of faults before and after, the bytes of the log area, and the
 -- disk before and after. The source's faults come first, then the trace's, the device's faults, and what the log has; and then the
 -- trace is run.
-pub record IsRunJudged (bytes : List ℕ) (before after : ℕ) (log : List ℕ) (old new : Moment) (judged : Status) : Type 0 where
+pub record IsRunJudged (scale : Scale) (bytes : List ℕ) (before after : ℕ) (log : List ℕ) (old new : Moment) (judged : Status) : Type 0 where
   pub read_fault : judged ≡ status.ReadFault ↔ HasRisen before after
-  pub bad_trace : (line : ℕ) (reason : TraceReason) → judged ≡ status.BadTrace line reason ↔ ((¬ HasRisen before after) × IsFirstFault bytes line reason)
-  pub disk_fault : (opened now : ℕ) → judged ≡ status.DiskFault opened now → IsTraced bytes before after × HasFailed old new opened now
+  pub bad_trace : (line : ℕ) (reason : TraceReason) → judged ≡ status.BadTrace line reason ↔ ((¬ HasRisen before after) × IsFirstFault scale bytes line reason)
+  pub disk_fault : (opened now : ℕ) → judged ≡ status.DiskFault opened now → IsTraced scale bytes before after × HasFailed old new opened now
   -- and wherever the count rose
-  pub unhidden : IsTraced bytes before after → old.faults < new.faults → judged ≡ status.DiskFault old.faults new.faults
-  pub bad_store : (fault : OpenFault) → judged ≡ status.BadStore fault ↔ (IsTraced bytes before after × IsNoDiskFault judged × (session_fault log ≡ Some fault))
+  pub unhidden : IsTraced scale bytes before after → old.faults < new.faults → judged ≡ status.DiskFault old.faults new.faults
+  pub bad_store : (fault : OpenFault) → judged ≡ status.BadStore fault ↔ (IsTraced scale bytes before after × IsNoDiskFault judged × (session_fault log ≡ Some fault))
   -- Done and Stuck; which of them is told by what was recorded
-  pub ended : IsEnd judged ↔ (IsTraced bytes before after × IsNoDiskFault judged × (session_fault log ≡ None))
+  pub ended : IsEnd judged ↔ (IsTraced scale bytes before after × IsNoDiskFault judged × (session_fault log ≡ None))
   pub no_other : ends_run judged ≡ true
 
 -- what a run hands out: the records and the start of the store that it opened, its history, and the syncs of the store
@@ -130,12 +131,12 @@ comes_before _ = true
 
 -- How a run is judged, and what was recorded, with the report of Done and Stuck. A run that is refused before its store is
 -- opened leaves the disk untouched.
-pub record HasRun {D : Type 0} (view : D → Moment) (bytes : List ℕ) (before after : ℕ) (old new : D) (out : Outcome) (judged : Status) (report : List ℕ) : Type 0 where
+pub record HasRun {D : Type 0} (view : D → Moment) (scale : Scale) (bytes : List ℕ) (before after : ℕ) (old new : D) (out : Outcome) (judged : Status) (report : List ℕ) : Type 0 where
   -- the bytes of the log area, where the disk tells them
   pub log : List ℕ
   pub logged : IsTrue (view old).tells → log ≡ (view old).seen.log
-  pub by : IsRunJudged bytes before after log (view old) (view new) judged
-  pub untouched : ¬ IsTraced bytes before after → new ≡ old
+  pub by : IsRunJudged scale bytes before after log (view old) (view new) judged
+  pub untouched : ¬ IsTraced scale bytes before after → new ≡ old
   pub refused : comes_before judged ≡ true → IsRefused (view old) (view new) judged out
   pub recorded : IsRefused (view old) (view new) judged out ⊎ (IsHeld (view old) (view new) bytes judged out ⊎ IsRecorded (view old) (view new) bytes out)
   pub whole : IsEnd judged → IsWhole (view old) (view new) bytes out judged report
@@ -149,12 +150,12 @@ pub record SourceSeen : Type 0 where
 
 -- What stands behind the answer of a run, other than want of memory: the bytes that the source had left, where it tells
 -- them; the status that was judged by them, which is the answer unless the sink failed; and its text, which the sink took
-pub record IsAnswer {D : Type 0} (view : D → Moment) (source : SourceSeen) (sink : SinkSeen) (old new : D) (out : Outcome) (answered : Status) : Type 0 where
+pub record IsAnswer {D : Type 0} (view : D → Moment) (scale : Scale) (source : SourceSeen) (sink : SinkSeen) (old new : D) (out : Outcome) (answered : Status) : Type 0 where
   pub bytes : List ℕ
   pub told : IsTrue source.tells → bytes ≡ source.left
   pub judged : Status
   pub report : List ℕ
-  pub by : HasRun view bytes source.before source.after old new out judged report
+  pub by : HasRun view scale bytes source.before source.after old new out judged report
   pub stands : (answered ≡ judged) ⊎ (answered ≡ status.WriteFault)
   pub whole : answered ≢ status.WriteFault → IsTrue sink.tells → sink.after ≡ sink.before ++ text_with judged report
   pub part : answered ≡ status.WriteFault → IsTrue sink.tells → IsPartOfText (text_with judged report) sink.before sink.after

@@ -10,6 +10,7 @@ use Rattle.pass_status.specs.declared.status.Status.{Status}
 use Rattle.pass_status.specs.declared.status.Status.TheVariants as status
 use Rattle.pass_run.specs.Stored.{session_fault}
 use Rattle.pass_status.specs.Writing.{IsPartOfText}
+use Rattle.pass_trace.specs.declared.limits.Scale.TheVariants.{Long}
 use Rattle.pass_trace.specs.Texts.{text_of}
 use Rattle.pass_drawn.specs.Lawful.{IsFreshRun}
 use Rattle.pass_drawn.specs.Runs.{drawn_trace}
@@ -37,8 +38,8 @@ ends_drawn _ = false
 -- gets stuck. Its text is counted in its history; on a store without files and objects of programs it is known by the two numbers.
 pub record HasDrawn {D : Type 0} (view : D → Moment) (number lines : ℕ) (old new : D) (out : Outcome) (judged : Status) (text : List ℕ) : Type 0 where
   pub report : List ℕ
-  pub by : HasRun view (drawn_bytes number lines) 0 0 old new out judged report
-  pub traced : IsTraced (drawn_bytes number lines) 0 0
+  pub by : HasRun view Long (drawn_bytes number lines) 0 0 old new out judged report
+  pub traced : IsTraced Long (drawn_bytes number lines) 0 0
   pub ends : ends_drawn judged ≡ true
   pub done : judged ≡ status.Done ↔ (IsNoDiskFault judged × (session_fault by.log ≡ None))
   pub told : judged ≡ status.Done → text ≡ run_text number lines out.history

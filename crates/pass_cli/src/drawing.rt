@@ -1,5 +1,7 @@
 //! Runs a trace that is drawn from a number.
 ghost use Rattle.std.specs.Prelude.{◌≡◌, ◌≢◌, ◌⊎◌, ◌≤◌, ℕ, List};
+ghost use Rattle.pass_trace.specs.declared.limits.Scale.TheVariants.{Long};
+ghost use Rattle.pass_trace.specs.Limits.{most_lines};
 ghost use Rattle.pass_gen.specs.Generated.{generated};
 ghost use Rattle.pass_run.specs.Stored.{IsBackedBy, IsLater};
 ghost use Rattle.pass_cli.specs.Answers.{HasRun, IsUnrecorded, IsRecorded, outcome_of_run};
@@ -27,7 +29,7 @@ pub fn judge_drawn<R: Threads + Wait + Sync, D: Disk + Send, G: Gate + Sync>(
     gate: &G,
 ) -> RunEnd<D>
     requires workers { (1 ≤ workers) × (workers ≤ 64) }
-    requires lines { (15 ≤ lines) × (lines ≤ 100000) }
+    requires lines { (15 ≤ lines) × (lines ≤ most_lines Long) }
     ensures judged { result.status ≢ Status.NoMemory → HasDrawn D.view number lines disk result.disk (outcome_of_run result) result.status result.report.items }
     // Also where memory was refused.
     ensures recorded { IsUnrecorded (D.view disk) (D.view result.disk) (drawn_bytes number lines) (outcome_of_run result)
@@ -60,9 +62,9 @@ fn run_drawn<R: Threads + Wait + Sync, D: Disk + Send, G: Gate + Sync>(
     gate: &G,
 ) -> RunEnd<D>
     requires workers { (1 ≤ workers) × (workers ≤ 64) }
-    requires lines { (15 ≤ lines) × (lines ≤ 100000) }
+    requires lines { (15 ≤ lines) × (lines ≤ most_lines Long) }
     requires drawn { trace.now.lines.items ≡ generated number lines }
-    ensures judged { result.status ≢ Status.NoMemory → (report : List ℕ) × HasRun D.view (drawn_bytes number lines) 0 0 disk result.disk (outcome_of_run result) result.status report }
+    ensures judged { result.status ≢ Status.NoMemory → (report : List ℕ) × HasRun D.view Long (drawn_bytes number lines) 0 0 disk result.disk (outcome_of_run result) result.status report }
     ensures recorded { IsUnrecorded (D.view disk) (D.view result.disk) (drawn_bytes number lines) (outcome_of_run result)
         ⊎ IsRecorded (D.view disk) (D.view result.disk) (drawn_bytes number lines) (outcome_of_run result) }
     ensures backed { IsBackedBy result.history.items result.syncs.items }

@@ -8,7 +8,9 @@ ghost use Rattle.pass_ask.specs.Asked.{IsAsked, IsPut, IsQuestionRead, asked_in}
 ghost use Rattle.pass_ask.specs.Follows.{IsFollowAnswer, IsFollowedOn, OfRead};
 ghost use Rattle.pass_cli.specs.Drawn.{IsGenAnswer, drawn_bytes};
 ghost use Rattle.pass_ask.specs.Questions.{AreAsked, AreCut};
-ghost use Rattle.pass_ask.specs.Words.{asks_lines, drawn_of, is_follow, is_gen, is_replay, is_run, lines_asked, question_of};
+ghost use Rattle.pass_trace.specs.declared.limits.Scale.TheVariants.{Long};
+ghost use Rattle.pass_trace.specs.Limits.{most_lines};
+ghost use Rattle.pass_ask.specs.Words.{scale_of, asks_lines, drawn_of, is_follow, is_gen, is_replay, is_run, lines_asked, question_of};
 
 use crate::drawing::judge_drawn;
 use crate::verdict::judge;
@@ -20,6 +22,7 @@ use pass_outside::{Disk, Gate, Sink, Source};
 use pass_plain::Start;
 use pass_run::{Order, RunEnd, empty_start};
 use pass_status::Status;
+use pass_trace::Scale;
 use std::alloc::Global;
 use std::sync::Wait;
 use std::thread::Threads;
@@ -48,7 +51,7 @@ pub fn pass_main<R: Threads + Wait + Sync, S: Source, K: Sink, D: Disk + Send, G
     disk: D,
     gate: &G,
 ) -> Ended<D>
-    ensures run { IsTrue (is_run (map string_bytes words.now)) → result.status ≢ Status.NoMemory → IsAnswer D.view
+    ensures run { IsTrue (is_run (map string_bytes words.now)) → result.status ≢ Status.NoMemory → IsAnswer D.view (scale_of (map string_bytes words.now))
         (record { tells = S.tells; left = S.left source.old; before = S.fault_count source.old; after = S.fault_count source.new })
         (record { tells = K.tells; before = K.taken sink.old; after = K.taken sink.new }) disk result.disk (outcome_of result) result.status }
     // What a run hands out, also where memory was refused, and what a crash leaves of it: since the opening, and since each sync, with the
@@ -94,19 +97,22 @@ pub fn pass_main<R: Threads + Wait + Sync, S: Source, K: Sink, D: Disk + Send, G
     ensures unread { ¬ IsTrue (is_run (map string_bytes words.now)) → ¬ IsTrue (is_follow (map string_bytes words.now)) → ¬ IsTrue (asks_lines (map string_bytes words.now)) → source.new ≡ source.old }
     // The source is read to its end, or to where its bytes are seen to be too long for a trace.
     ensures stops { IsTrue S.tells → IsTrue (is_run (map string_bytes words.now)) → result.status ≢ Status.NoMemory → ¬ HasRisen (S.fault_count source.old) (S.fault_count source.new)
-        → IsReadInTime (S.left source.old) (S.left source.new) }
+        → IsReadInTime (scale_of (map string_bytes words.now)) (S.left source.old) (S.left source.new) }
 {
     match read_words(alloc, words) {
-        Ok(Command::Run { workers }) => run_words(
+        Ok(Command::Run { scale, workers }) => run_words(
             rt,
             alloc,
+            scale,
             Order::Passes { workers },
             source,
             sink,
             disk,
             gate,
         ),
-        Ok(Command::Replay) => run_words(rt, alloc, Order::Lines, source, sink, disk, gate),
+        Ok(Command::Replay { scale }) => {
+            run_words(rt, alloc, scale, Order::Lines, source, sink, disk, gate)
+        }
         Ok(
             Command::Gen {
                 workers,
@@ -125,6 +131,7 @@ pub fn pass_main<R: Threads + Wait + Sync, S: Source, K: Sink, D: Disk + Send, G
 fn run_words<R: Threads + Wait + Sync, S: Source, K: Sink, D: Disk + Send, G: Gate + Sync>(
     rt: &R,
     alloc: Global,
+    scale: Scale,
     order: Order,
     source: &mut S,
     sink: &mut K,
@@ -133,7 +140,7 @@ fn run_words<R: Threads + Wait + Sync, S: Source, K: Sink, D: Disk + Send, G: Ga
 ) -> Ended<D>
     requires { IsOrder order }
     ensures replayed { order ≡ Order.Lines → OfBytes S.tells (S.left source.old) (λ bytes. IsReplayed (D.view disk) bytes (outcome_of result) result.status) }
-    ensures run { result.status ≢ Status.NoMemory → IsAnswer D.view
+    ensures run { result.status ≢ Status.NoMemory → IsAnswer D.view scale
         (record { tells = S.tells; left = S.left source.old; before = S.fault_count source.old; after = S.fault_count source.new })
         (record { tells = K.tells; before = K.taken sink.old; after = K.taken sink.new }) disk result.disk (outcome_of result) result.status }
     ensures recorded { OfBytes S.tells (S.left source.old)
@@ -144,7 +151,7 @@ fn run_words<R: Threads + Wait + Sync, S: Source, K: Sink, D: Disk + Send, G: Ga
         ↔ HasRisen (K.fault_count sink.old) (K.fault_count sink.new)) }
     ensures untaken { result.status ≡ Status.NoMemory → sink.new ≡ sink.old }
     ensures stops { IsTrue S.tells → result.status ≢ Status.NoMemory → ¬ HasRisen (S.fault_count source.old) (S.fault_count source.new)
-        → IsReadInTime (S.left source.old) (S.left source.new) }
+        → IsReadInTime scale (S.left source.old) (S.left source.new) }
 {
     let RunEnd {
         status,
@@ -154,7 +161,7 @@ fn run_words<R: Threads + Wait + Sync, S: Source, K: Sink, D: Disk + Send, G: Ga
         start,
         report,
         disk,
-    } = judge(rt, alloc, order, source, disk, gate);
+    } = judge(rt, alloc, scale, order, source, disk, gate);
     Ended {
         status: write_answer(alloc, sink, status, &report),
         history,
@@ -177,7 +184,7 @@ fn gen_words<R: Threads + Wait + Sync, K: Sink, D: Disk + Send, G: Gate + Sync>(
     gate: &G,
 ) -> Ended<D>
     requires workers { (1 ≤ workers) × (workers ≤ 64) }
-    requires lines { (15 ≤ lines) × (lines ≤ 100000) }
+    requires lines { (15 ≤ lines) × (lines ≤ most_lines Long) }
     ensures drawn { result.status ≢ Status.NoMemory → IsGenAnswer D.view number lines
         (record { tells = K.tells; before = K.taken sink.old; after = K.taken sink.new }) disk result.disk (outcome_of result) result.status }
     ensures recorded { IsUnrecorded (D.view disk) (D.view result.disk) (drawn_bytes number lines) (outcome_of result)

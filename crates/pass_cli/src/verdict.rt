@@ -9,6 +9,8 @@ use crate::reading::read_trace;
 use pass_outside::{Disk, Gate, Source};
 use pass_run::{Order, RunEnd, run_trace, unopened};
 use pass_status::Status;
+use pass_trace::Scale;
+use pass_trace::laws::scales;
 use std::alloc::Global;
 use std::sync::Wait;
 use std::thread::Threads;
@@ -17,6 +19,7 @@ use std::thread::Threads;
 pub fn judge<R: Threads + Wait + Sync, S: Source, D: Disk + Send, G: Gate + Sync>(
     rt: &R,
     alloc: Global,
+    scale: Scale,
     order: Order,
     source: &mut S,
     disk: D,
@@ -24,7 +27,7 @@ pub fn judge<R: Threads + Wait + Sync, S: Source, D: Disk + Send, G: Gate + Sync
 ) -> RunEnd<D>
     requires { IsOrder order }
     ensures judged { result.status ≢ Status.NoMemory → OfBytes S.tells (S.left source.old)
-        (λ bytes. HasRun D.view bytes (S.fault_count source.old) (S.fault_count source.new) disk result.disk (outcome_of_run result) result.status result.report.items) }
+        (λ bytes. HasRun D.view scale bytes (S.fault_count source.old) (S.fault_count source.new) disk result.disk (outcome_of_run result) result.status result.report.items) }
     // Also where memory was refused.
     ensures recorded { OfBytes S.tells (S.left source.old)
         (λ bytes. IsUnrecorded (D.view disk) (D.view result.disk) bytes (outcome_of_run result) ⊎ IsRecorded (D.view disk) (D.view result.disk) bytes (outcome_of_run result)) }
@@ -34,9 +37,10 @@ pub fn judge<R: Threads + Wait + Sync, S: Source, D: Disk + Send, G: Gate + Sync
     ensures later { IsLater (D.view disk) (D.view result.disk) }
     ensures no_write { result.status ≢ Status.WriteFault }
     ensures stops { IsTrue S.tells → result.status ≢ Status.NoMemory → ¬ HasRisen (S.fault_count source.old) (S.fault_count source.new)
-        → IsReadInTime (S.left source.old) (S.left source.new) }
+        → IsReadInTime scale (S.left source.old) (S.left source.new) }
 {
-    match read_trace(alloc, source) {
+    scales();
+    match read_trace(alloc, scale, source) {
         Ok(trace) => run_trace(rt, alloc, &trace, order, disk, gate),
         Err(status) => unopened(alloc, status, disk),
     }

@@ -1,6 +1,7 @@
 -- Where the archive's device failed, and which words were refused.
 use Rattle.std.proofs.Common.{◌≡◌, ◌⊎◌, ◌∙◌, ℕ, Bool, true, false, List, [], ◌∷◌, inl, inr, ⊎_elim, refl, sym, ap, subst}
 use Rattle.std.specs.Prelude.{◌≢◌}
+use Rattle.pass_trace.specs.declared.limits.Scale.TheVariants.{Usual}
 use Rattle.pass_entry.specs.declared.entry.Entry.{Entry}
 use Rattle.pass_entry.specs.declared.record.Record.{Record}
 use Rattle.pass_entry.specs.declared.objects.Node.{Node}
@@ -155,7 +156,7 @@ opening_words a b (store.BadFrame at) is = cc is
 opening_words a b (store.BadRecord place why) is = cc is
 opening_words a b (store.Flaw place reason) is = cc is
 
-refusal_words : (bytes : List ℕ) (before after : ℕ) (s : Status) → IsRefusal bytes before after s → refuses_words (old_status.Same s) ≡ true → ⊥
+refusal_words : (bytes : List ℕ) (before after : ℕ) (s : Status) → IsRefusal Usual bytes before after s → refuses_words (old_status.Same s) ≡ true → ⊥
 refusal_words bytes before after status.BadWords refusal is = refusal
 refusal_words bytes before after _ refusal is = absurd (cc)
 

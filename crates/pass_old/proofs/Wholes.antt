@@ -1,6 +1,7 @@
 -- What a run's answer says of what was kept.
 use Rattle.std.proofs.Common.{◌≡◌, ◌⊎◌, ◌∙◌, ℕ, Bool, true, false, List, inl, inr, ⊎_elim, sym, ap, subst, arith}
 use Rattle.std.specs.Prelude.{◌≢◌, IsTrue}
+use Rattle.pass_trace.specs.declared.limits.Scale.TheVariants.{Usual}
 use Rattle.pass_entry.specs.declared.entry.Entry.{Entry}
 use Rattle.pass_entry.specs.declared.objects.Node.{Node}
 use Rattle.pass_entry.specs.declared.record.Record.{Record}
@@ -70,7 +71,7 @@ opening_unended a b (store.Flaw place reason) is = absurd (cc)
 same_like : (s : Status) → is_unlike (old_status.Same s) ≡ true → ⊥
 same_like s is = absurd (cc)
 
-refused_unended : (bytes : List ℕ) (before after : ℕ) (s : Status) → IsRefusal bytes before after s → is_ended (old_status.Same s) ≡ true → ⊥
+refused_unended : (bytes : List ℕ) (before after : ℕ) (s : Status) → IsRefusal Usual bytes before after s → is_ended (old_status.Same s) ≡ true → ⊥
 refused_unended bytes before after status.Done refusal is = refusal
 refused_unended bytes before after status.Stuck refusal is = refusal
 refused_unended bytes before after _ refusal is = absurd (cc)
@@ -136,7 +137,7 @@ says_same law old mid list run opened start tells r (bytes, read, listed) told t
     }
 
 module _ (law : SameToldLaw) {D : Type 0} (view : D → Moment) (bytes : List ℕ) (before after : ℕ) (old mid new : D) (list : List Record) (start : Start) (out : Outcome) (history : List Entry) (ended : Status) (report : List ℕ)
-    (tells : IsTrue (view old).tells) (recovered : IsRecovered (view old) (view mid) list start) (end : IsEnd ended) (history_is : out.history ≡ history) (run : HasRun view bytes before after mid new out ended report) where
+    (tells : IsTrue (view old).tells) (recovered : IsRecovered (view old) (view mid) list start) (end : IsEnd ended) (history_is : out.history ≡ history) (run : HasRun view Usual bytes before after mid new out ended report) where
   abbrev Whole : Type 0
   Whole = HasEnded (view mid).calls (view mid) (view new) (trace_of bytes) out.list out.start out.history out.syncs ended report
 

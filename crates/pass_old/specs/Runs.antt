@@ -14,6 +14,7 @@ use Rattle.pass_recover.specs.Faults.{LogHas, IsCauseOf}
 use Rattle.pass_recover.specs.Later.{IsLeftAlone}
 use Rattle.pass_recover.specs.Starts.{IsStartOf, HasBytes}
 use Rattle.pass_recover.specs.Syncs.{LeavesRead}
+use Rattle.pass_trace.specs.declared.limits.Scale.TheVariants.{Usual}
 use Rattle.pass_trace.specs.TraceLines.{objects_of}
 use Rattle.pass_trace.specs.Traces.{trace_of}
 use Rattle.pass_status.specs.declared.status.Status.{Status}
@@ -99,13 +100,13 @@ IsKeptAs view first last list run start objects history ended judged =
 pub record IsRefused {D A : Type 0} (bytes : List ℕ) (before after : ℕ) (old new : D) (archive archived : A) (judged : OldStatus) : Type 0 where
   pub refusal : Status
   pub is : judged ≡ old_status.Same refusal
-  pub cause : IsRefusal bytes before after refusal
+  pub cause : IsRefusal Usual bytes before after refusal
   pub disk : new ≡ old
   pub archive_is : archived ≡ archive
 
 -- The archive didn't open. The store wasn't touched.
 pub record IsShut {D A : Type 0} (view : A → Moment) (bytes : List ℕ) (before after : ℕ) (old new : D) (archive archived : A) (judged : OldStatus) : Type 0 where
-  pub traced : IsTraced bytes before after
+  pub traced : IsTraced Usual bytes before after
   pub fault : OldFault
   pub is : (node : Node) → judged ≡ status_of_archive fault node
   pub unopened : IsUnopenedArchive (view archive) (view archived) fault
@@ -130,7 +131,7 @@ pub record HasRunOver {D A : Type 0} (view : D → Moment) (archive_view : A →
   pub start_is : out.start ≡ start
   pub history_is : out.history ≡ history
   pub ended : Status
-  pub run : ended ≢ status.NoMemory → HasRun view bytes before after mid new out ended report
+  pub run : ended ≢ status.NoMemory → HasRun view Usual bytes before after mid new out ended report
   -- also where memory was refused
   pub recorded : IsUnrecorded (view mid) (view new) bytes out ⊎ IsRecorded (view mid) (view new) bytes out
   pub last : Archive A
@@ -143,7 +144,7 @@ HasNothing start history = (history ≡ []) × IsEmptyStart start
 
 -- the archive has been opened, and then the store refused, or the trace run
 pub record IsPastOpening {D A : Type 0} (view : D → Moment) (archive_view : A → Moment) (bytes : List ℕ) (before after : ℕ) (old new : D) (archive archived : A) (start : Start) (history : List Entry) (judged : OldStatus) (report : List ℕ) : Type 0 where
-  pub traced : IsTraced bytes before after
+  pub traced : IsTraced Usual bytes before after
   pub first : Archive A
   pub opened : IsOpened archive_view archive first
   pub run : (HasNothing start history × IsLost view archive_view old new first archived judged) ⊎ HasRunOver view archive_view bytes before after old new first archived start history judged report

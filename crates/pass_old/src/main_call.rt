@@ -6,6 +6,7 @@ ghost use Rattle.pass_outside.specs.Faults.{HasRisen};
 ghost use Rattle.pass_outside.specs.Moments.{IsDeviceWork};
 ghost use Rattle.pass_plain.specs.declared.start.Start.{Start as AnyStart};
 ghost use Rattle.pass_recover.specs.Later.{IsLater, IsLeftAlone};
+ghost use Rattle.pass_trace.specs.declared.limits.Scale.TheVariants.{Usual};
 ghost use Rattle.pass_cli.specs.Answers.{OfBytes, IsReadInTime};
 ghost use Rattle.pass_old.specs.declared.words.OldQuestion.{OldQuestion as AnyQuestion};
 ghost use Rattle.pass_old.specs.declared.words.LogQuestion.{LogQuestion as AnyLogQuestion};
@@ -76,7 +77,7 @@ pub fn old_main<
     // Over a disk that tells what it reads, what was run is what the store told.
     ensures like { result.status ≡ OldStatus.Unlike → IsTrue (D.view disk).tells → ⊥ }
     ensures stops { IsTrue S.tells → (workers : ℕ) → command_of (map string_bytes words.now) ≡ Some (OldCommand.Run workers) → result.status ≢ OldStatus.Same Status.NoMemory
-        → ¬ HasRisen (S.fault_count source.old) (S.fault_count source.new) → IsReadInTime (S.left source.old) (S.left source.new) }
+        → ¬ HasRisen (S.fault_count source.old) (S.fault_count source.new) → IsReadInTime Usual (S.left source.old) (S.left source.new) }
     // A question is answered by the archive, or by the archive and the store's log.
     ensures asked { (question : AnyQuestion) → command_of (map string_bytes words.now) ≡ Some (OldCommand.Ask question) → result.status ≢ OldStatus.Same Status.NoMemory
         → IsQuestionAnswer (A.view archive) (A.view result.archive) question (record { tells = K.tells; before = K.taken sink.old; after = K.taken sink.new }) result.status }
@@ -145,7 +146,7 @@ fn run_words<R: Threads + Wait + Sync, S: Source, K: Sink, D: Disk + Send, A: Di
     ensures later { IsLater (D.view disk) (D.view result.disk) }
     ensures archive_later { IsLater (A.view archive) (A.view result.archive) }
     ensures stops { IsTrue S.tells → result.status ≢ OldStatus.Same Status.NoMemory → ¬ HasRisen (S.fault_count source.old) (S.fault_count source.new)
-        → IsReadInTime (S.left source.old) (S.left source.new) }
+        → IsReadInTime Usual (S.left source.old) (S.left source.new) }
     ensures write_fault { result.status ≢ OldStatus.Same Status.NoMemory → (result.status ≡ OldStatus.Same Status.WriteFault
         ↔ HasRisen (K.fault_count sink.old) (K.fault_count sink.new)) }
     ensures untaken { result.status ≡ OldStatus.Same Status.NoMemory → sink.new ≡ sink.old }

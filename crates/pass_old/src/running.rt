@@ -8,6 +8,7 @@ ghost use Rattle.pass_trace.specs.TraceLines.{objects_of as objects_of_lines};
 ghost use Rattle.pass_trace.specs.Traces.{trace_of};
 ghost use Rattle.pass_run.specs.Ends.{IsEmptyStart, IsTrace};
 ghost use Rattle.pass_run.specs.Stored.{IsEnd};
+ghost use Rattle.pass_trace.specs.declared.limits.Scale.TheVariants.{Usual};
 ghost use Rattle.pass_cli.specs.Answers.{OfBytes, IsTraced, IsReadInTime};
 ghost use Rattle.pass_leaf.specs.Archives.{Archive};
 ghost use Rattle.pass_old.specs.Runs.{IsKept, IsSomeKept, IsKeptAs, IsHandedOut, HasNothing, IsLost, HasRunOver, IsOldRun};
@@ -24,7 +25,8 @@ use pass_plain::Start;
 use pass_recover::{Opening, recover};
 use pass_run::{Order, RunEnd, empty_start, run_trace};
 use pass_status::{Status, opening_status};
-use pass_trace::{Trace, objects_of};
+use pass_trace::laws::scales;
+use pass_trace::{Scale, Trace, objects_of};
 use std::alloc::{AllocError, Global};
 use std::sync::Wait;
 use std::thread::Threads;
@@ -83,9 +85,10 @@ pub(crate) fn judge_run<
     ensures archive_later { IsLater (A.view archive) (A.view result.archive) }
     ensures no_write { result.status ≢ OldStatus.Same Status.WriteFault }
     ensures stops { IsTrue S.tells → result.status ≢ OldStatus.Same Status.NoMemory → ¬ HasRisen (S.fault_count source.old) (S.fault_count source.new)
-        → IsReadInTime (S.left source.old) (S.left source.new) }
+        → IsReadInTime Usual (S.left source.old) (S.left source.new) }
 {
-    let trace = match read_trace(alloc, source) {
+    scales();
+    let trace = match read_trace(alloc, Scale::Usual, source) {
         Ok(trace) => trace,
         Err(status) => return unrun(alloc, OldStatus::Same(status), disk, archive),
     };
@@ -109,7 +112,7 @@ fn run_kept<R: Threads + Wait + Sync, D: Disk + Send, A: Disk, G: Gate + Sync>(
     requires workers { (1 ≤ workers) × (workers ≤ 64) }
     requires healthy { (A.view old.disk).faults ≤ old.opened }
     requires begun { old.gathered ≡ [] }
-    ensures run { (bytes : List ℕ) (before after : ℕ) → IsTraced bytes before after → trace.now.lines.items ≡ trace_of bytes
+    ensures run { (bytes : List ℕ) (before after : ℕ) → IsTraced Usual bytes before after → trace.now.lines.items ≡ trace_of bytes
         → (HasNothing result.start result.history.items × IsLost D.view A.view disk result.disk old result.archive result.status)
         ⊎ HasRunOver D.view A.view bytes before after disk result.disk old result.archive result.start result.history.items result.status result.report.items }
     ensures later { IsLater (D.view disk) (D.view result.disk) }

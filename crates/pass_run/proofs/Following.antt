@@ -1,11 +1,10 @@
 -- A run that follows another one over the same disk.
-use Rattle.std.proofs.Common.{◌≡◌, ◌≤◌, ◌<◌, ◌+◌, ◌*◌, ℕ, true, List, [], ◌∷◌, length, take, refl, ap, sym, subst, ◌∙◌, ⊎_elim, arith}
+use Rattle.std.proofs.Common.{◌≡◌, ◌≤◌, ◌<◌, ◌+◌, ◌*◌, ◌⊎◌, ℕ, true, List, [], length, take, refl, ap, sym, subst, ◌∙◌, ⊎_elim, arith}
 use Rattle.std.specs.Prelude.{Option, Some, None, IsTrue, is_some, option_map, slice_get}
 use Rattle.std.specs.Option.{option_map_or}
 use Rattle.std.proofs.lemmas.List.{take_all}
 use Rattle.pass_entry.specs.declared.entry.Entry.{Entry}
 use Rattle.pass_entry.specs.declared.record.Record.{Record}
-use Rattle.pass_entry.specs.declared.record.Record.TheVariants as log
 use Rattle.pass_entry.proofs.Places.{mapped, slice_get-last}
 use Rattle.pass_entry.proofs.Variants.{ok_inside, some_of}
 use Rattle.pass_keep.specs.Kept.{Story, IsStory, HasRecords, AreOlder, list_to, source_to, records_to}
@@ -18,7 +17,8 @@ use Rattle.pass_plain.specs.declared.start.StartFile.{StartFile}
 use Rattle.pass_plain.specs.Files.{file_after}
 use Rattle.pass_plain.specs.Records.{has_row, list_of, range_len}
 use Rattle.pass_plain.specs.Sessions.{opened_file, opening_bytes}
-use Rattle.pass_plain.specs.WellLogged.{IsWellLogged, size_of}
+use Rattle.pass_plain.specs.WellLogged.{IsWellLogged, size_of, ceiling_of}
+use Rattle.pass_plain.specs.Ceilings.{ceilings_between, raised}
 use Rattle.pass_plain.proofs.Lists.{some_is}
 use Rattle.pass_range.specs.Lawful.{IsOpened}
 use Rattle.pass_range.specs.Places.{place, found_there, Holds}
@@ -123,7 +123,8 @@ module _ {D : Type 0} (view : D → Moment) (first second : D) (one : EndedRun v
   same_number p block number numbered row =
       let (bytes, has, listed) = one.ended.opening.logged in
       let (m, is) = some_of (number_of s.before p) (logged_row_proved s.before (unflawed s.before bytes listed) p block row).0 in
-      let later : number_of (list_to s n) p ≡ Some m = (numbers_proved s.before p m is).0 (log.Ceiling s.ceiling ∷ records_to s n) in
+      let opened : number_of (raised s.before s.ceiling) p ≡ Some m = (numbers_proved s.before p m is).0 (ceilings_between (ceiling_of s.before) s.ceiling) in
+      let later : number_of (list_to s n) p ≡ Some m = (numbers_proved (raised s.before s.ceiling) p m opened).0 (records_to s n) in
       is ∙ ap (λ (k : ℕ). Some k) (some_is m number (sym later ∙ numbered))
 
   -- the file of that number was opened

@@ -1,8 +1,8 @@
 -- The lines of the trace of a text keep the rules of a trace.
-use Rattle.std.proofs.Common.{◌≡◌, ◌<◌, ◌≤◌, ◌+◌, ℕ, List, [], ◌∷◌, ◌++◌, length, take, refl, ap, sym, ◌∙◌, subst, arith, inl, inr, Bool, true, false, not, ◌||◌, ◌&&◌, ◌==◌, cond, append_assoc, length-append}
-use Rattle.std.specs.Prelude.{Option, Some, None, Result, Ok, Err, slice_index_or, nat_lt, nat_le}
+use Rattle.std.proofs.Common.{◌≡◌, ◌≤◌, ◌+◌, ℕ, List, [], ◌∷◌, ◌++◌, length, refl, ap, sym, ◌∙◌, subst, arith, Bool, true, false, not, ◌||◌, ◌&&◌, ◌==◌, cond, append_assoc, length-append}
+use Rattle.std.specs.Prelude.{Option, Some, None, Result, Ok, Err, nat_le}
 use Rattle.std.specs.List.{list_any}
-use Rattle.std.proofs.lemmas.Bool.{cases_lt, le-leb, lt-ltb}
+use Rattle.std.proofs.lemmas.Bool.{le-leb}
 use Rattle.std.proofs.lemmas.Bool.Decides.{nat_tests}
 use Rattle.std.proofs.lemmas.List.{append-nil}
 use Rattle.pass_entry.specs.Texts.{is_name, is_line}
@@ -13,6 +13,7 @@ use Rattle.pass_plain.specs.Calls.{is_fd}
 use Rattle.pass_plain.specs.Traces.{Line, fork_as, waited_for}
 use Rattle.pass_plain.proofs.Lists.{true_left, true_right, both_true, not_true, any_at, in_filtered, same_numbers, some_is}
 use Rattle.pass_trace.specs.TraceLines.{call_of, plain_line, plain_trace}
+use Rattle.pass_trace.specs.declared.limits.Scale.TheVariants.{Long}
 use Rattle.pass_trace.specs.declared.trace.Command.{Command}
 use Rattle.pass_trace.specs.declared.trace.Command.TheVariants as command
 use Rattle.pass_trace.specs.declared.trace.Payload.TheVariants as payload
@@ -21,10 +22,10 @@ use Rattle.pass_trace.specs.declared.trace.TraceReason.{TraceReason}
 use Rattle.pass_trace.specs.declared.trace.TraceReason.TheVariants as reason
 use Rattle.pass_trace.specs.Lines as text_lines
 use Rattle.pass_trace.specs.Rules as rules
-use Rattle.pass_trace.specs.Traces.{text_line_of, said, lines_from, reason_behind}
+use Rattle.pass_trace.specs.Traces.{text_line_of, said, lines_from, reason_behind, trace_of}
 use Rattle.pass_trace.proofs.Good.{IsGood, IsMode, text_line_is}
 use Rattle.pass_trace.proofs.LinesLemmas.{lines_from-push}
-use Rattle.pass_trace.proofs.Again.{length-lines_from}
+use Rattle.pass_trace.proofs.Again.{within}
 use Rattle.pass_trace.proofs.Created.{at_front, AreFine}
 use Rattle.pass_run.specs.Ends.{IsTrace}
 use Rattle.pass_replay.specs.Lines.{is_fork_of, is_there, IsLineCall, IsLineBehind, AreLinesBehind, ForksBefore}
@@ -40,7 +41,7 @@ no_app mode.Write is = refl
 no_app mode.Both is = refl
 
 -- the call of a command is within its limits
-line_call : (c : Command) → IsGood c → IsLineCall (call_of c)
+line_call : (c : Command) → IsGood Long c → IsLineCall (call_of c)
 line_call (command.Creat fd name) good = (refl, both_true (is_fd fd) (is_name name) (below_64 fd good.0) good.1)
 line_call (command.Open fd name m) good =
     (refl, both_true (is_fd fd && is_name name) (not (same_mode m mode.App)) (both_true (is_fd fd) (is_name name) (below_64 fd good.0) good.1) (no_app m good.2))
@@ -115,9 +116,9 @@ allowed : (b c : Bool) → cond (not b) (Some reason.Process) (cond c (Some reas
 allowed true c none = refl
 allowed false c none = absurd (cc)
 
-ruled_line : (earlier : List TraceLine) (l : TraceLine) → IsGood l.command → rules.rule_of earlier l ≡ None → IsLineBehind (plain_trace earlier) (plain_line l)
+ruled_line : (earlier : List TraceLine) (l : TraceLine) → IsGood Long l.command → rules.rule_of Long earlier l ≡ None → IsLineBehind (plain_trace earlier) (plain_line l)
 ruled_line earlier l good none =
-    let fine = allowed (rules.is_there earlier l.process && rules.may_call earlier l.process l.command) (rules.creates l.command && nat_le 8191 (rules.count_created earlier)) none in
+    let fine = allowed (rules.is_there earlier l.process && rules.may_call earlier l.process l.command) (rules.creates l.command && nat_le 65535 (rules.count_created earlier)) none in
     let may = true_right (rules.is_there earlier l.process) (rules.may_call earlier l.process l.command) fine in
     record {
       within = line_call l.command good;
@@ -128,10 +129,10 @@ ruled_line earlier l good none =
 
 -- the texts of the lines, one by one
 
-ruled_text : (earlier : List TraceLine) (number : ℕ) (text : List ℕ) (more : List TraceLine) (read : Result (Option TraceLine) TraceReason) → text_line_of number text ≡ read → reason_behind earlier read ≡ None
+ruled_text : (earlier : List TraceLine) (number : ℕ) (text : List ℕ) (more : List TraceLine) (read : Result (Option TraceLine) TraceReason) → text_line_of Long number text ≡ read → reason_behind Long earlier read ≡ None
     → AreLinesBehind (plain_trace (earlier ++ said read)) (plain_trace more) → AreLinesBehind (plain_trace earlier) (plain_trace (said read ++ more))
 ruled_text earlier number text more (Ok (Some l)) is none later =
-    (ruled_line earlier l (text_line_is number text l is).command none, subst (λ (ls : List Line). AreLinesBehind ls (plain_trace more)) (plain-append earlier (l ∷ [])) later)
+    (ruled_line earlier l (text_line_is Long number text l is).command none, subst (λ (ls : List Line). AreLinesBehind ls (plain_trace more)) (plain-append earlier (l ∷ [])) later)
   where
     plain-append : (xs ys : List TraceLine) → plain_trace (xs ++ ys) ≡ plain_trace xs ++ plain_trace ys
     plain-append [] ys = refl
@@ -139,39 +140,22 @@ ruled_text earlier number text more (Ok (Some l)) is none later =
 ruled_text earlier number text more (Ok None) is none later = subst (λ (ls : List TraceLine). AreLinesBehind (plain_trace ls) (plain_trace more)) (append-nil earlier) later
 ruled_text earlier number text more (Err why) is none later = absurd (cc)
 
-ruled_from : (seen rest : List (List ℕ)) → AreFine (seen ++ rest) → AreLinesBehind (plain_trace (lines_from 1 seen)) (plain_trace (lines_from (length seen + 1) rest))
+ruled_from : (seen rest : List (List ℕ)) → AreFine Long (seen ++ rest) → AreLinesBehind (plain_trace (lines_from Long 1 seen)) (plain_trace (lines_from Long (length seen + 1) rest))
 ruled_from seen [] fine = tt
 ruled_from seen (text ∷ rest) fine =
-    let later = ruled_from (seen ++ text ∷ []) rest (subst AreFine (sym (append_assoc seen (text ∷ []) rest)) fine) in
+    let later = ruled_from (seen ++ text ∷ []) rest (subst (AreFine Long) (sym (append_assoc seen (text ∷ []) rest)) fine) in
     let number : length (seen ++ text ∷ []) ≡ length seen + 1 = length-append seen (text ∷ []) in
-    let grown : lines_from 1 (seen ++ text ∷ []) ≡ lines_from 1 seen ++ said (text_line_of (length seen + 1) text) =
-    lines_from-push 1 seen text ∙ ap (λ n. lines_from 1 seen ++ said (text_line_of n text)) (let z : 1 + length seen ≡ length seen + 1 = omega arith in z) in
-    ruled_text (lines_from 1 seen) (length seen + 1) text (lines_from (length seen + 1 + 1) rest) (text_line_of (length seen + 1) text) refl (at_front seen rest text fine)
-    (subst (λ (ls : List TraceLine). AreLinesBehind (plain_trace ls) (plain_trace (lines_from (length seen + 1 + 1) rest))) grown
-    (subst (λ n. AreLinesBehind (plain_trace (lines_from 1 (seen ++ text ∷ []))) (plain_trace (lines_from (n + 1) rest))) number later))
+    let grown : lines_from Long 1 (seen ++ text ∷ []) ≡ lines_from Long 1 seen ++ said (text_line_of Long (length seen + 1) text) =
+    lines_from-push Long 1 seen text ∙ ap (λ n. lines_from Long 1 seen ++ said (text_line_of Long n text)) (let z : 1 + length seen ≡ length seen + 1 = omega arith in z) in
+    ruled_text (lines_from Long 1 seen) (length seen + 1) text (lines_from Long (length seen + 1 + 1) rest) (text_line_of Long (length seen + 1) text) refl (at_front Long seen rest text fine)
+    (subst (λ (ls : List TraceLine). AreLinesBehind (plain_trace ls) (plain_trace (lines_from Long (length seen + 1 + 1) rest))) grown
+    (subst (λ n. AreLinesBehind (plain_trace (lines_from Long 1 (seen ++ text ∷ []))) (plain_trace (lines_from Long (n + 1) rest))) number later))
 
 -- each line of the trace of a text may stand behind those before it
 pub ruled : (lines : List TraceLine) → IsTrace lines → AreLinesBehind [] (plain_trace lines)
 ruled lines (bytes, text, is) =
     subst (λ (ls : List TraceLine). AreLinesBehind [] (plain_trace ls)) (sym is) (ruled_from [] (text_lines.lines_of bytes) text)
 
--- there are at most 100,000 lines
-
-many_first : (earlier : List TraceLine) (b : Bool) (rest : Result (Option TraceLine) TraceReason) → b ≡ true → reason_behind earlier (cond b (Err reason.Many) rest) ≡ Some reason.Many
-many_first earlier true rest is = refl
-many_first earlier false rest is = absurd (cc)
-
-too_many : (number : ℕ) (text : List ℕ) (earlier : List TraceLine) → 100000 < number → reason_behind earlier (text_line_of number text) ≡ Some reason.Many
-unfolding text_line_of
-too_many number text earlier many = many_first earlier (nat_lt 100000 number) _ (lt-ltb 100000 number many)
-
-pub few_lines : (lines : List TraceLine) → IsTrace lines → length lines ≤ 100000
-few_lines lines (bytes, text, is) =
-    let texts = text_lines.lines_of bytes in
-    let most = length-lines_from 1 texts in
-    elim (cases_lt 100000 (length texts)) [
-      | inr le ↦ (let z = ap length is in omega (arith, z, most, le))
-      | inl many ↦ absurd (
-          let here = text 100000 many in
-          let z : Some reason.Many ≡ None = sym (too_many (100000 + 1) (slice_index_or texts 100000 []) (lines_from 1 (take 100000 texts)) (omega arith)) ∙ here in cc)
-    ]
+-- there are no more lines than a text may have
+pub few_lines : (lines : List TraceLine) → IsTrace lines → length lines ≤ 1000000
+few_lines lines (bytes, text, is) = let few : length (trace_of bytes) ≤ 1000000 = within Long bytes text in let same = ap length is in omega (arith, few, same)

@@ -5,6 +5,7 @@ use Rattle.pass_plain.specs.declared.start.Start.{Start}
 use Rattle.pass_plain.specs.Sessions.{Session}
 use Rattle.pass_plain.specs.Traces.{Line}
 use Rattle.pass_trace.specs.declared.trace.TraceLine.{TraceLine}
+use Rattle.pass_trace.specs.declared.limits.Scale.TheVariants.{Long}
 use Rattle.pass_trace.specs.Traces.{trace_of, IsTraceText}
 use Rattle.pass_replay.specs.Ends.{NoneOpen, IsStuck}
 use Rattle.pass_status.specs.declared.status.Status.{Status}
@@ -12,7 +13,7 @@ use Rattle.pass_status.specs.declared.status.Status.TheVariants as status
 
 -- the lines are the trace of some text
 abbrev pub IsTrace : List TraceLine → Type 0
-IsTrace lines = (bytes : List ℕ) × IsTraceText bytes × (lines ≡ trace_of bytes)
+IsTrace lines = (bytes : List ℕ) × IsTraceText Long bytes × (lines ≡ trace_of bytes)
 
 -- nothing was opened
 pub record IsEmptyStart (start : Start) : Type 0 where

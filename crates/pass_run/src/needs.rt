@@ -1,5 +1,7 @@
 //! How many places of a history the run of a trace takes at most.
 ghost use Rattle.std.specs.Prelude.{◌≡◌, ◌≤◌, length};
+ghost use Rattle.pass_trace.specs.declared.limits.Scale.TheVariants.{Long};
+ghost use Rattle.pass_trace.specs.Limits.{most_lines};
 ghost use Rattle.pass_trace.specs.TraceLines.{call_of, plain_trace};
 ghost use Rattle.pass_replay.specs.Needs.{need_of_line, places_of as places_of_trace};
 
@@ -16,7 +18,7 @@ const CALL: u32 = 3;
 
 /// How many places of a history the run of a trace takes at most.
 pub(crate) fn places_of(lines: &[TraceLine]) -> u32
-    requires { length lines.now ≤ 100000 }
+    requires { length lines.now ≤ most_lines Long }
     ensures { result ≡ places_of_trace (plain_trace lines.now) }
 {
     let mut places = FIRST_PROCESS;

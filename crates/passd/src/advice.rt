@@ -1,6 +1,7 @@
 //! What is said on standard error of a command that was refused: what to do about it.
 use crate::help::HELP;
 use pass_cli::Status;
+use pass_trace::TraceReason;
 use std::alloc::{AllocError, Global};
 use strsim::levenshtein;
 
@@ -24,6 +25,18 @@ fn advice_on(status: Status) -> Option<&'static str> {
             "the run is stuck: the report's lines `waiting` say which processes wait, and where",
         ),
         Status::ReadFault => Some("standard input can't be read: give it by `<` or by a pipe"),
+        Status::BadTrace {
+            reason: TraceReason::Many,
+            ..
+        } => Some(
+            "a trace has up to 100000 lines, of which up to 8191 make an object; with --long 1000000, and 65535",
+        ),
+        Status::BadTrace {
+            reason: TraceReason::Number,
+            ..
+        } => Some(
+            "a number is none, or too high: a process has one up to 8192, with --long up to 65536",
+        ),
         Status::BadTrace { .. } => Some(
             "standard input is no trace: it has one call a line, as `1 creat 3 a`; passtrace makes one of what strace wrote",
         ),

@@ -18,6 +18,7 @@ pub const HELP: &str = "passd DIR COMMAND: a file store that records which data 
   follow                   keeps the log that comes on standard input
 
   --replay                 with run, without --workers: makes each call where its line stands, or as soon behind it as it is ready
+  --long                   with run and gen: a trace of up to 1000000 lines, of which up to 65535 make an object
   --workers N              with run and gen: 1 to 64 threads (4 if not given)
   --json                   with ancestors, descendants, inputs, outputs, path, named and match; with questions: with each
   --names                  with ancestors, descendants and path: tells of each node its kind, its name or what it ran, or

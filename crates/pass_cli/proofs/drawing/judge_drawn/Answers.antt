@@ -1,4 +1,5 @@
 use Rattle.std.proofs.Common.{◌≡◌, ◌⊎◌, ◌∙◌, sym, subst, inl, ⊎_elim}
+use Rattle.pass_trace.specs.declared.limits.Scale.TheVariants.{Long}
 use Rattle.pass_status.specs.declared.status.Status.{Status}
 use Rattle.pass_status.specs.declared.status.Status.TheVariants as status
 use Rattle.pass_run.specs.Stored.{IsBackedBy, IsLater}
@@ -19,12 +20,12 @@ returns-in-Ok-clause-judged g c = λ known.
     let end = c.told.result in
     let status_is : end.status ≡ r.status = ⊎_elim (λ starved. absurd (known starved)) (λ (s : end.status ≡ r.status). s) t.status in
     let (report, ran) = c.run_drawn-ended.ensures.judged (λ is. known (status_is ∙ is)) in
-    let with_status = subst (λ (s : Status). HasRun view (drawn_bytes n l) 0 0 c.args.disk r.disk (outcome_of_run r) s report) (sym status_is) ran in
-    let with_out = subst (λ (o : Outcome). HasRun view (drawn_bytes n l) 0 0 c.args.disk r.disk o end.status report) (sym t.outcome) with_status in
-    let with_disk = subst (λ d. HasRun view (drawn_bytes n l) 0 0 c.args.disk d (outcome_of_run end) end.status report) (sym t.disk) with_out in
+    let with_status = subst (λ (s : Status). HasRun view Long (drawn_bytes n l) 0 0 c.args.disk r.disk (outcome_of_run r) s report) (sym status_is) ran in
+    let with_out = subst (λ (o : Outcome). HasRun view Long (drawn_bytes n l) 0 0 c.args.disk r.disk o end.status report) (sym t.outcome) with_status in
+    let with_disk = subst (λ d. HasRun view Long (drawn_bytes n l) 0 0 c.args.disk d (outcome_of_run end) end.status report) (sym t.disk) with_out in
     drawn_run view n l c.requires.lines.0 c.args.disk end.disk (outcome_of_run end) end.status report with_disk
     (c.generated_is_read.ensures.trace n l c.requires.lines.0 c.requires.lines.1) c.ends.ensures.never
-    (record { unfailed = still; text = c.generated_is_read.ensures.text n l c.requires.lines.0 c.requires.lines.1 }) end.report.items
+    (record { unfailed = still; text = c.generated_is_read.ensures.text Long n l c.requires.lines.0 c.requires.lines.1 }) end.report.items
     (λ done. subst (λ (o : Outcome). IsTold n l o.history end.report.items) (sym t.outcome) (t.text done))
 
 pub returns-in-Ok-clause-recorded : goal.returns-in-Ok-clause-recorded

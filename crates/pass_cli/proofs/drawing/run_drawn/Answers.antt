@@ -1,4 +1,5 @@
 use Rattle.std.proofs.Common.{◌∙◌, subst, List, inl, inr, ⊎_elim}
+use Rattle.pass_trace.specs.declared.limits.Scale.TheVariants.{Long}
 use Rattle.pass_trace.specs.TraceLines.{objects_of}
 use Rattle.pass_trace.specs.declared.trace.TraceLine.{TraceLine}
 use Rattle.pass_run.specs.Ends.{IsTrace}
@@ -14,7 +15,7 @@ run_unreported-requires-clause-trace g c = λ _ _.
     let law = c.generated_is_read.ensures in
     let n = c.args.number in
     let l = c.args.lines in
-    let trace : IsTrace c.args.trace.now.lines.items = (drawn_bytes n l, law.text n l c.requires.lines.0 c.requires.lines.1, c.requires.drawn ∙ law.trace n l c.requires.lines.0 c.requires.lines.1) in trace
+    let trace : IsTrace c.args.trace.now.lines.items = (drawn_bytes n l, law.text Long n l c.requires.lines.0 c.requires.lines.1, c.requires.drawn ∙ law.trace n l c.requires.lines.0 c.requires.lines.1) in trace
 
 pub returns-clause-judged : goal.returns-clause-judged
 returns-clause-judged g c = λ known.
@@ -24,8 +25,8 @@ returns-clause-judged g c = λ known.
     let e = c.run_unreported.ensures in
     let r = c.run_unreported.result in (
       e.ended.0,
-      ran_run g.D.Disk.view (drawn_bytes n l) 0 0 c.args.disk r.disk c.args.trace.now.lines.items (outcome_of_run r) r.status e.ended.0
-          (record { unfailed = still; text = law.text n l c.requires.lines.0 c.requires.lines.1 }) (c.requires.drawn ∙ law.trace n l c.requires.lines.0 c.requires.lines.1)
+      ran_run Long g.D.Disk.view (drawn_bytes n l) 0 0 c.args.disk r.disk c.args.trace.now.lines.items (outcome_of_run r) r.status e.ended.0
+          (record { unfailed = still; text = law.text Long n l c.requires.lines.0 c.requires.lines.1 }) (c.requires.drawn ∙ law.trace n l c.requires.lines.0 c.requires.lines.1)
           (record {
             disk_fault = λ opened now is. let (before, after, risen) = e.disk_fault opened now is in record { before = before; after = after; risen = risen };
             no_fault = e.no_fault known;

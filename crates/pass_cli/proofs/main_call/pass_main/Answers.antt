@@ -1,13 +1,14 @@
 use Rattle.std.proofs.Common.{◌≡◌, ◌⊎◌, ◌∙◌, refl, sym, ap, subst, inl}
 use Rattle.std.specs.Prelude.{ℕ, Bool, Option, Some, None, Err, map, string_bytes}
 use Rattle.pass_plain.proofs.Lists.{some_is}
-use Rattle.pass_cli.specs.Answers.{IsUnrecorded, IsRecorded, outcome_of}
+use Rattle.pass_trace.specs.declared.limits.Scale.{Scale}
+use Rattle.pass_cli.specs.Answers.{IsAnswer, IsReadInTime, IsUnrecorded, IsRecorded, outcome_of}
 use Rattle.pass_cli.specs.Drawn.{IsGenAnswer, drawn_bytes}
 use Rattle.pass_ask.specs.Asked.{IsAsked, IsPut}
 use Rattle.pass_ask.specs.Questions.{AreAsked, AreCut}
 use Rattle.pass_ask.specs.declared.words.Question.{Question}
 use Rattle.pass_ask.specs.declared.words.Command.TheVariants.{Run, Replay, Gen, Ask, Questions, Follow}
-use Rattle.pass_ask.proofs.Commands.{asks, asks_many, draws, draws_so, follows, lines_as, not_replay, ok_same, refusal_read, refuses, refuses_drawn, refuses_lines, replays, runs, runs_only}
+use Rattle.pass_ask.proofs.Commands.{asks, asks_many, draws, draws_so, follows, lines_as, not_replay, ok_same, refusal_read, refuses, refuses_drawn, refuses_lines, replays, runs, runs_at, runs_only}
 use Rattle.pass_cli.proofs.Judging.{still_unwritten}
 use Rattle.pass_ask.proofs.Streams.{untouched_on_disk}
 use Rattle.pass_ask.proofs.Turns.{none_cut}
@@ -26,19 +27,19 @@ lines_same : (o : Option Bool) (a b : Bool) → o ≡ Some a → o ≡ Some b �
 lines_same o a b one other P p = subst P (some_is {A = Bool} a b (sym one ∙ other)) p
 
 pub returns-in-Ok-Run-clause-asked : goal.returns-in-Ok-Run-clause-asked
-returns-in-Ok-Run-clause-asked g c = λ other. absurd (other (runs (map string_bytes c.args.words.now) c.read_words.result c.read_words.ensures.command c.in-Ok-Run.workers (ok_same c.read_words.result c.in-Ok-Run.field-0 (Run c.in-Ok-Run.workers) c.in-Ok-Run.is c.in-Ok-Run.field-0-is)))
+returns-in-Ok-Run-clause-asked g c = λ other. absurd (other (runs (map string_bytes c.args.words.now) c.read_words.result c.read_words.ensures.command c.in-Ok-Run.scale c.in-Ok-Run.workers (ok_same c.read_words.result c.in-Ok-Run.field-0 (Run c.in-Ok-Run.scale c.in-Ok-Run.workers) c.in-Ok-Run.is c.in-Ok-Run.field-0-is)))
 
 pub returns-in-Ok-Run-clause-unrecorded : goal.returns-in-Ok-Run-clause-unrecorded
-returns-in-Ok-Run-clause-unrecorded g c = λ other. absurd (other (runs (map string_bytes c.args.words.now) c.read_words.result c.read_words.ensures.command c.in-Ok-Run.workers (ok_same c.read_words.result c.in-Ok-Run.field-0 (Run c.in-Ok-Run.workers) c.in-Ok-Run.is c.in-Ok-Run.field-0-is)))
+returns-in-Ok-Run-clause-unrecorded g c = λ other. absurd (other (runs (map string_bytes c.args.words.now) c.read_words.result c.read_words.ensures.command c.in-Ok-Run.scale c.in-Ok-Run.workers (ok_same c.read_words.result c.in-Ok-Run.field-0 (Run c.in-Ok-Run.scale c.in-Ok-Run.workers) c.in-Ok-Run.is c.in-Ok-Run.field-0-is)))
 
 pub returns-in-Ok-Run-clause-alone : goal.returns-in-Ok-Run-clause-alone
-returns-in-Ok-Run-clause-alone g c = λ other. absurd (other (runs (map string_bytes c.args.words.now) c.read_words.result c.read_words.ensures.command c.in-Ok-Run.workers (ok_same c.read_words.result c.in-Ok-Run.field-0 (Run c.in-Ok-Run.workers) c.in-Ok-Run.is c.in-Ok-Run.field-0-is)))
+returns-in-Ok-Run-clause-alone g c = λ other. absurd (other (runs (map string_bytes c.args.words.now) c.read_words.result c.read_words.ensures.command c.in-Ok-Run.scale c.in-Ok-Run.workers (ok_same c.read_words.result c.in-Ok-Run.field-0 (Run c.in-Ok-Run.scale c.in-Ok-Run.workers) c.in-Ok-Run.is c.in-Ok-Run.field-0-is)))
 
 pub returns-in-Ok-Run-clause-unopened : goal.returns-in-Ok-Run-clause-unopened
-returns-in-Ok-Run-clause-unopened g c = λ other. absurd (other (runs (map string_bytes c.args.words.now) c.read_words.result c.read_words.ensures.command c.in-Ok-Run.workers (ok_same c.read_words.result c.in-Ok-Run.field-0 (Run c.in-Ok-Run.workers) c.in-Ok-Run.is c.in-Ok-Run.field-0-is)))
+returns-in-Ok-Run-clause-unopened g c = λ other. absurd (other (runs (map string_bytes c.args.words.now) c.read_words.result c.read_words.ensures.command c.in-Ok-Run.scale c.in-Ok-Run.workers (ok_same c.read_words.result c.in-Ok-Run.field-0 (Run c.in-Ok-Run.scale c.in-Ok-Run.workers) c.in-Ok-Run.is c.in-Ok-Run.field-0-is)))
 
 pub returns-in-Ok-Run-clause-unread : goal.returns-in-Ok-Run-clause-unread
-returns-in-Ok-Run-clause-unread g c = λ other. absurd (other (runs (map string_bytes c.args.words.now) c.read_words.result c.read_words.ensures.command c.in-Ok-Run.workers (ok_same c.read_words.result c.in-Ok-Run.field-0 (Run c.in-Ok-Run.workers) c.in-Ok-Run.is c.in-Ok-Run.field-0-is)))
+returns-in-Ok-Run-clause-unread g c = λ other. absurd (other (runs (map string_bytes c.args.words.now) c.read_words.result c.read_words.ensures.command c.in-Ok-Run.scale c.in-Ok-Run.workers (ok_same c.read_words.result c.in-Ok-Run.field-0 (Run c.in-Ok-Run.scale c.in-Ok-Run.workers) c.in-Ok-Run.is c.in-Ok-Run.field-0-is)))
 
 pub returns-in-Ok-Ask-clause-run : goal.returns-in-Ok-Ask-clause-run
 returns-in-Ok-Ask-clause-run g c = λ run. absurd ((asks (map string_bytes c.args.words.now) c.read_words.result c.read_words.ensures.command c.in-Ok-Ask.question (ok_same c.read_words.result c.in-Ok-Ask.field-0 (Ask c.in-Ok-Ask.question) c.in-Ok-Ask.is c.in-Ok-Ask.field-0-is)).0 run)
@@ -91,13 +92,13 @@ pub returns-in-Err-clause-unopened : goal.returns-in-Err-clause-unopened
 returns-in-Err-clause-unopened g c = λ other plain undrawn single lost. c.answered-in-Err.ensures.unopened (λ put. put)
 
 pub returns-in-Ok-Run-clause-follow : goal.returns-in-Ok-Run-clause-follow
-returns-in-Ok-Run-clause-follow g c = λ is. absurd (runs_only (map string_bytes c.args.words.now) c.read_words.result c.read_words.ensures.command c.in-Ok-Run.workers (ok_same c.read_words.result c.in-Ok-Run.field-0 (Run c.in-Ok-Run.workers) c.in-Ok-Run.is c.in-Ok-Run.field-0-is) is)
+returns-in-Ok-Run-clause-follow g c = λ is. absurd (runs_only (map string_bytes c.args.words.now) c.read_words.result c.read_words.ensures.command c.in-Ok-Run.scale c.in-Ok-Run.workers (ok_same c.read_words.result c.in-Ok-Run.field-0 (Run c.in-Ok-Run.scale c.in-Ok-Run.workers) c.in-Ok-Run.is c.in-Ok-Run.field-0-is) is)
 
 pub returns-in-Ok-Ask-clause-follow : goal.returns-in-Ok-Ask-clause-follow
 returns-in-Ok-Ask-clause-follow g c = λ is. absurd ((asks (map string_bytes c.args.words.now) c.read_words.result c.read_words.ensures.command c.in-Ok-Ask.question (ok_same c.read_words.result c.in-Ok-Ask.field-0 (Ask c.in-Ok-Ask.question) c.in-Ok-Ask.is c.in-Ok-Ask.field-0-is)).2 is)
 
 pub returns-in-Ok-Run-clause-followed : goal.returns-in-Ok-Run-clause-followed
-returns-in-Ok-Run-clause-followed g c = λ is. absurd (runs_only (map string_bytes c.args.words.now) c.read_words.result c.read_words.ensures.command c.in-Ok-Run.workers (ok_same c.read_words.result c.in-Ok-Run.field-0 (Run c.in-Ok-Run.workers) c.in-Ok-Run.is c.in-Ok-Run.field-0-is) is)
+returns-in-Ok-Run-clause-followed g c = λ is. absurd (runs_only (map string_bytes c.args.words.now) c.read_words.result c.read_words.ensures.command c.in-Ok-Run.scale c.in-Ok-Run.workers (ok_same c.read_words.result c.in-Ok-Run.field-0 (Run c.in-Ok-Run.scale c.in-Ok-Run.workers) c.in-Ok-Run.is c.in-Ok-Run.field-0-is) is)
 
 pub returns-in-Ok-Ask-clause-followed : goal.returns-in-Ok-Ask-clause-followed
 returns-in-Ok-Ask-clause-followed g c = λ is. absurd ((asks (map string_bytes c.args.words.now) c.read_words.result c.read_words.ensures.command c.in-Ok-Ask.question (ok_same c.read_words.result c.in-Ok-Ask.field-0 (Ask c.in-Ok-Ask.question) c.in-Ok-Ask.is c.in-Ok-Ask.field-0-is)).2 is)
@@ -111,31 +112,31 @@ returns-in-Err-clause-followed g c = λ is.
     untouched_on_disk g.D.Disk.view g.S.Source.tells (g.S.Source.left c.args.source.now) c.args.disk c.answered-in-Err.result.disk (c.answered-in-Err.ensures.unopened (λ put. put))
 
 pub returns-in-Ok-Replay-clause-asked : goal.returns-in-Ok-Replay-clause-asked
-returns-in-Ok-Replay-clause-asked g c = λ other. absurd (other (replays (map string_bytes c.args.words.now) c.read_words.result c.read_words.ensures.command (ok_same c.read_words.result c.in-Ok-Replay.field-0 Replay c.in-Ok-Replay.is c.in-Ok-Replay.field-0-is)).0)
+returns-in-Ok-Replay-clause-asked g c = λ other. absurd (other (replays (map string_bytes c.args.words.now) c.read_words.result c.read_words.ensures.command c.in-Ok-Replay.scale (ok_same c.read_words.result c.in-Ok-Replay.field-0 (Replay c.in-Ok-Replay.scale) c.in-Ok-Replay.is c.in-Ok-Replay.field-0-is)).0)
 
 pub returns-in-Ok-Replay-clause-unrecorded : goal.returns-in-Ok-Replay-clause-unrecorded
-returns-in-Ok-Replay-clause-unrecorded g c = λ other. absurd (other (replays (map string_bytes c.args.words.now) c.read_words.result c.read_words.ensures.command (ok_same c.read_words.result c.in-Ok-Replay.field-0 Replay c.in-Ok-Replay.is c.in-Ok-Replay.field-0-is)).0)
+returns-in-Ok-Replay-clause-unrecorded g c = λ other. absurd (other (replays (map string_bytes c.args.words.now) c.read_words.result c.read_words.ensures.command c.in-Ok-Replay.scale (ok_same c.read_words.result c.in-Ok-Replay.field-0 (Replay c.in-Ok-Replay.scale) c.in-Ok-Replay.is c.in-Ok-Replay.field-0-is)).0)
 
 pub returns-in-Ok-Replay-clause-alone : goal.returns-in-Ok-Replay-clause-alone
-returns-in-Ok-Replay-clause-alone g c = λ other. absurd (other (replays (map string_bytes c.args.words.now) c.read_words.result c.read_words.ensures.command (ok_same c.read_words.result c.in-Ok-Replay.field-0 Replay c.in-Ok-Replay.is c.in-Ok-Replay.field-0-is)).0)
+returns-in-Ok-Replay-clause-alone g c = λ other. absurd (other (replays (map string_bytes c.args.words.now) c.read_words.result c.read_words.ensures.command c.in-Ok-Replay.scale (ok_same c.read_words.result c.in-Ok-Replay.field-0 (Replay c.in-Ok-Replay.scale) c.in-Ok-Replay.is c.in-Ok-Replay.field-0-is)).0)
 
 pub returns-in-Ok-Replay-clause-unopened : goal.returns-in-Ok-Replay-clause-unopened
-returns-in-Ok-Replay-clause-unopened g c = λ other. absurd (other (replays (map string_bytes c.args.words.now) c.read_words.result c.read_words.ensures.command (ok_same c.read_words.result c.in-Ok-Replay.field-0 Replay c.in-Ok-Replay.is c.in-Ok-Replay.field-0-is)).0)
+returns-in-Ok-Replay-clause-unopened g c = λ other. absurd (other (replays (map string_bytes c.args.words.now) c.read_words.result c.read_words.ensures.command c.in-Ok-Replay.scale (ok_same c.read_words.result c.in-Ok-Replay.field-0 (Replay c.in-Ok-Replay.scale) c.in-Ok-Replay.is c.in-Ok-Replay.field-0-is)).0)
 
 pub returns-in-Ok-Replay-clause-unread : goal.returns-in-Ok-Replay-clause-unread
-returns-in-Ok-Replay-clause-unread g c = λ other. absurd (other (replays (map string_bytes c.args.words.now) c.read_words.result c.read_words.ensures.command (ok_same c.read_words.result c.in-Ok-Replay.field-0 Replay c.in-Ok-Replay.is c.in-Ok-Replay.field-0-is)).0)
+returns-in-Ok-Replay-clause-unread g c = λ other. absurd (other (replays (map string_bytes c.args.words.now) c.read_words.result c.read_words.ensures.command c.in-Ok-Replay.scale (ok_same c.read_words.result c.in-Ok-Replay.field-0 (Replay c.in-Ok-Replay.scale) c.in-Ok-Replay.is c.in-Ok-Replay.field-0-is)).0)
 
 pub returns-in-Ok-Replay-clause-follow : goal.returns-in-Ok-Replay-clause-follow
-returns-in-Ok-Replay-clause-follow g c = λ is. absurd ((replays (map string_bytes c.args.words.now) c.read_words.result c.read_words.ensures.command (ok_same c.read_words.result c.in-Ok-Replay.field-0 Replay c.in-Ok-Replay.is c.in-Ok-Replay.field-0-is)).1 is)
+returns-in-Ok-Replay-clause-follow g c = λ is. absurd ((replays (map string_bytes c.args.words.now) c.read_words.result c.read_words.ensures.command c.in-Ok-Replay.scale (ok_same c.read_words.result c.in-Ok-Replay.field-0 (Replay c.in-Ok-Replay.scale) c.in-Ok-Replay.is c.in-Ok-Replay.field-0-is)).1 is)
 
 pub returns-in-Ok-Replay-clause-followed : goal.returns-in-Ok-Replay-clause-followed
-returns-in-Ok-Replay-clause-followed g c = λ is. absurd ((replays (map string_bytes c.args.words.now) c.read_words.result c.read_words.ensures.command (ok_same c.read_words.result c.in-Ok-Replay.field-0 Replay c.in-Ok-Replay.is c.in-Ok-Replay.field-0-is)).1 is)
+returns-in-Ok-Replay-clause-followed g c = λ is. absurd ((replays (map string_bytes c.args.words.now) c.read_words.result c.read_words.ensures.command c.in-Ok-Replay.scale (ok_same c.read_words.result c.in-Ok-Replay.field-0 (Replay c.in-Ok-Replay.scale) c.in-Ok-Replay.is c.in-Ok-Replay.field-0-is)).1 is)
 
 pub returns-in-Ok-Replay-clause-drawn : goal.returns-in-Ok-Replay-clause-drawn
-returns-in-Ok-Replay-clause-drawn g c = λ number lines is. absurd (nothing_drawn _ number lines (draws_so (map string_bytes c.args.words.now) c.read_words.result c.read_words.ensures.command Replay (ok_same c.read_words.result c.in-Ok-Replay.field-0 Replay c.in-Ok-Replay.is c.in-Ok-Replay.field-0-is)) is)
+returns-in-Ok-Replay-clause-drawn g c = λ number lines is. absurd (nothing_drawn _ number lines (draws_so (map string_bytes c.args.words.now) c.read_words.result c.read_words.ensures.command (Replay c.in-Ok-Replay.scale) (ok_same c.read_words.result c.in-Ok-Replay.field-0 (Replay c.in-Ok-Replay.scale) c.in-Ok-Replay.is c.in-Ok-Replay.field-0-is)) is)
 
 pub returns-in-Ok-Replay-clause-drawn_recorded : goal.returns-in-Ok-Replay-clause-drawn_recorded
-returns-in-Ok-Replay-clause-drawn_recorded g c = λ number lines is. absurd (nothing_drawn _ number lines (draws_so (map string_bytes c.args.words.now) c.read_words.result c.read_words.ensures.command Replay (ok_same c.read_words.result c.in-Ok-Replay.field-0 Replay c.in-Ok-Replay.is c.in-Ok-Replay.field-0-is)) is)
+returns-in-Ok-Replay-clause-drawn_recorded g c = λ number lines is. absurd (nothing_drawn _ number lines (draws_so (map string_bytes c.args.words.now) c.read_words.result c.read_words.ensures.command (Replay c.in-Ok-Replay.scale) (ok_same c.read_words.result c.in-Ok-Replay.field-0 (Replay c.in-Ok-Replay.scale) c.in-Ok-Replay.is c.in-Ok-Replay.field-0-is)) is)
 
 pub returns-in-Ok-Follow-clause-run : goal.returns-in-Ok-Follow-clause-run
 returns-in-Ok-Follow-clause-run g c = λ run. absurd ((follows (map string_bytes c.args.words.now) c.read_words.result c.read_words.ensures.command (ok_same c.read_words.result c.in-Ok-Follow.field-0 Follow c.in-Ok-Follow.is c.in-Ok-Follow.field-0-is)).1 run)
@@ -159,10 +160,10 @@ pub returns-in-Ok-Follow-clause-unread : goal.returns-in-Ok-Follow-clause-unread
 returns-in-Ok-Follow-clause-unread g c = λ other plain. absurd (plain (follows (map string_bytes c.args.words.now) c.read_words.result c.read_words.ensures.command (ok_same c.read_words.result c.in-Ok-Follow.field-0 Follow c.in-Ok-Follow.is c.in-Ok-Follow.field-0-is)).0)
 
 pub returns-in-Ok-Run-clause-drawn : goal.returns-in-Ok-Run-clause-drawn
-returns-in-Ok-Run-clause-drawn g c = λ number lines is. absurd (nothing_drawn _ number lines (draws_so (map string_bytes c.args.words.now) c.read_words.result c.read_words.ensures.command (Run c.in-Ok-Run.workers) (ok_same c.read_words.result c.in-Ok-Run.field-0 (Run c.in-Ok-Run.workers) c.in-Ok-Run.is c.in-Ok-Run.field-0-is)) is)
+returns-in-Ok-Run-clause-drawn g c = λ number lines is. absurd (nothing_drawn _ number lines (draws_so (map string_bytes c.args.words.now) c.read_words.result c.read_words.ensures.command (Run c.in-Ok-Run.scale c.in-Ok-Run.workers) (ok_same c.read_words.result c.in-Ok-Run.field-0 (Run c.in-Ok-Run.scale c.in-Ok-Run.workers) c.in-Ok-Run.is c.in-Ok-Run.field-0-is)) is)
 
 pub returns-in-Ok-Run-clause-drawn_recorded : goal.returns-in-Ok-Run-clause-drawn_recorded
-returns-in-Ok-Run-clause-drawn_recorded g c = λ number lines is. absurd (nothing_drawn _ number lines (draws_so (map string_bytes c.args.words.now) c.read_words.result c.read_words.ensures.command (Run c.in-Ok-Run.workers) (ok_same c.read_words.result c.in-Ok-Run.field-0 (Run c.in-Ok-Run.workers) c.in-Ok-Run.is c.in-Ok-Run.field-0-is)) is)
+returns-in-Ok-Run-clause-drawn_recorded g c = λ number lines is. absurd (nothing_drawn _ number lines (draws_so (map string_bytes c.args.words.now) c.read_words.result c.read_words.ensures.command (Run c.in-Ok-Run.scale c.in-Ok-Run.workers) (ok_same c.read_words.result c.in-Ok-Run.field-0 (Run c.in-Ok-Run.scale c.in-Ok-Run.workers) c.in-Ok-Run.is c.in-Ok-Run.field-0-is)) is)
 
 pub returns-in-Ok-Ask-clause-drawn : goal.returns-in-Ok-Ask-clause-drawn
 returns-in-Ok-Ask-clause-drawn g c = λ number lines is. absurd (nothing_drawn _ number lines (draws_so (map string_bytes c.args.words.now) c.read_words.result c.read_words.ensures.command (Ask c.in-Ok-Ask.question) (ok_same c.read_words.result c.in-Ok-Ask.field-0 (Ask c.in-Ok-Ask.question) c.in-Ok-Ask.is c.in-Ok-Ask.field-0-is)) is)
@@ -232,7 +233,7 @@ returns-in-Ok-Gen-clause-drawn_recorded g c = λ number lines is.
     c.gen_words.ensures.recorded
 
 pub returns-in-Ok-Run-clause-replayed : goal.returns-in-Ok-Run-clause-replayed
-returns-in-Ok-Run-clause-replayed g c = λ is. absurd (not_replay (map string_bytes c.args.words.now) c.read_words.result c.read_words.ensures.command (Run c.in-Ok-Run.workers) (ok_same c.read_words.result c.in-Ok-Run.field-0 (Run c.in-Ok-Run.workers) c.in-Ok-Run.is c.in-Ok-Run.field-0-is) refl is)
+returns-in-Ok-Run-clause-replayed g c = λ is. absurd (not_replay (map string_bytes c.args.words.now) c.read_words.result c.read_words.ensures.command (Run c.in-Ok-Run.scale c.in-Ok-Run.workers) (ok_same c.read_words.result c.in-Ok-Run.field-0 (Run c.in-Ok-Run.scale c.in-Ok-Run.workers) c.in-Ok-Run.is c.in-Ok-Run.field-0-is) refl is)
 
 pub returns-in-Ok-Gen-clause-replayed : goal.returns-in-Ok-Gen-clause-replayed
 returns-in-Ok-Gen-clause-replayed g c = λ is. absurd (not_replay (map string_bytes c.args.words.now) c.read_words.result c.read_words.ensures.command (Gen c.in-Ok-Gen.workers c.in-Ok-Gen.number c.in-Ok-Gen.lines) (ok_same c.read_words.result c.in-Ok-Gen.field-0 (Gen c.in-Ok-Gen.workers c.in-Ok-Gen.number c.in-Ok-Gen.lines) c.in-Ok-Gen.is c.in-Ok-Gen.field-0-is) refl is)
@@ -247,16 +248,16 @@ pub returns-in-Err-clause-replayed : goal.returns-in-Err-clause-replayed
 returns-in-Err-clause-replayed g c = λ is. (g.S.Source.left c.args.source.now, λ tells. refl, inl c.answered-in-Err.ensures.nothing)
 
 pub returns-in-Ok-Run-clause-questions : goal.returns-in-Ok-Run-clause-questions
-returns-in-Ok-Run-clause-questions g c = λ json is. absurd (no_lines _ json (lines_as (map string_bytes c.args.words.now) c.read_words.result c.read_words.ensures.command (Run c.in-Ok-Run.workers) (ok_same c.read_words.result c.in-Ok-Run.field-0 (Run c.in-Ok-Run.workers) c.in-Ok-Run.is c.in-Ok-Run.field-0-is)) is)
+returns-in-Ok-Run-clause-questions g c = λ json is. absurd (no_lines _ json (lines_as (map string_bytes c.args.words.now) c.read_words.result c.read_words.ensures.command (Run c.in-Ok-Run.scale c.in-Ok-Run.workers) (ok_same c.read_words.result c.in-Ok-Run.field-0 (Run c.in-Ok-Run.scale c.in-Ok-Run.workers) c.in-Ok-Run.is c.in-Ok-Run.field-0-is)) is)
 
 pub returns-in-Ok-Run-clause-cut : goal.returns-in-Ok-Run-clause-cut
-returns-in-Ok-Run-clause-cut g c = λ json is. absurd (no_lines _ json (lines_as (map string_bytes c.args.words.now) c.read_words.result c.read_words.ensures.command (Run c.in-Ok-Run.workers) (ok_same c.read_words.result c.in-Ok-Run.field-0 (Run c.in-Ok-Run.workers) c.in-Ok-Run.is c.in-Ok-Run.field-0-is)) is)
+returns-in-Ok-Run-clause-cut g c = λ json is. absurd (no_lines _ json (lines_as (map string_bytes c.args.words.now) c.read_words.result c.read_words.ensures.command (Run c.in-Ok-Run.scale c.in-Ok-Run.workers) (ok_same c.read_words.result c.in-Ok-Run.field-0 (Run c.in-Ok-Run.scale c.in-Ok-Run.workers) c.in-Ok-Run.is c.in-Ok-Run.field-0-is)) is)
 
 pub returns-in-Ok-Replay-clause-questions : goal.returns-in-Ok-Replay-clause-questions
-returns-in-Ok-Replay-clause-questions g c = λ json is. absurd (no_lines _ json (lines_as (map string_bytes c.args.words.now) c.read_words.result c.read_words.ensures.command Replay (ok_same c.read_words.result c.in-Ok-Replay.field-0 Replay c.in-Ok-Replay.is c.in-Ok-Replay.field-0-is)) is)
+returns-in-Ok-Replay-clause-questions g c = λ json is. absurd (no_lines _ json (lines_as (map string_bytes c.args.words.now) c.read_words.result c.read_words.ensures.command (Replay c.in-Ok-Replay.scale) (ok_same c.read_words.result c.in-Ok-Replay.field-0 (Replay c.in-Ok-Replay.scale) c.in-Ok-Replay.is c.in-Ok-Replay.field-0-is)) is)
 
 pub returns-in-Ok-Replay-clause-cut : goal.returns-in-Ok-Replay-clause-cut
-returns-in-Ok-Replay-clause-cut g c = λ json is. absurd (no_lines _ json (lines_as (map string_bytes c.args.words.now) c.read_words.result c.read_words.ensures.command Replay (ok_same c.read_words.result c.in-Ok-Replay.field-0 Replay c.in-Ok-Replay.is c.in-Ok-Replay.field-0-is)) is)
+returns-in-Ok-Replay-clause-cut g c = λ json is. absurd (no_lines _ json (lines_as (map string_bytes c.args.words.now) c.read_words.result c.read_words.ensures.command (Replay c.in-Ok-Replay.scale) (ok_same c.read_words.result c.in-Ok-Replay.field-0 (Replay c.in-Ok-Replay.scale) c.in-Ok-Replay.is c.in-Ok-Replay.field-0-is)) is)
 
 pub returns-in-Ok-Gen-clause-questions : goal.returns-in-Ok-Gen-clause-questions
 returns-in-Ok-Gen-clause-questions g c = λ json is. absurd (no_lines _ json (lines_as (map string_bytes c.args.words.now) c.read_words.result c.read_words.ensures.command (Gen c.in-Ok-Gen.workers c.in-Ok-Gen.number c.in-Ok-Gen.lines) (ok_same c.read_words.result c.in-Ok-Gen.field-0 (Gen c.in-Ok-Gen.workers c.in-Ok-Gen.number c.in-Ok-Gen.lines) c.in-Ok-Gen.is c.in-Ok-Gen.field-0-is)) is)
@@ -349,3 +350,31 @@ returns-in-Ok-Follow-clause-unfailed g c = λ starved. ap g.K.Sink.fault_count (
 
 pub returns-in-Err-clause-unfailed : goal.returns-in-Err-clause-unfailed
 returns-in-Err-clause-unfailed g c = λ starved. ap g.K.Sink.fault_count (c.answered-in-Err.ensures.untaken starved)
+
+pub returns-in-Ok-Run-clause-run : goal.returns-in-Ok-Run-clause-run
+returns-in-Ok-Run-clause-run g c = λ run known.
+    subst (λ (scale : Scale). IsAnswer g.D.Disk.view scale
+    (record { tells = g.S.Source.tells; left = g.S.Source.left c.args.source.now; before = g.S.Source.fault_count c.args.source.now; after = g.S.Source.fault_count c.run_words.new.source })
+    (record { tells = g.K.Sink.tells; before = g.K.Sink.taken c.args.sink.now; after = g.K.Sink.taken c.run_words.new.sink }) c.args.disk c.run_words.result.disk (outcome_of c.run_words.result) c.run_words.result.status)
+    (sym (runs_at (map string_bytes c.args.words.now) c.read_words.result c.read_words.ensures.command (Run c.in-Ok-Run.scale c.in-Ok-Run.workers) (ok_same c.read_words.result c.in-Ok-Run.field-0 (Run c.in-Ok-Run.scale c.in-Ok-Run.workers) c.in-Ok-Run.is c.in-Ok-Run.field-0-is)))
+    (c.run_words.ensures.run known)
+
+pub returns-in-Ok-Run-clause-stops : goal.returns-in-Ok-Run-clause-stops
+returns-in-Ok-Run-clause-stops g c = λ tells run known unfailed.
+    subst (λ (scale : Scale). IsReadInTime scale (g.S.Source.left c.args.source.now) (g.S.Source.left c.run_words.new.source))
+    (sym (runs_at (map string_bytes c.args.words.now) c.read_words.result c.read_words.ensures.command (Run c.in-Ok-Run.scale c.in-Ok-Run.workers) (ok_same c.read_words.result c.in-Ok-Run.field-0 (Run c.in-Ok-Run.scale c.in-Ok-Run.workers) c.in-Ok-Run.is c.in-Ok-Run.field-0-is)))
+    (c.run_words.ensures.stops tells known unfailed)
+
+pub returns-in-Ok-Replay-clause-run : goal.returns-in-Ok-Replay-clause-run
+returns-in-Ok-Replay-clause-run g c = λ run known.
+    subst (λ (scale : Scale). IsAnswer g.D.Disk.view scale
+    (record { tells = g.S.Source.tells; left = g.S.Source.left c.args.source.now; before = g.S.Source.fault_count c.args.source.now; after = g.S.Source.fault_count c.run_words-in-Ok-Replay.new.source })
+    (record { tells = g.K.Sink.tells; before = g.K.Sink.taken c.args.sink.now; after = g.K.Sink.taken c.run_words-in-Ok-Replay.new.sink }) c.args.disk c.run_words-in-Ok-Replay.result.disk (outcome_of c.run_words-in-Ok-Replay.result) c.run_words-in-Ok-Replay.result.status)
+    (sym (runs_at (map string_bytes c.args.words.now) c.read_words.result c.read_words.ensures.command (Replay c.in-Ok-Replay.scale) (ok_same c.read_words.result c.in-Ok-Replay.field-0 (Replay c.in-Ok-Replay.scale) c.in-Ok-Replay.is c.in-Ok-Replay.field-0-is)))
+    (c.run_words-in-Ok-Replay.ensures.run known)
+
+pub returns-in-Ok-Replay-clause-stops : goal.returns-in-Ok-Replay-clause-stops
+returns-in-Ok-Replay-clause-stops g c = λ tells run known unfailed.
+    subst (λ (scale : Scale). IsReadInTime scale (g.S.Source.left c.args.source.now) (g.S.Source.left c.run_words-in-Ok-Replay.new.source))
+    (sym (runs_at (map string_bytes c.args.words.now) c.read_words.result c.read_words.ensures.command (Replay c.in-Ok-Replay.scale) (ok_same c.read_words.result c.in-Ok-Replay.field-0 (Replay c.in-Ok-Replay.scale) c.in-Ok-Replay.is c.in-Ok-Replay.field-0-is)))
+    (c.run_words-in-Ok-Replay.ensures.stops tells known unfailed)

@@ -15,17 +15,17 @@ returns-in-Err-ReadFault-clause-read g c = (
 pub returns-in-Err-NoMemory-clause-read : goal.returns-in-Err-NoMemory-clause-read
 returns-in-Err-NoMemory-clause-read g c = (g.S.Source.left c.args.source.now, λ t. refl, tt)
 
-pub returns-in-Ok-parse-clause-read : goal.returns-in-Ok-parse-clause-read
-returns-in-Ok-parse-clause-read g c =
-    trace_read g.S.Source.tells c.in-Ok.text.items (g.S.Source.left c.args.source.now) (g.S.Source.left c.read_source.new.source) _ _ c.in-Ok-parse.trace
+pub returns-in-Ok-parse_within-clause-read : goal.returns-in-Ok-parse_within-clause-read
+returns-in-Ok-parse_within-clause-read g c =
+    trace_read c.args.scale g.S.Source.tells c.in-Ok.text.items (g.S.Source.left c.args.source.now) (g.S.Source.left c.read_source.new.source) _ _ c.in-Ok-parse_within.trace
     (λ rose. ok_not_err _ _ (c.in-Ok.ensures.fault.1 rose)) c.in-Ok.ensures.front c.in-Ok.ensures.whole
-    (subst IsTraceText c.deref.ensures.value c.in-Ok-parse.ensures.text) (c.in-Ok-parse.ensures.trace ∙ ap trace_of c.deref.ensures.value)
+    (subst (IsTraceText c.args.scale) c.deref.ensures.value c.in-Ok-parse_within.ensures.text) (c.in-Ok-parse_within.ensures.trace ∙ ap trace_of c.deref.ensures.value)
 
 pub returns-in-Err-BadTrace-clause-read : goal.returns-in-Err-BadTrace-clause-read
 returns-in-Err-BadTrace-clause-read g c =
-    fault_read g.S.Source.tells c.in-Ok.text.items (g.S.Source.left c.args.source.now) (g.S.Source.left c.read_source.new.source) _ _
+    fault_read c.args.scale g.S.Source.tells c.in-Ok.text.items (g.S.Source.left c.args.source.now) (g.S.Source.left c.read_source.new.source) _ _
     c.in-Err-BadTrace.line c.in-Err-BadTrace.reason (λ rose. ok_not_err _ _ (c.in-Ok.ensures.fault.1 rose)) c.in-Ok.ensures.front c.in-Ok.ensures.whole
-    (subst (λ (t : List ℕ). IsFirstFault t c.in-Err-BadTrace.line c.in-Err-BadTrace.reason) c.deref.ensures.value
+    (subst (λ (t : List ℕ). IsFirstFault c.args.scale t c.in-Err-BadTrace.line c.in-Err-BadTrace.reason) c.deref.ensures.value
     (c.in-Err-BadTrace.ensures.fault c.in-Err-BadTrace.line c.in-Err-BadTrace.reason (ap (λ e. Err e) c.in-Err-BadTrace.field-0-is)))
 
 pub returns-clause-read : goal.returns-clause-read

@@ -3,6 +3,7 @@ use Rattle.pass_trace.specs.TraceLines.{objects_of}
 use Rattle.pass_trace.specs.declared.trace.TraceLine.{TraceLine}
 use Rattle.pass_status.specs.declared.status.Status.{Status}
 use Rattle.pass_status.specs.declared.status.Status.TheVariants as status
+use Rattle.pass_run.specs.Ends.{IsTrace}
 use Rattle.pass_run.specs.Orders.{HasReplayed}
 use Rattle.pass_run.specs.Stored.{HasBegun, IsHeldBack, IsOverStore}
 use Rattle.pass_run.proofs.Moved.{none_backed}
@@ -11,6 +12,12 @@ use Rattle.pass_cli.proofs.Judging.{ran_run, refusal_run, no_write, still_unwrit
 use Rattle.pass_cli.proofs.verdict.judge.Goals as goal
 use Rattle.pass_entry.proofs.Variants.{err_inside}
 
+pub run_trace-requires-clause-trace : goal.run_trace-requires-clause-trace
+run_trace-requires-clause-trace g c = λ _ _.
+    let (bytes, told, (traced, same)) = c.in-Ok.ensures.read in
+    let trace : IsTrace c.in-Ok.trace.lines.items = (bytes, c.scales.ensures c.args.scale bytes traced.text, same) in
+    trace
+
 pub returns-in-Ok-clause-judged : goal.returns-in-Ok-clause-judged
 returns-in-Ok-clause-judged g c = λ known.
     let (bytes, told, (traced, same)) = c.in-Ok.ensures.read in
@@ -18,7 +25,7 @@ returns-in-Ok-clause-judged g c = λ known.
     let r = c.run_trace.result in (
       bytes,
       told,
-      ran_run g.D.Disk.view bytes _ _ c.args.disk r.disk c.in-Ok.trace.lines.items (outcome_of_run r) r.status r.report.items traced same
+      ran_run c.args.scale g.D.Disk.view bytes _ _ c.args.disk r.disk c.in-Ok.trace.lines.items (outcome_of_run r) r.status r.report.items traced same
           (record {
             disk_fault = λ opened now is. let (before, after, risen) = e.disk_fault opened now is in record { before = before; after = after; risen = risen };
             no_fault = e.no_fault known;
@@ -58,9 +65,9 @@ returns-in-Err-clause-judged g c = λ known.
     let faults = g.S.Source.fault_count in (
       bytes,
       told,
-      subst (λ d. HasRun g.D.Disk.view bytes (faults c.args.source.now) (faults c.read_trace.new.source) c.args.disk d (outcome_of_run r) r.status r.report.items) (sym e.disk)
-          (subst (λ (s : Status). HasRun g.D.Disk.view bytes (faults c.args.source.now) (faults c.read_trace.new.source) c.args.disk c.args.disk (outcome_of_run r) s r.report.items) (sym e.status)
-          (refusal_run g.D.Disk.view bytes _ _ c.args.disk (outcome_of_run r) c.in-Err.status r.report.items (λ is. known (e.status ∙ is)) refusal
+      subst (λ d. HasRun g.D.Disk.view c.args.scale bytes (faults c.args.source.now) (faults c.read_trace.new.source) c.args.disk d (outcome_of_run r) r.status r.report.items) (sym e.disk)
+          (subst (λ (s : Status). HasRun g.D.Disk.view c.args.scale bytes (faults c.args.source.now) (faults c.read_trace.new.source) c.args.disk c.args.disk (outcome_of_run r) s r.report.items) (sym e.status)
+          (refusal_run c.args.scale g.D.Disk.view bytes _ _ c.args.disk (outcome_of_run r) c.in-Err.status r.report.items (λ is. known (e.status ∙ is)) refusal
           (record { no_list = e.list; no_start = e.start; no_history = e.history; no_syncs = e.syncs }))),
     )
 
@@ -80,7 +87,7 @@ returns-in-Err-clause-recorded g c =
 pub returns-in-Err-clause-no_write : goal.returns-in-Err-clause-no_write
 returns-in-Err-clause-no_write g c = λ is.
     let (bytes, told, refusal) = c.in-Err.ensures.read in
-    subst (λ (s : Status). IsRefusal bytes (g.S.Source.fault_count c.args.source.now) (g.S.Source.fault_count c.read_trace.new.source) s) (sym c.unopened.ensures.status ∙ is) refusal
+    subst (λ (s : Status). IsRefusal c.args.scale bytes (g.S.Source.fault_count c.args.source.now) (g.S.Source.fault_count c.read_trace.new.source) s) (sym c.unopened.ensures.status ∙ is) refusal
 
 pub returns-in-Err-clause-stops : goal.returns-in-Err-clause-stops
 returns-in-Err-clause-stops g c = λ t known. c.in-Err.ensures.stops t (λ is. known (c.unopened.ensures.status ∙ err_inside _ _ is))

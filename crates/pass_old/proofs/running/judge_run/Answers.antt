@@ -1,4 +1,5 @@
 use Rattle.std.proofs.Common.{◌≡◌, ◌∙◌, inl, inr, sym, ap, subst, arith}
+use Rattle.pass_trace.specs.declared.limits.Scale.TheVariants.{Usual}
 use Rattle.pass_entry.proofs.Variants.{err_inside}
 use Rattle.pass_status.specs.declared.status.Status.{Status}
 use Rattle.pass_status.specs.declared.status.Status.TheVariants as status
@@ -19,7 +20,7 @@ returns-in-Err-clause-run g c =
 pub returns-in-Err-clause-no_write : goal.returns-in-Err-clause-no_write
 returns-in-Err-clause-no_write g c = λ is.
     let (bytes, told, refusal) = c.in-Err.ensures.read in
-    subst (λ (s : Status). IsRefusal bytes (g.S.Source.fault_count c.args.source.now) (g.S.Source.fault_count c.read_trace.new.source) s)
+    subst (λ (s : Status). IsRefusal Usual bytes (g.S.Source.fault_count c.args.source.now) (g.S.Source.fault_count c.read_trace.new.source) s)
     (inside c.in-Err.status status.WriteFault (sym c.unrun.ensures.status ∙ is)) refusal
 
 pub returns-in-Err-clause-stops : goal.returns-in-Err-clause-stops
@@ -34,7 +35,7 @@ returns-in-Err-clause-archive_later g c = later_at g.A.Disk.view c.args.archive 
 pub run_kept-requires-clause-trace : goal.run_kept-requires-clause-trace
 run_kept-requires-clause-trace g c = λ _ _.
     let (bytes, told, (traced, same)) = c.in-Ok.ensures.read in
-    let trace : IsTrace c.in-Ok.trace.lines.items = (bytes, traced.text, same) in
+    let trace : IsTrace c.in-Ok.trace.lines.items = (bytes, c.scales.ensures Usual bytes traced.text, same) in
     trace
 
 pub run_kept-requires-clause-healthy : goal.run_kept-requires-clause-healthy

@@ -9,7 +9,7 @@ use Rattle.pass_old.specs.Retracings.{IsLike}
 use Rattle.pass_old.proofs.running.keep_run.Goals as goal
 
 pub objects_of-objects-requires : goal.objects_of-objects-requires
-objects_of-objects-requires g c = subst (λ (ls : List TraceLine). length ls ≤ 100000) (sym c.deref.ensures.value) (few_lines c.args.trace.now.lines.items c.requires.trace)
+objects_of-objects-requires g c = subst (λ (ls : List TraceLine). length ls ≤ 1000000) (sym c.deref.ensures.value) (few_lines c.args.trace.now.lines.items c.requires.trace)
 
 pub returns-then-not-has_ended-clause-kept : goal.returns-then-not-has_ended-clause-kept
 returns-then-not-has_ended-clause-kept g c = inl (record { is = inl (refl, λ e. absurd (cc (c.has_ended.ensures.1 e, c.if-not-has_ended.true))); archive = refl })

@@ -1,5 +1,6 @@
 use Rattle.std.proofs.Common.{◌≡◌, ◌⊎◌, ◌∙◌, ℕ, List, inl, inr, refl, sym, ap, subst}
 use Rattle.std.specs.Prelude.{Option, Some, None}
+use Rattle.pass_trace.specs.declared.limits.Scale.TheVariants.{Usual}
 use Rattle.pass_entry.specs.declared.entry.Entry.{Entry}
 use Rattle.pass_trace.specs.TraceLines.{objects_of}
 use Rattle.pass_trace.specs.Traces.{trace_of}
@@ -58,9 +59,9 @@ returns-in-Ok-clause-run g c = λ bytes before after traced same.
       start_is = sym n.start;
       history_is = sym n.history;
       ended = r.status;
-      run = λ known. subst (λ d. HasRun view bytes before after c.recover.new.disk d (outcome_of_run r) r.status end.report.items) (sym n.disk)
-          (subst (λ t. HasRun view bytes before after c.recover.new.disk r.disk (outcome_of_run r) r.status t) (sym n.report)
-          (ran_run view bytes before after c.recover.new.disk r.disk lines (outcome_of_run r) r.status r.report.items traced same
+      run = λ known. subst (λ d. HasRun view Usual bytes before after c.recover.new.disk d (outcome_of_run r) r.status end.report.items) (sym n.disk)
+          (subst (λ t. HasRun view Usual bytes before after c.recover.new.disk r.disk (outcome_of_run r) r.status t) (sym n.report)
+          (ran_run Usual view bytes before after c.recover.new.disk r.disk lines (outcome_of_run r) r.status r.report.items traced same
           (record {
             disk_fault = λ opened now is. let (first, second, risen) = e.disk_fault opened now is in record { before = first; after = second; risen = risen };
             no_fault = e.no_fault known;

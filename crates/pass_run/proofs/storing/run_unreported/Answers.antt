@@ -2,25 +2,32 @@ use Rattle.std.proofs.Common.{◌≤◌, ◌∙◌, List, [], length, sym, ap, s
 use Rattle.pass_recover.specs.Faults.{LogHas}
 use Rattle.pass_replay.specs.Lines.{AreLinesBehind}
 use Rattle.pass_replay.specs.Needs.{places_of}
-use Rattle.pass_trace.specs.TraceLines.{plain_trace}
+use Rattle.pass_trace.specs.TraceLines.{objects_of, plain_trace}
 use Rattle.pass_trace.specs.declared.trace.TraceLine.{TraceLine}
 use Rattle.pass_run.specs.Stored.{session_fault, IsStoreJudged, HasEnded}
+use Rattle.pass_run.proofs.Fitting.{few_objects}
 use Rattle.pass_run.proofs.Needed.{room}
 use Rattle.pass_run.proofs.Ruled.{few_lines, ruled}
 use Rattle.pass_run.specs.Orders.{HasReplayed}
 use Rattle.pass_run.proofs.storing.run_unreported.Goals as goal
 
 pub objects_of-objects-requires : goal.objects_of-objects-requires
-objects_of-objects-requires g c = subst (λ (ls : List TraceLine). length ls ≤ 100000) (sym c.deref.ensures.value) (few_lines c.args.trace.now.lines.items c.requires.trace)
+objects_of-objects-requires g c = subst (λ (ls : List TraceLine). length ls ≤ 1000000) (sym c.deref.ensures.value) (few_lines c.args.trace.now.lines.items c.requires.trace)
 
 pub places_of-entries-requires : goal.places_of-entries-requires
-places_of-entries-requires g c = subst (λ (ls : List TraceLine). length ls ≤ 100000) (sym c.deref-2.ensures.value) (few_lines c.args.trace.now.lines.items c.requires.trace)
+places_of-entries-requires g c = subst (λ (ls : List TraceLine). length ls ≤ 1000000) (sym c.deref-2.ensures.value) (few_lines c.args.trace.now.lines.items c.requires.trace)
 
 pub of-requires-clause-ordered : goal.of-requires-clause-ordered
 of-requires-clause-ordered g c = subst (λ (ls : List TraceLine). AreLinesBehind [] (plain_trace ls)) (sym c.deref-3.ensures.value) (ruled c.args.trace.now.lines.items c.requires.trace)
 
 pub of-requires-clause-few : goal.of-requires-clause-few
-of-requires-clause-few g c = subst (λ (ls : List TraceLine). length ls ≤ 100000) (sym c.deref-3.ensures.value) (few_lines c.args.trace.now.lines.items c.requires.trace)
+of-requires-clause-few g c = subst (λ (ls : List TraceLine). length ls ≤ 1000000) (sym c.deref-3.ensures.value) (few_lines c.args.trace.now.lines.items c.requires.trace)
+
+pub open-requires-clause-objects : goal.open-requires-clause-objects
+open-requires-clause-objects g c =
+    let few = few_objects c.traces.ensures c.args.trace.now.lines.items c.requires.trace in
+    let same = c.objects_of-objects.ensures ∙ ap objects_of c.deref.ensures.value in
+    (omega (arith, same), omega (arith, same, few))
 
 pub open-requires-clause-entries : goal.open-requires-clause-entries
 open-requires-clause-entries g c =

@@ -1,10 +1,9 @@
 //! The lines of a trace, and from where they come.
 
-use pass_trace::limits::MOST_LINES;
-use pass_trace::{Command, TraceLine};
+use pass_trace::{Command, Scale, TraceLine};
 use std::alloc::{AllocError, Global};
 
-/// The lines of the trace so far, as many as one may have and one more; and for each the line of strace from which it comes, or 0.
+/// The lines of the trace so far, as many as a long one may have and one more; and for each the line of strace from which it comes, or 0.
 #[derive(Drop)]
 pub struct Output {
     pub lines: Vec<TraceLine>,
@@ -20,7 +19,7 @@ impl Output {
     }
 
     pub fn is_full(&self) -> bool {
-        self.lines.len() > MOST_LINES as usize
+        self.lines.len() > Scale::Long.most_lines() as usize
     }
 
     pub fn push(&mut self, origin: u64, process: u32, command: Command) -> Result<(), AllocError> {

@@ -3,6 +3,7 @@ ghost use Rattle.std.specs.Prelude.{◌≡◌, ◌+◌, false, Err, IsTrue, IfOk
 ghost use Rattle.pass_strace.specs.declared.fault.TranslationFault.TheVariants.{Refused};
 ghost use Rattle.pass_strace.specs.declared.fault.Refusal.TheVariants.{Strace};
 ghost use Rattle.pass_syscall.specs.declared.fault.StraceReason.TheVariants.{Cut};
+ghost use Rattle.pass_trace.specs.declared.limits.Scale.TheVariants.{Usual, Long};
 ghost use Rattle.pass_trace.specs.Traces.{trace_of, IsTraceText};
 ghost use Rattle.pass_strace.specs.Calls.{KeepsCalls, lines_of};
 ghost use Rattle.pass_strace.specs.Facts.{BeginsWith, IsTold};
@@ -17,7 +18,10 @@ use pass_descriptor::{Known, Output, Program, Run, Setting};
 use pass_entry::KIND_LIMIT;
 use pass_observed::{Ledger, Loaders, Origin, Skipped, Stored, Survey, Told, below};
 use pass_syscall::{Joining, LineFault, Skip, Step, StraceReason, join};
-use pass_trace::{Command, Trace, TraceFault, TraceLine, TraceReason, parse, print};
+use pass_trace::laws::text_or_one_fault;
+use pass_trace::{
+    Command, Scale, Trace, TraceFault, TraceLine, TraceReason, parse, parse_within, print,
+};
 use std::alloc::{AllocError, Global};
 use std::collections::BTreeSet;
 
@@ -36,6 +40,8 @@ pub struct Request<'a> {
 pub struct Translated {
     /// The text of the trace.
     pub text: Vec<u8>,
+    /// Of which scale it is one: the long one, where it isn't one of the usual scale.
+    pub scale: Scale,
     /// What it says.
     pub lines: Vec<TraceLine>,
     /// For each of its lines the line of strace, from 1, from which it comes; 0 where it comes from none.
@@ -111,16 +117,34 @@ fn insert(
     Ok(())
 }
 
-// The lines of the text, where it is one of a trace.
+// The lines of the text, where it is one of a trace, and of which scale: the long one, where it isn't one of the usual scale.
 fn read_again(
     alloc: Global,
     text: &[u8],
     origins: &[u64],
-) -> Result<Vec<TraceLine>, TranslationFault>
-    ensures text { OnOk result (IsTraceText text.now) }
-    ensures lines { IfOk result (λ l. l.items ≡ trace_of text.now) }
+) -> Result<(Scale, Vec<TraceLine>), TranslationFault>
+    ensures text { IfOk result (λ r. IsTraceText r.0 text.now) }
+    ensures scale { IfOk result (λ r. r.0 ≡ Long → ¬ IsTraceText Usual text.now) }
+    ensures lines { IfOk result (λ r. r.1.items ≡ trace_of text.now) }
 {
+    text_or_one_fault();
     match parse(alloc, text) {
+        Ok(Trace { lines }) => Ok((Scale::Usual, lines)),
+        Err(TraceFault::BadTrace { .. }) => Ok((Scale::Long, read_long(alloc, text, origins)?)),
+        Err(TraceFault::NoMemory) => Err(TranslationFault::NoMemory),
+    }
+}
+
+// The lines of the text, where it is one of a long trace.
+fn read_long(
+    alloc: Global,
+    text: &[u8],
+    origins: &[u64],
+) -> Result<Vec<TraceLine>, TranslationFault>
+    ensures text { OnOk result (IsTraceText Long text.now) }
+    ensures lines { IfOk result (λ ls. ls.items ≡ trace_of text.now) }
+{
+    match parse_within(alloc, Scale::Long, text) {
         Ok(Trace { lines }) => Ok(lines),
         Err(TraceFault::BadTrace { line, reason }) => Err(refused(origins, line, reason)),
         Err(TraceFault::NoMemory) => Err(TranslationFault::NoMemory),
@@ -181,7 +205,8 @@ fn checked(
     source: &[u8],
     facts: &[Fact],
 ) -> Result<Translated, TranslationFault>
-    ensures text { IfOk result (λ t. IsTraceText t.text.items) }
+    ensures text { IfOk result (λ t. IsTraceText t.scale t.text.items) }
+    ensures scale { IfOk result (λ t. t.scale ≡ Long → ¬ IsTraceText Usual t.text.items) }
     ensures lines { IfOk result (λ t. t.lines.items ≡ trace_of t.text.items) }
     ensures origins { IfOk result (λ t. length t.origins.items ≡ length t.lines.items) }
     ensures order { IfOk result (λ t. IsInOrder t.origins.items (count_lines source.now)) }
@@ -193,7 +218,7 @@ fn checked(
     let Ledger { skipped, told, .. } = ledger;
     let text = text_with(alloc, facts, lines)?;
     let origins = origins_with(alloc, facts, origins)?;
-    let lines = read_again(alloc, &text, &origins)?;
+    let (scale, lines) = read_again(alloc, &text, &origins)?;
     let count = count_lines(source) as u64;
     if lines.len() != origins.len() || !are_in_order(&origins, count) || !is_told(facts, &lines) {
         return Err(refused(&origins, 1, TraceReason::Process));
@@ -204,6 +229,7 @@ fn checked(
     }
     Ok(Translated {
         text,
+        scale,
         lines,
         origins,
         skipped,
@@ -427,8 +453,9 @@ pub fn translate<'a>(
 ) -> Result<Translated, TranslationFault>
     // A text that ends within a line is refused with that line.
     ensures cut { is_whole text.now ≡ false → result ≡ Err (Refused (count_lines text.now + 1) (Strace Cut)) }
-    // What is to be written is the text of a trace, and its lines are those that it says.
-    ensures text { IfOk result (λ t. IsTraceText t.text.items) }
+    // What is to be written is the text of a trace, of the smaller scale that it can be of, and its lines are those that it says.
+    ensures text { IfOk result (λ t. IsTraceText t.scale t.text.items) }
+    ensures scale { IfOk result (λ t. t.scale ≡ Long → ¬ IsTraceText Usual t.text.items) }
     ensures lines { IfOk result (λ t. t.lines.items ≡ trace_of t.text.items) }
     // They stand in the order of the lines of strace from which they come.
     ensures origins { IfOk result (λ t. length t.origins.items ≡ length t.lines.items) }

@@ -6,7 +6,7 @@ as a trace for passd
 
   strace -f -y -xx -s 1073741823 -o FILE COMMAND    writes what it reads
   passtrace [DIR] [..] < FILE > TRACE               writes the trace; what it can't say goes to standard error
-  passd DIR run --replay < TRACE                    runs it over the store in DIR
+  passd DIR run --replay [--long] < TRACE           runs it over the store in DIR; with --long where `long` is told
 
 DIR is the folder of the store in which the trace will be run: its files are opened, and not made. Names below FOLDER,
 an absolute path without links, become relative to it. A process that waits for another takes nothing from it; by

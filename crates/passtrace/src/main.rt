@@ -23,6 +23,7 @@ use pass_help::{Request, VERSION, asked};
 use pass_host::{HostDisk, HostFault, HostSink, HostSource};
 use pass_log::{LogFault, LogImage, read_image};
 use pass_strace::{Fact, Request as Wanted, Stored, Told};
+use pass_trace::Scale;
 use std::alloc::{AllocError, Global};
 use std::process::ExitCode;
 use std::{env, io};
@@ -84,6 +85,9 @@ fn pass(rt: &HostRuntime, words: &Words) -> u8 {
     let mut sink = HostSink::new(io::writer(rt));
     match pass_on(rt.alloc(), &mut source, &mut sink, request, programs) {
         Ok(translated) => {
+            if translated.scale == Scale::Long {
+                let _told = eprintln!(rt; "long");
+            }
             if request.facts.len() < facts.len() {
                 let _told = eprintln!(rt; "untold facts run line 0 times 1");
             }

@@ -1,6 +1,7 @@
 //! Passes the trace of what a source has left on to a sink.
 ghost use Rattle.std.specs.Prelude.{◌≡◌, ◌≢◌, ◌+◌, ◌⊎◌, ◌++◌, Err, IsTrue, IsErrOf, IfOk, OnOk, OnErr, false, length};
 ghost use Rattle.pass_outside.specs.Faults.{HasRisen};
+ghost use Rattle.pass_trace.specs.declared.limits.Scale.TheVariants.{Usual, Long};
 ghost use Rattle.pass_trace.specs.Traces.{IsTraceText, trace_of};
 ghost use Rattle.pass_syscall.specs.declared.fault.StraceReason.TheVariants.{Cut};
 ghost use Rattle.pass_strace.specs.declared.fault.Refusal.TheVariants.{Strace};
@@ -103,7 +104,8 @@ fn translated<'a>(
     request: Request<'a>,
     loaders: &'a Loaders,
 ) -> Result<Translated, Fault>
-    ensures text { IfOk result (λ t. IsTraceText t.text.items) }
+    ensures text { IfOk result (λ t. IsTraceText t.scale t.text.items) }
+    ensures scale { IfOk result (λ t. t.scale ≡ Long → ¬ IsTraceText Usual t.text.items) }
     ensures lines { IfOk result (λ t. t.lines.items ≡ trace_of t.text.items) }
     ensures origins { IfOk result (λ t. length t.origins.items ≡ length t.lines.items) }
     ensures order { IfOk result (λ t. IsInOrder t.origins.items (count_lines text.now)) }
@@ -130,7 +132,8 @@ pub(crate) fn pass_on<S: Source, K: Sink, P: Programs>(
     programs: Option<&P>,
 ) -> Result<Translated, Fault>
     // What is written is the text of a trace, whose lines stand in the order of those from which they come, one for each.
-    ensures text { IfOk result (λ t. IsTraceText t.text.items) }
+    ensures text { IfOk result (λ t. IsTraceText t.scale t.text.items) }
+    ensures scale { IfOk result (λ t. t.scale ≡ Long → ¬ IsTraceText Usual t.text.items) }
     ensures lines { IfOk result (λ t. t.lines.items ≡ trace_of t.text.items) }
     ensures origins { IfOk result (λ t. length t.origins.items ≡ length t.lines.items) }
     ensures order { IfOk result (λ t. IsTrue S.tells → IsInOrder t.origins.items (count_lines (S.left source.old))) }

@@ -1,7 +1,7 @@
 -- Lists in another order.
-use Rattle.std.proofs.Common.{◌≡◌, All, length, arith, List, [], ◌∷◌, ◌++◌, Bool, true, false, filter, cond, ap, ◌∙◌, sym, subst, append-nil, append_assoc, refl, IsPermutation}
-use Rattle.std.proofs.lemmas.List.Sorted.{IsPermutation-refl, IsPermutation-sym, IsPermutation-trans, IsPermutation-cons, IsPermutation-middle, IsPermutation-to_front, IsPermutation-append_left, IsPermutation-append_right, IsPermutation-append_comm}
-use Rattle.std.proofs.lemmas.List.Elements.{filter-append, All-nil, All-cons, All-head, All-tail}
+use Rattle.std.proofs.Common.{◌≡◌, length, arith, List, [], ◌∷◌, ◌++◌, Bool, true, false, filter, cond, ap, ◌∙◌, sym, subst, append-nil, append_assoc, refl, IsPermutation}
+use Rattle.std.proofs.lemmas.List.Sorted.{IsPermutation-refl, IsPermutation-sym, IsPermutation-trans, IsPermutation-cons, IsPermutation-middle, IsPermutation-to_front, IsPermutation-append_left, IsPermutation-append_right}
+use Rattle.std.proofs.lemmas.List.Elements.{filter-append}
 
 module _ {X : Type 0} where
   -- the last of what is left goes to those that it joins

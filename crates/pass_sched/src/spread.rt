@@ -1,5 +1,6 @@
 //! A pass of several workers.
 ghost use Rattle.std.specs.Prelude.{◌≡◌, ◌≢◌, ◌+◌, ◌≤◌, ◌<◌, [], ◌∷◌, ◌++◌, List, false, sum_by, All, IfOk, IsTrue, IsPermutation, vec_len, vec_capacity};
+ghost use Rattle.std.specs.Thread.{IsSync, IsSend};
 ghost use Rattle.std.specs.List.Sorted.{IsNonDecreasingBy};
 ghost use Rattle.pass_sched.specs.Jobs.{IsFit, IsDone, tasks_in, were, size_of};
 ghost use Rattle.pass_sched.specs.Passes.{Run, IsUnderway, IsPass, end_of, room_of};
@@ -11,7 +12,7 @@ use crate::room::room_for;
 use crate::task::Task;
 use std::alloc::{AllocError, Global};
 use std::snapshot::Snapshot;
-use std::thread::{Threads, for_each_mut};
+use std::thread::{Threads, for_each_mut, join_mut};
 
 // What a pass of several workers works with: the living tasks, and those that are through.
 struct Hall<T: Task> {
@@ -88,9 +89,8 @@ fn give_back<T: Task>(mut jobs: Vec<Job<T>>, into: &mut Vec<T>)
     }
 }
 
-// Each job's task takes its turns, on so many threads at most.
-fn play_jobs<T: Task + Send, R: Threads + Sync>(rt: &R, jobs: &mut [Job<T>], workers: usize)
-    requires workers { 0 < workers }
+// Each job's task takes its turns, one job after the other.
+fn play_share<T: Task + Send, R: Threads + Sync>(rt: &R, jobs: &mut [Job<T>])
     requires fit { All (IsFit T.Task) jobs.old }
     ensures done { All (IsDone T.Task) jobs.new }
     ensures were { were jobs.new ≡ tasks_in jobs.old }
@@ -100,7 +100,55 @@ fn play_jobs<T: Task + Send, R: Threads + Sync>(rt: &R, jobs: &mut [Job<T>], wor
         ensures was { job.new.was ≡ job.old.was }
         ensures done { IsDone T.Task job.new }
     { play_job(job) };
-    for_each_mut(rt, jobs, workers, &play);
+    for_each_mut(rt, jobs, 1, &play);
+}
+
+// Each job's task takes its turns, on so many threads at most. Each thread has as many jobs as any other, or one more.
+#[cycle(shares)]
+fn play_jobs<T: Task + Send, R: Threads + Sync>(rt: &R, jobs: &mut [Job<T>], workers: usize)
+    requires workers { 0 < workers }
+    requires fit { All (IsFit T.Task) jobs.old }
+    ensures done { All (IsDone T.Task) jobs.new }
+    ensures were { were jobs.new ≡ tasks_in jobs.old }
+{
+    if workers == 1 {
+        play_share(rt, jobs);
+        return;
+    }
+    let count = jobs.len() / workers;
+    if count == 0 {
+        play_jobs(rt, jobs, workers - 1);
+        return;
+    }
+    let (share, others) = jobs.split_at_mut(count);
+    play_both(rt, share, others, workers - 1);
+}
+
+// One share of the jobs, and the others on so many more threads.
+#[cycle(shares)]
+fn play_both<T: Task + Send, R: Threads + Sync>(
+    rt: &R,
+    share: &mut [Job<T>],
+    others: &mut [Job<T>],
+    workers: usize,
+)
+    requires workers { 0 < workers }
+    requires share { All (IsFit T.Task) share.old }
+    requires others { All (IsFit T.Task) others.old }
+    ensures share_done { All (IsDone T.Task) share.new }
+    ensures share_were { were share.new ≡ tasks_in share.old }
+    ensures others_done { All (IsDone T.Task) others.new }
+    ensures others_were { were others.new ≡ tasks_in others.old }
+{
+    let mut here = ||
+        requires { IsSync R.row × IsSend T.row × All (IsFit T.Task) share.now }
+        ensures { All (IsDone T.Task) share.exit.now × (were share.exit.now ≡ tasks_in share.entry.now) }
+    { play_share(rt, share) };
+    let mut there = ||
+        requires { IsSync R.row × IsSend T.row × (0 < workers) × All (IsFit T.Task) others.now }
+        ensures { All (IsDone T.Task) others.exit.now × (were others.exit.now ≡ tasks_in others.entry.now) }
+    { play_jobs(rt, others, workers) };
+    join_mut(rt, &mut here, &mut there);
 }
 
 // Notes what a task has done: it and its children are through.

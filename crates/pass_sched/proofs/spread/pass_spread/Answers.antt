@@ -1,6 +1,6 @@
-use Rattle.std.proofs.Common.{◌≡◌, ℕ, ◌+◌, ◌≤◌, ◌++◌, List, Bool, false, length, take, drop, sum_by, ap, ◌∙◌, sym, subst, arith, IsPermutation, vec_len}
-use Rattle.std.proofs.lemmas.List.{length-map, length-append}
-use Rattle.std.proofs.lemmas.List.Sorted.{IsPermutation-trans, length_permutation}
+use Rattle.std.proofs.Common.{◌≡◌, ℕ, ◌+◌, ◌++◌, List, Bool, false, length, take, drop, sum_by, ap, ◌∙◌, sym, subst, arith}
+use Rattle.std.proofs.lemmas.List.{length-map}
+use Rattle.std.proofs.lemmas.List.Sorted.{IsPermutation-trans}
 use Rattle.std.proofs.Math.Seq.{take-append_seam}
 use Rattle.pass_sched.specs.declared.job.Job.{Job}
 use Rattle.pass_sched.specs.Jobs.{tasks_in, were, size_of}

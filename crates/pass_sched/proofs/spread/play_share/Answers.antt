@@ -2,7 +2,7 @@ use Rattle.std.proofs.Common.{◌≡◌, ℕ, ◌<◌, length, ap, ◌∙◌, sy
 use Rattle.std.proofs.lemmas.List.Elements.{All-nil, All-get_or, All-from_get_or}
 use Rattle.pass_sched.specs.declared.job.Job.{Job}
 use Rattle.pass_sched.specs.Jobs.{IsFit, IsDone, tasks_in, were}
-use Rattle.pass_sched.proofs.spread.play_jobs.Goals as goal
+use Rattle.pass_sched.proofs.spread.play_share.Goals as goal
 
 -- what holds at each place holds of all
 all_from : {X : Type 0} (P : X → Type 0) (xs : List X) → ((i : ℕ) (d : X) → i < length xs → P (get_or xs i d)) → All P xs

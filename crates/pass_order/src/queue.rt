@@ -6,7 +6,7 @@ ghost use Rattle.pass_walk.specs.declared.walker.Living.{Living as AnyLiving};
 ghost use Rattle.pass_walk.specs.declared.walker.Walker.{Walker as AnyWalker};
 ghost use Rattle.pass_walk.specs.declared.walker.Walker.TheVariants as kinds;
 ghost use Rattle.pass_walk.specs.Runs.{trail_of};
-ghost use Rattle.pass_walk.specs.Walkers.{IsLivingOf, member_of};
+ghost use Rattle.pass_walk.specs.Walkers.{HasWent, IsLivingOf, IsWalkerOf, WalkerWent, member_of};
 ghost use Rattle.pass_walk.specs.Meetings.{KnowsIfEnded};
 ghost use Rattle.pass_order.specs.declared.standing.Standing.{Standing as AnyStanding};
 ghost use Rattle.pass_order.specs.Queues.{HasBegunAgain, HasJoined, IsAdded, IsAfterTry, AreAllStill, IsGoingOrGone, IsKidAdded, IsSet, IsSettled, IsStillWith, IsTaken, IsThere, kid_walkers, list_of, next_rank, next_standings, place_of, rank_order, room_in, tried_of, waits_if};
@@ -16,7 +16,7 @@ use pass_hold::Whose;
 use pass_proc::Trail;
 use pass_progress::Calls;
 use pass_sched::Turn;
-use pass_walk::{Cause, Ground, Living, Walker, Went};
+use pass_walk::{Cause, Ground, Living, Walker, Went, step};
 use std::alloc::{AllocError, Global};
 use std::collections::BinaryHeap;
 use std::mem;
@@ -105,7 +105,7 @@ impl<J: Whose> Queue<J> {
         self.last = standing.place;
         let seen = living.proc.seen();
         let line = living.line;
-        let went = living.turn(ground);
+        let went = turned(living, ground);
         match self.settle(standing, line, seen, went) {
             Tried::Made => {
                 self.begin_again();
@@ -249,6 +249,34 @@ fn come_on<'a, J: Whose, S: Calls<J>>(
         Walker::Living(other) => living.join_living(other, ground),
         Walker::Ended(ended) => living.join(ended, ground),
         _ => {}
+    }
+}
+
+/// Takes the turn of a process, where it lies if that is the call of a line.
+fn turned<'a, J: Whose, S: Calls<J>>(living: Living<J>, ground: &Ground<'a, S>) -> Went<J>
+    requires { IsLivingOf J.book.session (plain_trace ground.now.plan.now) living }
+    ensures { HasWent J.book.session J.places (plain_trace ground.now.plan.now) living result }
+{
+    let mut walker = Walker::Living(living);
+    match step(&mut walker, ground) {
+        Some(answer) => Went {
+            walker,
+            answer,
+            kid: None,
+        },
+        None => turned_out(walker, ground),
+    }
+}
+
+/// The turn of a process that is no call of a line.
+fn turned_out<'a, J: Whose, S: Calls<J>>(walker: Walker<J>, ground: &Ground<'a, S>) -> Went<J>
+    requires walker { IsWalkerOf J.book.session J.places (plain_trace ground.now.plan.now) walker }
+    requires living { (l : AnyLiving _) × (walker ≡ kinds.Living l) }
+    ensures { WalkerWent J.book.session J.places (plain_trace ground.now.plan.now) walker result }
+{
+    match walker {
+        Walker::Living(living) => living.turn(ground),
+        _ => unreachable!(),
     }
 }
 

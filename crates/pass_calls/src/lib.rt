@@ -1,12 +1,12 @@
 //! The calls that a store makes for a process, over the objects that it holds: each sees to its places and takes its memory, then
 //! makes its entries.
 //!
-//! The clause `call` of each is the relation `Answers` of `pass_answer`. What a write or a cut needs that depends on file and
-//! process alone is made first, without the book: memory, and the records of the content (`ready_write`, `ready_cut`: `room`,
-//! `list`), and but for that room the file stays as it was (`same`). `creat`, `make_object` and `make_pipe` also say that the new
-//! object has the session's next number, which no object had (`made`). `close`, `close_pipe`, `seek`, `freeze`, `write_file` and
-//! `truncate` never answer for want of memory (`memory`). A held object stays the object that it was (`what`). A read of a pipe tells
-//! of too few places only where it wouldn't wait (`ready`).
+//! The clause `call` of each is the relation `Answers` of `pass_answer`. What a read, a write or a cut needs that depends on file
+//! and process alone is made first, without the book: memory, bytes, and the records of the content (`ready_read`, `ready_write`,
+//! `ready_cut`: `bytes`, `copy`, `room`, `list`). Only want of memory hinders it, and but for that room the file stays as it was
+//! (`same`). `creat`, `make_object` and `make_pipe` also say that the new object has the session's next number, which no object had
+//! (`made`). `close`, `close_pipe`, `seek`, `freeze`, `write_file` and `truncate` never answer for want of memory (`memory`). A held
+//! object stays the object that it was (`what`). A read of a pipe tells of too few places only where it wouldn't wait (`ready`).
 #![tactic(auto)]
 
 mod beginning;
@@ -28,7 +28,7 @@ mod truncating;
 
 pub use closing::{close, close_pipe};
 pub use disclosing::{disclose, disclose_itself};
-pub use file_reading::read_file;
+pub use file_reading::{ReadyRead, read_file, ready_read};
 pub use file_writing::{ReadyWrite, ready_write, write_file};
 pub use freezing::freeze;
 pub use opening::{creat, make_object, make_pipe, open_name, revive};

@@ -62,8 +62,8 @@ pub fn seek<R: Wait, J: Whose, G: Gate>(
     pass_calls::seek(alloc, &mut shelf, proc, fd, at)
 }
 
-/// Reads at most so many bytes, which are then the process's last read ones. A pipe for which it has to wait is told before too few
-/// places are.
+/// Reads at most so many bytes, which are then the process's last read ones. Those of a file are copied before the book is held,
+/// and once the read is allowed. A pipe for which it has to wait is told before too few places are.
 pub fn pass_read<R: Wait, J: Whose, G: Gate>(
     locks: &Locks<'_, J, G>,
     rt: &R,
@@ -87,10 +87,16 @@ pub fn pass_read<R: Wait, J: Whose, G: Gate>(
     };
     let mut slot = locks.object(rt, alloc, &d);
     locks.gate.inside(d.pnode);
-    let mut shelf = locks.book.lock(rt);
     match &mut *slot {
-        Slot::File(file) => pass_calls::read_file(alloc, file, &mut shelf, proc, fd, len),
-        Slot::Pipe(pipe) => pass_calls::read_pipe(alloc, pipe, &mut shelf, proc, fd, len),
+        Slot::File(file) => {
+            let ready = pass_calls::ready_read(alloc, file, proc, fd, len)?;
+            let mut shelf = locks.book.lock(rt);
+            pass_calls::read_file(alloc, file, &mut shelf, proc, fd, len, ready)
+        }
+        Slot::Pipe(pipe) => {
+            let mut shelf = locks.book.lock(rt);
+            pass_calls::read_pipe(alloc, pipe, &mut shelf, proc, fd, len)
+        }
         _ => unreachable!(),
     }
 }

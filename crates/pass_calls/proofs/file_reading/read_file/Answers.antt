@@ -24,10 +24,10 @@ pub give-out-requires : goal.give-out-requires
 give-out-requires g c =
     let S = g.J.Whose.book.session in let a = c.args in let q = c.requires in let n = c.in_ok-number.number in let i = c.proc.inside in let p = c.reserve.new.self in
     let o = ready (opened S i.process i.number i.caller i.way c.proc.invariant.0 a.proc.now (c.proc.view_is ∙ c.in_ok-number.ensures.same) n c.in_ok-number.ensures.number) p c.in_ok-reserve.ensures.same in
-    let x = a.file.now in let d = c.held-d.result in let free = asks o (ask.ToRead a.fd) ∙ q.free in let at = holds o a.fd ∙ c.held-d.ensures in let its = q.object d c.held-d.ensures in
-    let bytes = c.in_ok-bytes.bytes in
+    let x = a.file.now in let d = a.ready.d in let free = asks o (ask.ToRead a.fd) ∙ q.free in let at = holds o a.fd ∙ q.descriptor in let its = q.object d q.descriptor in
+    let bytes = a.ready.bytes in
     record {
-      bytes = c.in_ok-bytes.ensures;
+      bytes = q.bytes;
       place = has_room o c.held.ensures.call c.begin.new.shelf c.in_ok-number.ensures.places;
       who = o.who ∙ sym c.pnode-who.ensures;
       entry = subst (λ who. MayEnter i.caller.seen (entry_on x.what who n calls.Read (act.Give d.offset a.len) (answer.Took bytes)) 2) (sym c.pnode-who.ensures) (give_may S i.caller.seen p.who n p.state a.fd a.len o.idle o.some free q.fd q.len.0 q.len.1 d at its.0 x.what its.1 bytes);
@@ -37,18 +37,18 @@ pub gain-requires-clause-bytes : goal.gain-requires-clause-bytes
 gain-requires-clause-bytes g c =
     let S = g.J.Whose.book.session in let a = c.args in let q = c.requires in let n = c.in_ok-number.number in let i = c.proc.inside in let p = c.reserve.new.self in
     let o = ready (opened S i.process i.number i.caller i.way c.proc.invariant.0 a.proc.now (c.proc.view_is ∙ c.in_ok-number.ensures.same) n c.in_ok-number.ensures.number) p c.in_ok-reserve.ensures.same in
-    let x = a.file.now in let d = c.held-d.result in let free = asks o (ask.ToRead a.fd) ∙ q.free in let at = holds o a.fd ∙ c.held-d.ensures in let its = q.object d c.held-d.ensures in
-    let bytes = c.in_ok-bytes.bytes in let s = c.give-out in let after = s.new.caller.seen in
+    let x = a.file.now in let d = a.ready.d in let free = asks o (ask.ToRead a.fd) ∙ q.free in let at = holds o a.fd ∙ q.descriptor in let its = q.object d q.descriptor in
+    let bytes = a.ready.bytes in let s = c.give-out in let after = s.new.caller.seen in
     let gives = subst (λ who. IsEntered S i.caller.seen x.seen after (entry_on x.what who n calls.Read (act.Give d.offset a.len) (answer.Took bytes))) c.pnode-who.ensures s.ensures.entry.entered in
     given S i.caller.seen p.who n p.state a.fd a.len o.idle o.some free q.fd q.len.0 q.len.1 d at its.0 x.what its.1 bytes
-    x.seen after s.result.0 s.ensures.at.place gives ∙ sym c.in_ok-copy.ensures.cases
+    x.seen after s.result.0 s.ensures.at.place gives ∙ sym q.copy
 
 pub gain-requires-clause-entry : goal.gain-requires-clause-entry
 gain-requires-clause-entry g c =
     let S = g.J.Whose.book.session in let a = c.args in let q = c.requires in let n = c.in_ok-number.number in let i = c.proc.inside in let p = c.reserve.new.self in
     let o = ready (opened S i.process i.number i.caller i.way c.proc.invariant.0 a.proc.now (c.proc.view_is ∙ c.in_ok-number.ensures.same) n c.in_ok-number.ensures.number) p c.in_ok-reserve.ensures.same in
-    let x = a.file.now in let d = c.held-d.result in let free = asks o (ask.ToRead a.fd) ∙ q.free in let at = holds o a.fd ∙ c.held-d.ensures in let its = q.object d c.held-d.ensures in
-    let bytes = c.in_ok-bytes.bytes in let s = c.give-out in let after = s.new.caller.seen in
+    let x = a.file.now in let d = a.ready.d in let free = asks o (ask.ToRead a.fd) ∙ q.free in let at = holds o a.fd ∙ q.descriptor in let its = q.object d q.descriptor in
+    let bytes = a.ready.bytes in let s = c.give-out in let after = s.new.caller.seen in
     let gives = subst (λ who. IsEntered S i.caller.seen x.seen after (entry_on x.what who n calls.Read (act.Give d.offset a.len) (answer.Took bytes))) c.pnode-who.ensures s.ensures.entry.entered in
     gain_may S i.caller.seen p.who n p.state a.fd a.len o.idle o.some free q.fd q.len.0 q.len.1 d at its.0 x.what its.1 bytes
     x.seen after s.result.0 s.ensures.at.place gives
@@ -57,10 +57,10 @@ pub invariant_of-proc-2 : goal.invariant_of-proc-2
 invariant_of-proc-2 g c =
     let S = g.J.Whose.book.session in let a = c.args in let q = c.requires in let n = c.in_ok-number.number in let i = c.proc.inside in let p = c.reserve.new.self in
     let o = ready (opened S i.process i.number i.caller i.way c.proc.invariant.0 a.proc.now (c.proc.view_is ∙ c.in_ok-number.ensures.same) n c.in_ok-number.ensures.number) p c.in_ok-reserve.ensures.same in
-    let x = a.file.now in let d = c.held-d.result in let free = asks o (ask.ToRead a.fd) ∙ q.free in let at = holds o a.fd ∙ c.held-d.ensures in let its = q.object d c.held-d.ensures in
-    let bytes = c.in_ok-bytes.bytes in let s = c.give-out in let after = s.new.caller.seen in let w = c.gain in let e = w.new.caller in
+    let x = a.file.now in let d = a.ready.d in let free = asks o (ask.ToRead a.fd) ∙ q.free in let at = holds o a.fd ∙ q.descriptor in let its = q.object d q.descriptor in
+    let bytes = a.ready.bytes in let s = c.give-out in let after = s.new.caller.seen in let w = c.gain in let e = w.new.caller in
     let gives = subst (λ who. IsEntered S i.caller.seen x.seen after (entry_on x.what who n calls.Read (act.Give d.offset a.len) (answer.Took bytes))) c.pnode-who.ensures s.ensures.entry.entered in
-    let state = w.ensures.state ∙ ap (λ bs. read_of p w.new.self e.seen a.fd bs) c.in_ok-copy.ensures.cases in (
+    let state = w.ensures.state ∙ ap (λ bs. read_of p w.new.self e.seen a.fd bs) q.copy in (
       rests o w.new.self e (λ k. (w.ensures.state k).who) (twice i.caller s.new.caller e 2 0 s.ensures.entry.caller w.ensures.entry.caller)
           (subst (λ (v : ProcessView). IsIdle S e.seen v.who n v.state) (sym state) (read_idle S i.caller.seen p.who n p.state a.fd a.len o.idle o.some free q.fd q.len.0 q.len.1 d at its.0 x.what its.1 bytes
           x.seen after s.result.0 s.ensures.at.place gives p.seen e.seen w.ensures.entry.entered))
@@ -72,10 +72,10 @@ pub returns-clause-call : goal.returns-clause-call
 returns-clause-call g c =
     let S = g.J.Whose.book.session in let a = c.args in let q = c.requires in let n = c.in_ok-number.number in let i = c.proc.inside in let p = c.reserve.new.self in
     let o = ready (opened S i.process i.number i.caller i.way c.proc.invariant.0 a.proc.now (c.proc.view_is ∙ c.in_ok-number.ensures.same) n c.in_ok-number.ensures.number) p c.in_ok-reserve.ensures.same in
-    let x = a.file.now in let d = c.held-d.result in let free = asks o (ask.ToRead a.fd) ∙ q.free in let at = holds o a.fd ∙ c.held-d.ensures in let its = q.object d c.held-d.ensures in
-    let bytes = c.in_ok-bytes.bytes in let s = c.give-out in let after = s.new.caller.seen in let w = c.gain in let e = w.new.caller in
+    let x = a.file.now in let d = a.ready.d in let free = asks o (ask.ToRead a.fd) ∙ q.free in let at = holds o a.fd ∙ q.descriptor in let its = q.object d q.descriptor in
+    let bytes = a.ready.bytes in let s = c.give-out in let after = s.new.caller.seen in let w = c.gain in let e = w.new.caller in
     let gives = subst (λ who. IsEntered S i.caller.seen x.seen after (entry_on x.what who n calls.Read (act.Give d.offset a.len) (answer.Took bytes))) c.pnode-who.ensures s.ensures.entry.entered in
-    let state = w.ensures.state ∙ ap (λ bs. read_of p w.new.self e.seen a.fd bs) c.in_ok-copy.ensures.cases in
+    let state = w.ensures.state ∙ ap (λ bs. read_of p w.new.self e.seen a.fd bs) q.copy in
     let m : Moved = moved.Read (length c.as_bytes.result.now) s.result.1 in
     answers o w.new.self e (λ k. (w.ensures.state k).who) g.J.Whose.places (requests.Read a.fd a.len) refl m
     (subst (λ (v : ProcessView). HasMoved S p.who i.caller.seen e.seen v.state (requests.Read a.fd a.len) m) (sym state)

@@ -27,7 +27,7 @@ use std::thread::Threads;
 /// How many changed blocks are put aside at once, to be written later.
 const ASIDE: u32 = 1024;
 
-/// From how many entries on, of those that aren't durable, a trickle is worth its frame.
+/// From how many entries on, of those that aren't durable, a trickle is worth its frame. The first one always is.
 const ENOUGH: u64 = 1024;
 
 /// A store, with what its calls wait by and take memory from.
@@ -144,7 +144,7 @@ impl<'a, 'g, R: Wait, J: Opening, D: Disk, G: Gate> Calls<J> for Served<'a, 'g, 
 
     fn trickle(&self) -> Result<(), CallEnd> {
         let durable = self.durable();
-        if self.entered().saturating_sub(durable) < ENOUGH {
+        if durable > 0 && self.entered().saturating_sub(durable) < ENOUGH {
             return Ok(());
         }
         match pass_kept::trickle(

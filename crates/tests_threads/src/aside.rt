@@ -9,7 +9,7 @@ use std::sync::atomic::{AtomicU64, Ordering};
 use std::test::*;
 use std::thread::Threads;
 
-const WORDS: [&str; 5] = ["gen", "7", "1000", "--workers", "1"];
+const WORDS: [&str; 5] = ["gen", "7", "1000", "--workers", "2"];
 
 const LINES: &[u8] = b"gen 7 1000\nanswered 1008\nwrote 253 497349\nacyclic yes\n";
 
